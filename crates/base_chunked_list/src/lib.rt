@@ -5,5 +5,5 @@
 mod chunked_list;
 mod iter;
 
-pub use base_chunked_list::{CHUNK, ChunkedList};
+pub use chunked_list::{CHUNK, ChunkedList};
 pub use iter::Iter;

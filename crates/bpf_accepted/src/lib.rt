@@ -5,4 +5,4 @@
 
 mod accepted;
 
-pub use bpf_accepted::Accepted;
+pub use accepted::Accepted;

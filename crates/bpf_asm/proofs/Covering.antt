@@ -11,13 +11,13 @@ use Rattle.bpf_asm.specs.Lexemes.{lines, lexemes, spans}
 use Rattle.bpf_asm.specs.Scanner.{line_len, word_len}
 use Rattle.bpf_asm.specs.Numbers.{is_token}
 use Rattle.bpf_asm.specs.Reading.{unless_faulty}
-use Rattle.bpf_asm.specs.Tokens.{tokens_in, tokens_of, is_gap, Covers}
+use Rattle.bpf_asm.specs.Tokens.{tokens_in, tokens_of, is_gap, TokensCover}
 use Rattle.bpf_asm.proofs.Scanning.{tested, first_line_is, first_word_is, first_word_span, no_lexeme, Cut, alone}
 use Rattle.bpf_asm.proofs.Words.{both}
 use Rattle.bpf_asm.proofs.Printed.{is_clean}
 
 -- one byte more in the first gap
-gap_step : (before after : Bool) (place b : ℕ) (bytes : List ℕ) (tokens : List Token) (words : List (List ℕ)) → ((more : List ℕ) → is_gap before (b ∷ more) ≡ is_gap after more) → Covers after (suc place) bytes tokens words → Covers before place (b ∷ bytes) tokens words
+gap_step : (before after : Bool) (place b : ℕ) (bytes : List ℕ) (tokens : List Token) (words : List (List ℕ)) → ((more : List ℕ) → is_gap before (b ∷ more) ≡ is_gap after more) → TokensCover after (suc place) bytes tokens words → TokensCover before place (b ∷ bytes) tokens words
 gap_step before after place b bytes [] [] e h = e bytes ∙ h
 gap_step before after place b bytes [] (word ∷ words) e h = h
 gap_step before after place b bytes (token ∷ tokens) [] e h = h
@@ -50,12 +50,12 @@ is_feed_gap false b more feed = rw (feed_is_no_hash b feed, feed, or_true (is_bl
 
 -- what stands behind a line is covered, whether the line ends in a comment or not
 abbrev Behind : ℕ → List ℕ → List Token → List (List ℕ) → Type 0
-Behind place bytes tokens words = (comment : Bool) → Covers comment place bytes tokens words
+Behind place bytes tokens words = (comment : Bool) → TokensCover comment place bytes tokens words
 
 moved : (a b : ℕ) (bytes : List ℕ) (tokens : List Token) (words : List (List ℕ)) → a ≡ b → Behind a bytes tokens words → Behind b bytes tokens words
 moved a b bytes tokens words e h = subst (λ (place : ℕ). Behind place bytes tokens words) e h
 
-rest_of_comment : (place : ℕ) (line behind : List ℕ) (tokens : List Token) (words : List (List ℕ)) → list_all is_clean line ≡ true → Behind (place + length line) behind tokens words → Covers true place (line ++ behind) tokens words
+rest_of_comment : (place : ℕ) (line behind : List ℕ) (tokens : List Token) (words : List (List ℕ)) → list_all is_clean line ≡ true → Behind (place + length line) behind tokens words → TokensCover true place (line ++ behind) tokens words
 rest_of_comment place [] behind tokens words clean h = moved (place + 0) place behind tokens words (add-zero place) h true
 rest_of_comment place (b ∷ line) behind tokens words clean h =
     let parts = both (is_clean b) (list_all is_clean line) clean in
@@ -66,7 +66,7 @@ abbrev span : ℕ → ℕ → Token
 span start end = record { start = start; end = end }
 
 -- a line's first lexeme at its place, and what is behind it
-word_covers : (place len : ℕ) (line behind : List ℕ) (tokens : List Token) (words : List (List ℕ)) → len ≤ length line → Covers false (place + len) (drop len line ++ behind) tokens words → Covers false place (line ++ behind) (span place (place + len) ∷ tokens) (take len line ∷ words)
+word_covers : (place len : ℕ) (line behind : List ℕ) (tokens : List Token) (words : List (List ℕ)) → len ≤ length line → TokensCover false (place + len) (drop len line ++ behind) tokens words → TokensCover false place (line ++ behind) (span place (place + len) ∷ tokens) (take len line ∷ words)
 unfolding is_gap
 word_covers place len line behind tokens words within h =
     let whole : line ++ behind ≡ take len line ++ (drop len line ++ behind) = sym (ap (λ (text : List ℕ). text ++ behind) (take-append-drop len line)) ∙ append_assoc (take len line) (drop len line) behind in
@@ -93,7 +93,7 @@ skips_blank : (place b : ℕ) (line : List ℕ) → is_hash b ≡ false → is_b
 unfolding lexemes spans
 skips_blank place b line hash blank = (rw (hash, blank) refl, rw (hash, blank) refl)
 
-line_covers : (fuel place : ℕ) (line behind : List ℕ) (tokens : List Token) (words : List (List ℕ)) → length line ≤ fuel → list_all is_clean line ≡ true → Behind (place + length line) behind tokens words → Covers false place (line ++ behind) (spans place line ++ tokens) (lexemes line ++ words)
+line_covers : (fuel place : ℕ) (line behind : List ℕ) (tokens : List Token) (words : List (List ℕ)) → length line ≤ fuel → list_all is_clean line ≡ true → Behind (place + length line) behind tokens words → TokensCover false place (line ++ behind) (spans place line ++ tokens) (lexemes line ++ words)
 unfolding lexemes spans
 line_covers fuel place [] behind tokens words short clean h = moved (place + 0) place behind tokens words (add-zero place) h false
 line_covers zero place (b ∷ line) behind tokens words short clean h = absurd (omega (arith, short))
@@ -146,7 +146,7 @@ first_line_ends (b ∷ text) =
     ]
 
 abbrev lines_cover : ℕ → List ℕ → Type 0
-lines_cover place text = Covers false place text (spans_in place (lines text)) (flat_map lexemes (lines text))
+lines_cover place text = TokensCover false place text (spans_in place (lines text)) (flat_map lexemes (lines text))
 
 behind_line : (place : ℕ) (rest : List ℕ) → Ends rest → lines_cover (suc place) (drop 1 rest) → Behind place rest (spans_in (suc place) (lines (drop 1 rest))) (flat_map lexemes (lines (drop 1 rest)))
 unfolding lines is_gap
@@ -158,7 +158,7 @@ nothing_covered : (place : ℕ) → lines_cover place []
 unfolding lines is_gap
 nothing_covered place = refl
 
-first_covers : (place : ℕ) (line rest : List ℕ) → list_all is_clean line ≡ true → Ends rest → lines_cover (suc (place + length line)) (drop 1 rest) → Covers false place (line ++ rest) (spans place line ++ spans_in (place + suc (length line)) (lines (drop 1 rest))) (lexemes line ++ flat_map lexemes (lines (drop 1 rest)))
+first_covers : (place : ℕ) (line rest : List ℕ) → list_all is_clean line ≡ true → Ends rest → lines_cover (suc (place + length line)) (drop 1 rest) → TokensCover false place (line ++ rest) (spans place line ++ spans_in (place + suc (length line)) (lines (drop 1 rest))) (lexemes line ++ flat_map lexemes (lines (drop 1 rest)))
 first_covers place line rest clean ends h =
     let next : place + suc (length line) ≡ suc (place + length line) = omega arith in
     rw next (line_covers (length line) place line rest (spans_in (suc (place + length line)) (lines (drop 1 rest))) (flat_map lexemes (lines (drop 1 rest))) (omega arith) clean (behind_line (place + length line) rest ends h))
@@ -171,7 +171,7 @@ text_covers (suc fuel) place (b ∷ text) short =
     let rest = drop (line_len (b ∷ text)) (b ∷ text) in
     let left : length (drop 1 rest) ≤ fuel = omega (arith, length-drop 1 rest, length-drop (line_len (b ∷ text)) (b ∷ text), short) in
     let first = first_covers place line rest (front_is_clean (b ∷ text)) (first_line_ends (b ∷ text)) (text_covers fuel (suc (place + length line)) (drop 1 rest) left) in
-    rw (first_line_is b text) (subst (λ (bytes : List ℕ). Covers false place bytes (spans place line ++ spans_in (place + suc (length line)) (lines (drop 1 rest))) (lexemes line ++ flat_map lexemes (lines (drop 1 rest)))) (take-append-drop (line_len (b ∷ text)) (b ∷ text)) first)
+    rw (first_line_is b text) (subst (λ (bytes : List ℕ). TokensCover false place bytes (spans place line ++ spans_in (place + suc (length line)) (lines (drop 1 rest))) (lexemes line ++ flat_map lexemes (lines (drop 1 rest)))) (take-append-drop (line_len (b ∷ text)) (b ∷ text)) first)
 
 -- ---- the tokens of a text
 
@@ -191,7 +191,7 @@ tokens_are line place (text ∷ texts) tokens e =
       | inr none ↦ let wrong = rw none at e in absurd cc
     ]
 
-pub tokens_cover : (text : List ℕ) (tokens : List Token) → tokens_of text ≡ Ok tokens → Covers false 0 text tokens (flat_map lexemes (lines text)) × (list_all is_token (flat_map lexemes (lines text)) ≡ true)
+pub tokens_cover : (text : List ℕ) (tokens : List Token) → tokens_of text ≡ Ok tokens → TokensCover false 0 text tokens (flat_map lexemes (lines text)) × (list_all is_token (flat_map lexemes (lines text)) ≡ true)
 unfolding tokens_of
 tokens_cover text tokens e =
     let are = tokens_are 1 0 (lines text) tokens e in

@@ -8,9 +8,9 @@ use Rattle.bpf_asm.specs.declared.fault.LineFault.{LineFault}
 use Rattle.bpf_asm.specs.declared.fault.AsmFault.{AsmFault}
 
 -- what a call read, seen by view, is what reading gives
-abbrev pub Reads : {X Y : Type 0} → (X → Y) → Option X → Option Y → Type 0
-Reads view None read = read ≡ None
-Reads view (Some x) read = read ≡ Some (view x)
+abbrev pub ReadsAs : {X Y : Type 0} → (X → Y) → Option X → Option Y → Type 0
+ReadsAs view None read = read ≡ None
+ReadsAs view (Some x) read = read ≡ Some (view x)
 
 -- an instruction that is made does not write R10
 abbrev pub SparesMade : Result Insn LineFault → Type 0
@@ -37,6 +37,6 @@ abbrev pub IfFault : (AsmFault → Type 0) → OrMemory AsmFault → Type 0
 IfFault P OutOfMemory = Unit {0}
 IfFault P (Fault fault) = P fault
 
-abbrev pub Gives : {X Y : Type 0} → (X → Y) → Result X (OrMemory AsmFault) → Result Y AsmFault → Type 0
-Gives view (Ok x) given = given ≡ Ok (view x)
-Gives view (Err error) given = Fails error given
+abbrev pub HasResult : {X Y : Type 0} → (X → Y) → Result X (OrMemory AsmFault) → Result Y AsmFault → Type 0
+HasResult view (Ok x) given = given ≡ Ok (view x)
+HasResult view (Err error) given = Fails error given

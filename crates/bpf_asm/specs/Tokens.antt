@@ -28,10 +28,10 @@ is_gap true (byte ∷ bytes) = is_gap (not (is_line_feed byte)) bytes
 is_gap false (byte ∷ bytes) = if is_hash byte then is_gap true bytes else (is_blank byte || is_line_feed byte) && is_gap false bytes
 
 -- Bytes from a place on are a gap, the first of these words at its token's place, a gap, the next one, and so on, and a gap at the end.
-abbrev pub Covers : Bool → ℕ → List ℕ → List Token → List (List ℕ) → Type 0
-Covers comment place bytes [] [] = is_gap comment bytes ≡ true
-Covers comment place bytes [] (word ∷ words) = ⊥
-Covers comment place bytes (token ∷ tokens) [] = ⊥
-Covers comment place bytes (token ∷ tokens) (word ∷ words) =
+abbrev pub TokensCover : Bool → ℕ → List ℕ → List Token → List (List ℕ) → Type 0
+TokensCover comment place bytes [] [] = is_gap comment bytes ≡ true
+TokensCover comment place bytes [] (word ∷ words) = ⊥
+TokensCover comment place bytes (token ∷ tokens) [] = ⊥
+TokensCover comment place bytes (token ∷ tokens) (word ∷ words) =
     (gap rest : List ℕ) × (bytes ≡ gap ++ (word ++ rest)) × (is_gap comment gap ≡ true)
-    × (token.start ≡ place + length gap) × (token.end ≡ token.start + length word) × Covers false token.end rest tokens words
+    × (token.start ≡ place + length gap) × (token.end ≡ token.start + length word) × TokensCover false token.end rest tokens words

@@ -7,7 +7,7 @@ ghost use Rattle.base.specs.declared.or_memory.OrMemory.TheVariants.{OutOfMemory
 ghost use Rattle.bpf_asm.specs.Lexemes.{lines};
 ghost use Rattle.bpf_asm.specs.Labels.{label_at};
 ghost use Rattle.bpf_asm.specs.Assembly.{said_in, said, Says, HasFault};
-ghost use Rattle.bpf_asm.specs.Given.{Gives, IfFault};
+ghost use Rattle.bpf_asm.specs.Given.{HasResult, IfFault};
 
 use crate::fault::AsmFault;
 use crate::labels::{Labels, labels_of};
@@ -32,7 +32,7 @@ fn push(builder: &mut ProgramBuilder, insn: Option<Insn>) -> Result<(), AllocErr
 
 // The instructions of a text whose labels these are.
 fn insns_of(alloc: Global, labels: &Labels, text: &[u8]) -> Result<ProgramBuilder, AsmError>
-    ensures said { Gives (λ builder. builder) result (said_in (label_at labels.now) 1 0 (lines text.now)) }
+    ensures said { HasResult (λ builder. builder) result (said_in (label_at labels.now) 1 0 (lines text.now)) }
     ensures spares { IfOk result SparesFramePointer }
 {
     let mut builder = ProgramBuilder::with_capacity(alloc, 0)?;
@@ -53,7 +53,7 @@ fn insns_of(alloc: Global, labels: &Labels, text: &[u8]) -> Result<ProgramBuilde
 // The instructions of a text.
 #[tactic(auto, unfolding(crate::specs::Assembly::said))]
 fn builder_of(alloc: Global, text: &[u8]) -> Result<ProgramBuilder, AsmError>
-    ensures said { Gives (λ builder. builder) result (said text.now) }
+    ensures said { HasResult (λ builder. builder) result (said text.now) }
     ensures spares { IfOk result SparesFramePointer }
 {
     let labels = labels_of(alloc, text)?;

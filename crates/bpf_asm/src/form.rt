@@ -1,11 +1,11 @@
-// Reads what stands behind each mnemonic, and makes the instruction. None is a line of another form; an error is the fault of a number or
+// ReadsAs what stands behind each mnemonic, and makes the instruction. None is a line of another form; an error is the fault of a number or
 // a label in a line of this form.
 
 ghost use Rattle.std.specs.Prelude.{◌≡◌, Ok};
 ghost use Rattle.bpf_insn.specs.declared.insn.Insn.TheVariants.{JumpIf, Store};
 ghost use Rattle.bpf_insn.specs.declared.insn.Operand.TheVariants.{Immediate};
 ghost use Rattle.bpf_asm.specs.Reading.{unless_faulty, offset};
-ghost use Rattle.bpf_asm.specs.Given.{Reads, Spares, SparesMade};
+ghost use Rattle.bpf_asm.specs.Given.{ReadsAs, Spares, SparesMade};
 ghost use Rattle.bpf_asm.specs.Lexemes.{lexemes};
 ghost use Rattle.bpf_asm.specs.Forms.{alu_in, in_place_in, sign_extend_in, jump_near_in, jump_far_in, compared_in, jump_if_in, helper_in, local_in, call_in, load_in, store_immediate_in, store_register_in, load_immediate_in, insn_in};
 ghost use Rattle.bpf_asm.specs.Labels.{label_at};
@@ -115,7 +115,7 @@ fn jump_of(
 // `rD, rS` or `rD, N`, of which the register is only read.
 #[tactic(auto, unfolding(crate::specs::Forms::compared_in))]
 fn compared(line: &[u8]) -> Option<((Reg, Result<Operand, LineFault>), &[u8])>
-    ensures { Reads (λ x. (x.0, lexemes x.1.now)) result (compared_in (lexemes line.now)) }
+    ensures { ReadsAs (λ x. (x.0, lexemes x.1.now)) result (compared_in (lexemes line.now)) }
 {
     let (dst, rest) = read_register(line)?;
     let (src, rest) = read_operand(read_mark(rest, b',')?)?;

@@ -11,7 +11,7 @@ ghost use Rattle.bpf_asm.specs.declared.fault.AsmFault.{AsmFault};
 ghost use Rattle.bpf_asm.specs.declared.token.Token.{Token};
 ghost use Rattle.bpf_asm.specs.Lexemes.{lines, lexemes};
 ghost use Rattle.bpf_asm.specs.Numbers.{is_token};
-ghost use Rattle.bpf_asm.specs.Tokens.{tokens_of, Covers};
+ghost use Rattle.bpf_asm.specs.Tokens.{tokens_of, TokensCover};
 ghost use Rattle.bpf_asm.specs.Assembly.{Says, HasFault};
 ghost use Rattle.bpf_asm.specs.Canon.{canon, HasNumbers};
 
@@ -40,5 +40,5 @@ pub fn found_by_name()
 /// stand only blanks, comments and line feeds.
 pub fn tokens_cover_the_text()
     ensures { (text : List ℕ) (tokens : List Token) → tokens_of text ≡ Ok tokens →
-        Covers false 0 text tokens (flat_map lexemes (lines text)) × (list_all is_token (flat_map lexemes (lines text)) ≡ true) }
+        TokensCover false 0 text tokens (flat_map lexemes (lines text)) × (list_all is_token (flat_map lexemes (lines text)) ≡ true) }
 {}

@@ -2,7 +2,7 @@
 
 ghost use Rattle.std.specs.Prelude.{◌≡◌, ◌<◌, ◌≤◌, ◌+◌, ◌-◌, [], ◌∷◌, ℕ, length, IfSome, IfNone};
 ghost use Rattle.bpf_asm.specs.Reading.{first_in};
-ghost use Rattle.bpf_asm.specs.Given.{Reads};
+ghost use Rattle.bpf_asm.specs.Given.{ReadsAs};
 ghost use Rattle.bpf_asm.specs.Scanner.{line_len, blanks_len, word_len, behind_blanks, lexeme_len, IsFirstSpan};
 ghost use Rattle.bpf_asm.specs.Lexemes.{lines, lexemes, spans};
 
@@ -84,7 +84,7 @@ fn lexeme_len(bytes: &[u8]) -> usize
 
 /// The first lexeme of a line, and what stands behind it.
 pub fn first_lexeme(line: &[u8]) -> Option<(&[u8], &[u8])>
-    ensures lexeme { Reads (λ x. (x.0.now, lexemes x.1.now)) result (first_in (lexemes line.now)) }
+    ensures lexeme { ReadsAs (λ x. (x.0.now, lexemes x.1.now)) result (first_in (lexemes line.now)) }
     ensures none { IfNone result ((place : ℕ) → spans place line.now ≡ []) }
     ensures some { IfSome result (λ x. IsFirstSpan line.now x.0.now x.1.now) }
 {

@@ -1,4 +1,4 @@
-// Reads parts of an instruction from the front of a line. A reader answers what it read and what stands behind it, and None where the
+// ReadsAs parts of an instruction from the front of a line. A reader answers what it read and what stands behind it, and None where the
 // line is not of its form. A number or a label that is read may still be at fault, which is told only of a line that is of its form.
 
 ghost use Rattle.std.specs.Prelude.{◌≡◌, false, Ok, IfSome};
@@ -6,7 +6,7 @@ ghost use Rattle.bpf_insn.specs.declared.insn.Operand.TheVariants.{Immediate};
 ghost use Rattle.bpf_insn.specs.Program.{is_frame_pointer};
 ghost use Rattle.bpf_asm.specs.Lexemes.{lexemes};
 ghost use Rattle.bpf_asm.specs.Reading.{first_in, mark_in, ended, register_in, written_in, number_in, name_in, minus_in, sign_in, signed, imm, offset, word64, immediate_in, word_in, signed_in, operand_in, address_in, target_in, distance_to, unless_faulty};
-ghost use Rattle.bpf_asm.specs.Given.{Reads};
+ghost use Rattle.bpf_asm.specs.Given.{ReadsAs};
 ghost use Rattle.bpf_asm.specs.Labels.{label_at};
 
 use crate::fault::LineFault;
@@ -17,7 +17,7 @@ use bpf_insn::{Operand, Reg};
 
 /// The lexeme is read, if it is this mark.
 pub fn read_mark(line: &[u8], mark: u8) -> Option<&[u8]>
-    ensures { Reads (λ x. lexemes x.now) result (mark_in mark (lexemes line.now)) }
+    ensures { ReadsAs (λ x. lexemes x.now) result (mark_in mark (lexemes line.now)) }
 {
     let (word, rest) = first_lexeme(line)?;
     if word == [mark].as_slice() {
@@ -29,7 +29,7 @@ pub fn read_mark(line: &[u8], mark: u8) -> Option<&[u8]>
 
 /// Nothing more stands on the line.
 pub fn read_end(line: &[u8]) -> Option<()>
-    ensures { Reads (λ x. x) result (ended tt (lexemes line.now)) }
+    ensures { ReadsAs (λ x. x) result (ended tt (lexemes line.now)) }
 {
     match first_lexeme(line) {
         None => Some(()),
@@ -40,7 +40,7 @@ pub fn read_end(line: &[u8]) -> Option<()>
 /// A register.
 #[tactic(auto, unfolding(crate::specs::Reading::register_in))]
 pub fn read_register(line: &[u8]) -> Option<(Reg, &[u8])>
-    ensures { Reads (λ x. (x.0, lexemes x.1.now)) result (register_in (lexemes line.now)) }
+    ensures { ReadsAs (λ x. (x.0, lexemes x.1.now)) result (register_in (lexemes line.now)) }
 {
     let (word, rest) = first_lexeme(line)?;
     Some((register(word)?, rest))
@@ -49,7 +49,7 @@ pub fn read_register(line: &[u8]) -> Option<(Reg, &[u8])>
 /// A register that the instruction writes, which is not R10.
 #[tactic(auto, unfolding(crate::specs::Reading::written_in))]
 pub fn read_written(line: &[u8]) -> Option<(Reg, &[u8])>
-    ensures read { Reads (λ x. (x.0, lexemes x.1.now)) result (written_in (lexemes line.now)) }
+    ensures read { ReadsAs (λ x. (x.0, lexemes x.1.now)) result (written_in (lexemes line.now)) }
     ensures spares { IfSome result (λ x. is_frame_pointer x.0 ≡ false) }
 {
     let (reg, rest) = read_register(line)?;
@@ -62,7 +62,7 @@ pub fn read_written(line: &[u8]) -> Option<(Reg, &[u8])>
 /// A number without its sign.
 #[tactic(auto, unfolding(crate::specs::Reading::number_in))]
 fn read_number(line: &[u8]) -> Option<(Option<u64>, &[u8])>
-    ensures { Reads (λ x. (x.0, lexemes x.1.now)) result (number_in (lexemes line.now)) }
+    ensures { ReadsAs (λ x. (x.0, lexemes x.1.now)) result (number_in (lexemes line.now)) }
 {
     let (word, rest) = first_lexeme(line)?;
     Some((number(word)?, rest))
@@ -70,7 +70,7 @@ fn read_number(line: &[u8]) -> Option<(Option<u64>, &[u8])>
 
 /// A name.
 pub fn read_name(line: &[u8]) -> Option<(&[u8], &[u8])>
-    ensures { Reads (λ x. (x.0.now, lexemes x.1.now)) result (name_in (lexemes line.now)) }
+    ensures { ReadsAs (λ x. (x.0.now, lexemes x.1.now)) result (name_in (lexemes line.now)) }
 {
     let (word, rest) = first_lexeme(line)?;
     if is_name(word) {
@@ -94,7 +94,7 @@ fn read_minus(line: &[u8]) -> (bool, &[u8])
 /// A sign that is written: whether it is `-`.
 #[tactic(auto, unfolding(crate::specs::Reading::sign_in))]
 fn read_sign(line: &[u8]) -> Option<(bool, &[u8])>
-    ensures { Reads (λ x. (x.0, lexemes x.1.now)) result (sign_in (lexemes line.now)) }
+    ensures { ReadsAs (λ x. (x.0, lexemes x.1.now)) result (sign_in (lexemes line.now)) }
 {
     if let Some(rest) = read_mark(line, b'-') {
         return Some((true, rest));
@@ -153,7 +153,7 @@ fn word64(value: Result<i128, LineFault>) -> Result<u64, LineFault>
 /// An immediate: `-` in front where it is negative.
 #[tactic(auto, unfolding(crate::specs::Reading::immediate_in))]
 pub fn read_immediate(line: &[u8]) -> Option<(Result<i32, LineFault>, &[u8])>
-    ensures { Reads (λ x. (x.0, lexemes x.1.now)) result (immediate_in (lexemes line.now)) }
+    ensures { ReadsAs (λ x. (x.0, lexemes x.1.now)) result (immediate_in (lexemes line.now)) }
 {
     let (negative, rest) = read_minus(line);
     let (value, rest) = read_number(rest)?;
@@ -163,7 +163,7 @@ pub fn read_immediate(line: &[u8]) -> Option<(Result<i32, LineFault>, &[u8])>
 /// A constant of 64 bits, of which only 0 may have a `-`.
 #[tactic(auto, unfolding(crate::specs::Reading::word_in))]
 pub fn read_word(line: &[u8]) -> Option<(Result<u64, LineFault>, &[u8])>
-    ensures { Reads (λ x. (x.0, lexemes x.1.now)) result (word_in (lexemes line.now)) }
+    ensures { ReadsAs (λ x. (x.0, lexemes x.1.now)) result (word_in (lexemes line.now)) }
 {
     let (negative, rest) = read_minus(line);
     let (value, rest) = read_number(rest)?;
@@ -173,7 +173,7 @@ pub fn read_word(line: &[u8]) -> Option<(Result<u64, LineFault>, &[u8])>
 /// A number whose sign is written.
 #[tactic(auto, unfolding(crate::specs::Reading::signed_in))]
 fn read_signed(line: &[u8]) -> Option<(Result<i128, LineFault>, &[u8])>
-    ensures { Reads (λ x. (x.0, lexemes x.1.now)) result (signed_in (lexemes line.now)) }
+    ensures { ReadsAs (λ x. (x.0, lexemes x.1.now)) result (signed_in (lexemes line.now)) }
 {
     let (negative, rest) = read_sign(line)?;
     let (value, rest) = read_number(rest)?;
@@ -190,7 +190,7 @@ fn constant(value: Result<i32, LineFault>) -> Result<Operand, LineFault>
 /// A register, or else an immediate.
 #[tactic(auto, unfolding(crate::specs::Reading::operand_in))]
 pub fn read_operand(line: &[u8]) -> Option<(Result<Operand, LineFault>, &[u8])>
-    ensures { Reads (λ x. (x.0, lexemes x.1.now)) result (operand_in (lexemes line.now)) }
+    ensures { ReadsAs (λ x. (x.0, lexemes x.1.now)) result (operand_in (lexemes line.now)) }
 {
     if let Some((reg, rest)) = read_register(line) {
         return Some((Ok(Operand::Register(reg)), rest));
@@ -202,7 +202,7 @@ pub fn read_operand(line: &[u8]) -> Option<(Result<Operand, LineFault>, &[u8])>
 /// `[rN+N]`: a register, and a number with its sign.
 #[tactic(auto, unfolding(crate::specs::Reading::address_in))]
 pub fn read_address(line: &[u8]) -> Option<((Reg, Result<i16, LineFault>), &[u8])>
-    ensures { Reads (λ x. (x.0, lexemes x.1.now)) result (address_in (lexemes line.now)) }
+    ensures { ReadsAs (λ x. (x.0, lexemes x.1.now)) result (address_in (lexemes line.now)) }
 {
     let (base, rest) = read_register(read_mark(line, b'[')?)?;
     let (value, rest) = read_signed(rest)?;
@@ -227,7 +227,7 @@ pub fn read_target<'a>(
     next: usize,
     line: &'a [u8],
 ) -> Option<(Result<i128, LineFault>, &'a [u8])>
-    ensures { Reads (λ x. (x.0, lexemes x.1.now)) result (target_in (label_at labels.now) next (lexemes line.now)) }
+    ensures { ReadsAs (λ x. (x.0, lexemes x.1.now)) result (target_in (label_at labels.now) next (lexemes line.now)) }
 {
     if let Some(read) = read_signed(line) {
         return Some(read);

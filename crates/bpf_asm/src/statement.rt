@@ -5,7 +5,7 @@ ghost use Rattle.std.specs.List.{list_all};
 ghost use Rattle.bpf_asm.specs.Lexemes.{lexemes};
 ghost use Rattle.bpf_asm.specs.Numbers.{is_token};
 ghost use Rattle.bpf_asm.specs.Reading.{first_in};
-ghost use Rattle.bpf_asm.specs.Given.{Reads, SparesSaid};
+ghost use Rattle.bpf_asm.specs.Given.{ReadsAs, SparesSaid};
 ghost use Rattle.bpf_asm.specs.Labels.{label_at};
 ghost use Rattle.bpf_asm.specs.Assembly.{label_in, slots_in, unless_empty, said_by};
 
@@ -21,7 +21,7 @@ use bpf_insn::Insn;
 /// The name that a label line defines: a name and `:` alone.
 #[tactic(auto, unfolding(crate::specs::Assembly::label_in))]
 pub fn label_of(line: &[u8]) -> Option<&[u8]>
-    ensures { Reads (λ x. x.now) result (label_in (lexemes line.now)) }
+    ensures { ReadsAs (λ x. x.now) result (label_in (lexemes line.now)) }
 {
     let (name, rest) = first_lexeme(line)?;
     let rest = read_mark(rest, b':')?;

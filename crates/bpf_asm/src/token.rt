@@ -6,7 +6,7 @@ ghost use Rattle.bpf_asm.specs.declared.fault.AsmFault.TheVariants.{At};
 ghost use Rattle.bpf_asm.specs.declared.fault.LineFault.TheVariants.{NoToken};
 ghost use Rattle.bpf_asm.specs.Lexemes.{lexemes, spans};
 ghost use Rattle.bpf_asm.specs.Numbers.{is_token};
-ghost use Rattle.bpf_asm.specs.Given.{Gives, IfFault};
+ghost use Rattle.bpf_asm.specs.Given.{HasResult, IfFault};
 ghost use Rattle.bpf_asm.specs.Tokens.{tokens_of};
 
 use crate::assembler::AsmError;
@@ -65,7 +65,7 @@ fn push_tokens(
 
 /// The tokens of a text in their order.
 pub fn tokens(alloc: Global, text: &str) -> Result<Vec<Token>, AsmError>
-    ensures { Gives (λ tokens. tokens.items) result (tokens_of text.now) }
+    ensures { HasResult (λ tokens. tokens.items) result (tokens_of text.now) }
 {
     let mut tokens = Vec::new(alloc);
     let (mut rest, mut line, mut place) = (text.as_bytes(), 1, 0);

@@ -8,7 +8,7 @@ ghost use Rattle.bpf_semantics.specs.declared.bounds.TheConstants.{MAX_HELD};
 ghost use Rattle.bpf_semantics.specs.MachineState.{entry, register};
 ghost use Rattle.bpf_semantics.specs.Calls.{argument, named_bytes, request_by, traced};
 ghost use Rattle.helpers.specs.declared.columns.Change.TheVariants as changes;
-ghost use Rattle.bpf_semantics.specs.Step.{private_step, request_at, exit_at, exit_value, entered, returned, after_call, answered, changed_by, frames_after, held_with, held_without, HasRoom, HasRoomFor, IsAnswer, IsNewFreeze};
+ghost use Rattle.bpf_semantics.specs.Step.{private_step, request_at, exit_at, exit_value, entered, returned, after_call, answered, changed_by, frames_after, held_with, held_without, StackHasRoom, HasRoomFor, IsAnswer, IsNewFreeze};
 ghost use Rattle.bpf_semantics.specs.Stops.{stop_at};
 ghost use Rattle.bpf_semantics.specs.Reached.{IsEntry, PrivateSteps};
 ghost use Rattle.bpf_machine.specs.Able.{CanGoOn, GoesOnWithin};
@@ -23,8 +23,8 @@ use crate::stepping::advance;
 use base::ShortBytes;
 use bpf_insn::{Callee, Insn, Program, Reg, jump_target};
 use bpf_semantics::Stop;
-use helpers::{Answer, Arguments, Asked, Change, Helper, Request, Tells, Written};
 use bpf_stack_frame::Frames;
+use helpers::{Answer, ArgKind, Arguments, Change, Helper, Request, Tells, Written};
 use std::marker::Model;
 
 /// The frame pointer of the outermost frame: behind its last byte.
@@ -33,7 +33,7 @@ const FRAME_POINTER: u64 = FRAME_ADDRESS + FRAME_BYTES;
 /// A machine: where a program stands, its registers, the context that it reads, and what its run has.
 #[derive(Clone, Copy, Debug, PartialEq, Eq)]
 pub struct Machine {
-    place: usize,
+    pc: usize,
     registers: Registers,
     context: [u8; 96],
     frames: Frames,
@@ -76,7 +76,7 @@ impl Machine {
         ensures entry { IsEntry result }
     {
         Machine {
-            place: 0,
+            pc: 0,
             registers: first_registers(freeze),
             context: *context,
             frames: Frames::outermost(),
@@ -92,7 +92,7 @@ impl Machine {
         ensures value { self.new ≡ entry context.now freeze }
         ensures entry { IsEntry self.new }
     {
-        self.place = 0;
+        self.pc = 0;
         self.registers = first_registers(freeze);
         self.context = *context;
         self.frames.begin();
@@ -102,17 +102,17 @@ impl Machine {
     }
 
     /// The slot of the next instruction.
-    pub fn place(&self) -> usize
-        ensures { result ≡ self.now.place }
+    pub fn pc(&self) -> usize
+        ensures { result ≡ self.now.pc }
     {
-        self.place
+        self.pc
     }
 
     /// Whether both are one machine.
     pub fn is_same(&self, other: &Self) -> bool
         ensures { IsTrue result ↔ (self.now ≡ other.now) }
     {
-        self.place == other.place
+        self.pc == other.pc
             && self.registers.is_same(&other.registers)
             && self.context == other.context
             && self.frames.is_same(&other.frames)
@@ -126,7 +126,7 @@ impl Machine {
     pub fn copy_from(&mut self, other: &Self)
         ensures { self.new ≡ other.now }
     {
-        self.place = other.place;
+        self.pc = other.pc;
         self.registers = other.registers;
         self.context = other.context;
         self.frames.copy_from(&other.frames);
@@ -171,7 +171,7 @@ impl Machine {
         ensures short { result < budget }
     {
         let rows = program.rows();
-        let mut place = self.place;
+        let mut place = self.pc;
         let mut registers = self.registers;
         let mut steps = 0;
         while let Some(next) = advance(
@@ -186,7 +186,7 @@ impl Machine {
             place = next;
             steps += 1;
         }
-        self.place = place;
+        self.pc = place;
         self.registers = registers;
         steps
     }
@@ -201,7 +201,7 @@ impl Machine {
         ensures step { private_step program.now self.old ≡ (if result then Some self.new else None) }
         ensures stays { result ≡ false → self.new ≡ self.old }
     {
-        match program.fetch(self.place) {
+        match program.fetch(self.pc) {
             Some(Insn::Call(Callee::Local(distance))) => {
                 self.enter(distance);
                 true
@@ -213,16 +213,16 @@ impl Machine {
 
     // Into a local function.
     fn enter(&mut self, distance: i32)
-        requires place { self.old.place < MAX_SLOTS }
+        requires place { self.old.pc < MAX_SLOTS }
         requires room { length self.old.frames < MAX_FRAMES }
         ensures { self.new ≡ entered self.old distance }
     {
         let frame_pointer = FRAME_POINTER + FRAME_DISTANCE * self.frames.depth() as u64;
-        let call = OpenCall::new(self.place + 1, self.registers.saved());
+        let call = OpenCall::new(self.pc + 1, self.registers.saved());
         self.open_calls.push(&call);
         self.frames.open();
         self.registers.enter(frame_pointer);
-        self.place = jump_target(self.place, distance);
+        self.pc = jump_target(self.pc, distance);
     }
 
     // Back to its caller, and false where no call is open.
@@ -237,7 +237,7 @@ impl Machine {
         let frame_pointer = FRAME_POINTER + FRAME_DISTANCE * self.open_calls.len() as u64;
         self.frames.close();
         self.registers.leave(call.saved(), frame_pointer);
-        self.place = call.return_place();
+        self.pc = call.return_pc();
         true
     }
 
@@ -246,7 +246,7 @@ impl Machine {
     pub fn request(&self, program: &Program) -> Option<Request>
         ensures { result ≡ request_at program.now self.now }
     {
-        match program.fetch(self.place)? {
+        match program.fetch(self.pc)? {
             Insn::Call(Callee::Helper(number)) => self.request_by(Helper::with_number(number)?),
             Insn::Alu { .. }
             | Insn::InPlace { .. }
@@ -305,7 +305,7 @@ impl Machine {
     }
 
     // What an argument is; a register that the helper does not read counts as 0.
-    fn argument(&self, asked: Option<Asked>, reg: Reg) -> Option<u64>
+    fn argument(&self, asked: Option<ArgKind>, reg: Reg) -> Option<u64>
         ensures { result ≡ argument self.now asked reg }
     {
         match asked {
@@ -318,7 +318,7 @@ impl Machine {
     pub fn exit(&self, program: &Program) -> Option<u64>
         ensures { result ≡ exit_at program.now self.now }
     {
-        match program.fetch(self.place)? {
+        match program.fetch(self.pc)? {
             Insn::Exit => self.result(),
             Insn::Alu { .. }
             | Insn::InPlace { .. }
@@ -358,7 +358,7 @@ impl Machine {
     /// and R1 to R5 are unwritten. A freeze that was taken is held, one that was released or handed over is held no
     /// more, a CCB that waits again or is finished is disposed of, and what the call wrote stands in its frame.
     pub fn pass(&mut self, request: &Request, answer: &Answer)
-        requires place { self.old.place < MAX_SLOTS }
+        requires place { self.old.pc < MAX_SLOTS }
         requires allowed { IsAnswer self.old request.now answer.now }
         requires room { HasRoomFor self.old request.now }
         ensures { self.new ≡ answered request.now answer.now self.old }
@@ -370,7 +370,7 @@ impl Machine {
     // What a call makes of the machine beside that.
     fn change(&mut self, change: Change, arguments: &Arguments, answer: &Answer)
         requires new { change ≡ changes.Holds → IsNewFreeze self.old.held answer.now.r0 }
-        requires room { HasRoom self.old change }
+        requires room { StackHasRoom self.old change }
         ensures { self.new ≡ changed_by change arguments.now answer.now self.old }
     {
         match change {
@@ -414,10 +414,10 @@ impl Machine {
 
     // To the next slot, with an answer in R0 and nothing in R1 to R5.
     fn pass_call(&mut self, r0: u64)
-        requires { self.old.place < MAX_SLOTS }
+        requires { self.old.pc < MAX_SLOTS }
         ensures { self.new ≡ after_call self.old r0 }
     {
         self.registers.answer(r0);
-        self.place += 1;
+        self.pc += 1;
     }
 }

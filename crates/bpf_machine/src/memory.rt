@@ -8,9 +8,9 @@ ghost use Rattle.bpf_semantics.specs.Memory.{address_at, load_width, loaded, sto
 ghost use Rattle.bpf_machine.specs.Unchecked.{context_offset, frame_place, word_in, with_word_in};
 
 use bpf_insn::{LoadForm, SignExtension, StoreSize};
+use bpf_stack_frame::Frames;
 use bpf_words::extend;
 use byteorder::{ByteOrder, LittleEndian};
-use bpf_stack_frame::Frames;
 
 /// Where the context lies.
 pub const CONTEXT_ADDRESS: u64 = 0x1000_0000;

@@ -13,7 +13,7 @@ pub const MAX_CALLS: usize = MAX_FRAMES - 1;
 /// A local call that has not returned. Contracts see the definition's.
 #[derive(Clone, Copy, Debug, PartialEq, Eq)]
 pub struct OpenCall {
-    return_place: usize,
+    return_pc: usize,
     // the caller's R6 to R9
     saved: [Option<u64>; 4],
 }
@@ -23,27 +23,24 @@ impl Model for OpenCall {
 
     ghost Value = { OpenCall };
 
-    ghost view = { λ c. record { return_place = c.return_place; saved = c.saved } };
+    ghost view = { λ c. record { return_pc = c.return_pc; saved = c.saved } };
 
-    ghost inverse = { λ c. record { return_place = c.return_place; saved = c.saved } };
+    ghost inverse = { λ c. record { return_pc = c.return_pc; saved = c.saved } };
 }
 
 impl OpenCall {
     /// A call that goes on at a place, with these in R6 to R9.
-    pub fn new(return_place: usize, saved: [Option<u64>; 4]) -> Self
-        ensures { result ≡ record { return_place = return_place; saved = saved } }
+    pub fn new(return_pc: usize, saved: [Option<u64>; 4]) -> Self
+        ensures { result ≡ record { return_pc = return_pc; saved = saved } }
     {
-        OpenCall {
-            return_place,
-            saved,
-        }
+        OpenCall { return_pc, saved }
     }
 
     /// Where it goes on.
-    pub fn return_place(&self) -> usize
-        ensures { result ≡ self.now.return_place }
+    pub fn return_pc(&self) -> usize
+        ensures { result ≡ self.now.return_pc }
     {
-        self.return_place
+        self.return_pc
     }
 
     /// The caller's R6 to R9.
@@ -55,17 +52,17 @@ impl OpenCall {
 }
 
 impl Blank for OpenCall {
-    ghost blank = { record { return_place = 0; saved = replicate 4 None } };
+    ghost blank = { record { return_pc = 0; saved = replicate 4 None } };
 
     fn blank() -> Self {
         OpenCall {
-            return_place: 0,
+            return_pc: 0,
             saved: [None; 4],
         }
     }
 
     fn is_same(&self, other: &Self) -> bool {
-        self.return_place == other.return_place && self.saved == other.saved
+        self.return_pc == other.return_pc && self.saved == other.saved
     }
 }
 

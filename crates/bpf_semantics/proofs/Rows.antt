@@ -290,7 +290,7 @@ stops_nowhere_else = refl
 
 -- A release with a count of 2 as its answer: R0 is the count, R1 to R5 are unwritten, R6 to R10 are as they were, and
 -- the freeze is held no more.
-answered_release : answered (asking helpers.Release 7 0 0) (answer_number 2) (with_register with_freeze R1 7) ≡ record with_freeze { place = 1; registers = Some 2 ∷ None ∷ None ∷ None ∷ None ∷ None ∷ None ∷ None ∷ None ∷ None ∷ Some 0x20000200 ∷ []; held = [] }
+answered_release : answered (asking helpers.Release 7 0 0) (answer_number 2) (with_register with_freeze R1 7) ≡ record with_freeze { pc = 1; registers = Some 2 ∷ None ∷ None ∷ None ∷ None ∷ None ∷ None ∷ None ∷ None ∷ None ∷ Some 0x20000200 ∷ []; held = [] }
 unfolding row_of
 answered_release = refl
 
@@ -314,7 +314,7 @@ unfolding row_of
 answered_finish = refl
 
 -- a requeue disposes of the CCB and leaves the freezes
-answered_requeue : answered (asking helpers.Requeue 1 0 0) (answer_number 0) (with_register with_freeze R1 1) ≡ record with_freeze { place = 1; registers = Some 0 ∷ None ∷ None ∷ None ∷ None ∷ None ∷ None ∷ None ∷ None ∷ None ∷ Some 0x20000200 ∷ []; disposed = true }
+answered_requeue : answered (asking helpers.Requeue 1 0 0) (answer_number 0) (with_register with_freeze R1 1) ≡ record with_freeze { pc = 1; registers = Some 0 ∷ None ∷ None ∷ None ∷ None ∷ None ∷ None ∷ None ∷ None ∷ None ∷ Some 0x20000200 ∷ []; disposed = true }
 unfolding row_of
 answered_requeue = refl
 
@@ -322,17 +322,17 @@ answered_requeue = refl
 abbrev information : Answer
 information = record { r0 = 0; written = Some (record { address = 0x200001f0; bytes = 2 ∷ replicate 15 0 }) }
 
-answered_information : answered (asking helpers.QueueInfo 0x200001f0 0 0) information (with_register with_freeze R1 0x200001f0) ≡ record with_freeze { place = 1; registers = Some 0 ∷ None ∷ None ∷ None ∷ None ∷ None ∷ None ∷ None ∷ None ∷ None ∷ Some 0x20000200 ∷ []; frames = (replicate 496 None ++ Some 2 ∷ replicate 15 (Some 0)) ∷ [] }
+answered_information : answered (asking helpers.QueueInfo 0x200001f0 0 0) information (with_register with_freeze R1 0x200001f0) ≡ record with_freeze { pc = 1; registers = Some 0 ∷ None ∷ None ∷ None ∷ None ∷ None ∷ None ∷ None ∷ None ∷ None ∷ Some 0x20000200 ∷ []; frames = (replicate 496 None ++ Some 2 ∷ replicate 15 (Some 0)) ∷ [] }
 unfolding written_at row_of
 answered_information = refl
 
 -- a trace call leaves all but the registers
-answered_trace : answered (telling helpers.Trace 0x200001ff (3 ∷ [])) (answer_number 0) with_freeze ≡ record with_freeze { place = 1; registers = Some 0 ∷ None ∷ None ∷ None ∷ None ∷ None ∷ None ∷ None ∷ None ∷ None ∷ Some 0x20000200 ∷ [] }
+answered_trace : answered (telling helpers.Trace 0x200001ff (3 ∷ [])) (answer_number 0) with_freeze ≡ record with_freeze { pc = 1; registers = Some 0 ∷ None ∷ None ∷ None ∷ None ∷ None ∷ None ∷ None ∷ None ∷ None ∷ Some 0x20000200 ∷ [] }
 unfolding row_of
 answered_trace = refl
 
 -- and so does a call of a table
-answered_table_get : answered (asking helpers.TableGet 0 3 0) (answer_number 12) with_freeze ≡ record with_freeze { place = 1; registers = Some 12 ∷ None ∷ None ∷ None ∷ None ∷ None ∷ None ∷ None ∷ None ∷ None ∷ Some 0x20000200 ∷ [] }
+answered_table_get : answered (asking helpers.TableGet 0 3 0) (answer_number 12) with_freeze ≡ record with_freeze { pc = 1; registers = Some 12 ∷ None ∷ None ∷ None ∷ None ∷ None ∷ None ∷ None ∷ None ∷ None ∷ Some 0x20000200 ∷ [] }
 unfolding row_of
 answered_table_get = refl
 
@@ -428,11 +428,11 @@ abbrev caller : MachineState
 caller = record with_freeze { registers = registers_of_eleven }
 
 abbrev kept_call : OpenCall
-kept_call = record { return_place = 1; saved = Some 6 ∷ None ∷ Some 8 ∷ Some 9 ∷ [] }
+kept_call = record { return_pc = 1; saved = Some 6 ∷ None ∷ Some 8 ∷ Some 9 ∷ [] }
 
 abbrev callee : MachineState
 callee = record with_freeze {
-  place = 2;
+  pc = 2;
   registers = None ∷ Some 1 ∷ Some 2 ∷ Some 3 ∷ None ∷ Some 5 ∷ None ∷ None ∷ None ∷ None ∷ Some 0x20001200 ∷ [];
   frames = unwritten_frame ∷ unwritten_frame ∷ [];
   open_calls = kept_call ∷ [];
@@ -449,7 +449,7 @@ callee_done = record callee {
 }
 
 returns_local : private_step local callee_done ≡ Some (record with_freeze {
-  place = 1;
+  pc = 1;
   registers = Some 44 ∷ None ∷ None ∷ None ∷ None ∷ None ∷ Some 6 ∷ None ∷ Some 8 ∷ Some 9 ∷ Some 0x20000200 ∷ [];
   frames = (Some 3 ∷ replicate 511 None) ∷ [];
 })

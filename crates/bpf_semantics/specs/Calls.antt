@@ -7,8 +7,8 @@ use Rattle.bpf_insn.specs.declared.reg.Reg.{Reg}
 use Rattle.bpf_insn.specs.declared.reg.Reg.TheVariants.{R1, R2, R3}
 use Rattle.helpers.specs.declared.limits.HelperLimits.{HelperLimits}
 use Rattle.helpers.specs.declared.table.Helper.{Helper}
-use Rattle.helpers.specs.declared.columns.Asked.{Asked}
-use Rattle.helpers.specs.declared.columns.Asked.TheVariants.{Queue, HeldFreeze, Within, Table, Index, Word, Room, Bytes}
+use Rattle.helpers.specs.declared.columns.ArgKind.{ArgKind}
+use Rattle.helpers.specs.declared.columns.ArgKind.TheVariants.{Queue, HeldFreeze, Within, Table, Index, Word, Room, Bytes}
 use Rattle.helpers.specs.declared.columns.Needs.{Needs}
 use Rattle.helpers.specs.declared.columns.Needs.TheVariants as needs
 use Rattle.helpers.specs.declared.columns.Tells.{Tells}
@@ -22,7 +22,7 @@ use Rattle.bpf_stack_frame.specs.Frame.{all_written as written_bytes}
 use Rattle.bpf_semantics.specs.Frames.{frame_bytes, has_room, has_written}
 
 -- what an argument is; a register that the helper does not read counts as 0
-abbrev pub argument : MachineState → Option Asked → Reg → Option ℕ
+abbrev pub argument : MachineState → Option ArgKind → Reg → Option ℕ
 argument m (Some asked) reg = register m reg
 argument m None reg = Some 0
 
@@ -61,7 +61,7 @@ abbrev pub is_held : List ℕ → ℕ → Bool
 is_held held freeze = list_any (λ number. number == freeze) held
 
 -- an argument is as asked
-abbrev pub is_as_asked : HelperLimits → MachineState → Arguments → Asked → ℕ → Bool
+abbrev pub is_as_asked : HelperLimits → MachineState → Arguments → ArgKind → ℕ → Bool
 is_as_asked limits m arguments Queue value = nat_lt value limits.queues
 is_as_asked limits m arguments HeldFreeze value = is_held m.held value
 is_as_asked limits m arguments (Within least most) value = nat_le least value && nat_le value most
@@ -72,7 +72,7 @@ is_as_asked limits m arguments (Room bytes) value = has_room 0 m.frames value by
 is_as_asked limits m arguments Bytes value = has_written 0 m.frames value arguments.second
 
 -- and one that the helper does not take may be anything
-abbrev pub meets : HelperLimits → MachineState → Arguments → Option Asked → ℕ → Bool
+abbrev pub meets : HelperLimits → MachineState → Arguments → Option ArgKind → ℕ → Bool
 meets limits m arguments (Some asked) value = is_as_asked limits m arguments asked value
 meets limits m arguments None value = true
 

@@ -10,7 +10,7 @@ use Rattle.bpf_insn.specs.Target.{target}
 use Rattle.call_shape.specs.Calls.{begins}
 use Rattle.call_shape.specs.OnTheWay.{AreBegun, IsOnTheWay}
 use Rattle.call_shape.specs.Shape.{AreOrdered, IsLawful}
-use Rattle.call_shape.specs.StaticPath.{Standing, outermost, called, LeadsTo}
+use Rattle.call_shape.specs.StaticPath.{Standing, outermost, called, StepLeadsTo}
 use Rattle.bpf_stack_frame.specs.declared.frames.TheConstants.{MAX_FRAMES}
 use Rattle.call_shape.proofs.Lawful.{calls_lawfully, goes_on_lawfully}
 use Rattle.call_shape.proofs.Paths.{HasPath, joined, one_frame_at_least}
@@ -20,7 +20,7 @@ pub begins_on_the_way : (program : List Slot) → IsOnTheWay program (outermost 
 begins_on_the_way program n path = (n, path, omega arith)
 
 -- one instruction on
-pub further : (program : List Slot) (at to : Standing) (insn : Insn) → insn_at program at.slot ≡ Some insn → LeadsTo at insn to → IsOnTheWay program at → IsOnTheWay program to
+pub further : (program : List Slot) (at to : Standing) (insn : Insn) → insn_at program at.slot ≡ Some insn → StepLeadsTo at insn to → IsOnTheWay program at → IsOnTheWay program to
 further program at to insn is leads on n path =
     let whole = on (suc n) (insn, is, inr (to, leads, path)) in
     (whole.0, whole.1, omega (arith, whole.2))

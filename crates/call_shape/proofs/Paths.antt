@@ -9,7 +9,7 @@ use Rattle.bpf_insn.specs.Program.{insn_at}
 use Rattle.call_shape.specs.declared.onward.Onward.{Onward}
 use Rattle.call_shape.specs.declared.onward.Onward.TheVariants.{Leaves, Continues, Branches, Enters}
 use Rattle.call_shape.specs.Onward.{onward}
-use Rattle.call_shape.specs.StaticPath.{Standing, outermost, moved, frames_at, ReturnsTo, LeadsTo, IsOutermostExit, StaticPath, depth}
+use Rattle.call_shape.specs.StaticPath.{Standing, outermost, moved, frames_at, ReturnsTo, StepLeadsTo, IsOutermostExit, StaticPath, depth}
 
 -- where control may lead, by where the instruction lets it go
 abbrev pub LeadsOn : Standing → Onward → Standing → Type 0
@@ -18,7 +18,7 @@ LeadsOn at (Continues next) to = to ≡ moved at next
 LeadsOn at (Branches next other) to = (to ≡ moved at next) ⊎ (to ≡ moved at other)
 LeadsOn at (Enters callee next) to = to ≡ record { slot = callee; returns = next ∷ at.returns }
 
-pub leads_on : (at : Standing) (insn : Insn) (to : Standing) → LeadsTo at insn to → LeadsOn at (onward at.slot insn) to
+pub leads_on : (at : Standing) (insn : Insn) (to : Standing) → StepLeadsTo at insn to → LeadsOn at (onward at.slot insn) to
 leads_on at (Alu width op dst src) to leads = leads
 leads_on at (InPlace op dst) to leads = leads
 leads_on at (SignExtend extension dst src) to leads = leads
@@ -31,7 +31,7 @@ leads_on at (Call (Helper number)) to leads = leads
 leads_on at (Call (Local distance)) to leads = leads
 leads_on at Exit to leads = leads
 
-pub leads_so : (at : Standing) (insn : Insn) (to : Standing) → LeadsOn at (onward at.slot insn) to → LeadsTo at insn to
+pub leads_so : (at : Standing) (insn : Insn) (to : Standing) → LeadsOn at (onward at.slot insn) to → StepLeadsTo at insn to
 leads_so at (Alu width op dst src) to leads = leads
 leads_so at (InPlace op dst) to leads = leads
 leads_so at (SignExtend extension dst src) to leads = leads
@@ -81,20 +81,20 @@ on_under at (Branches next other) to outer (inl leads) = inl (ap (λ (s : Standi
 on_under at (Branches next other) to outer (inr leads) = inr (ap (λ (s : Standing). under s outer) leads)
 on_under at (Enters callee next) to outer leads = ap (λ (s : Standing). under s outer) leads
 
-pub leads_under : (at : Standing) (insn : Insn) (to : Standing) (outer : List ℕ) → LeadsTo at insn to → LeadsTo (under at outer) insn (under to outer)
+pub leads_under : (at : Standing) (insn : Insn) (to : Standing) (outer : List ℕ) → StepLeadsTo at insn to → StepLeadsTo (under at outer) insn (under to outer)
 leads_under at insn to outer leads = leads_so (under at outer) insn (under to outer) (on_under at (onward at.slot insn) to outer (leads_on at insn to leads))
 
 pub same_path : (program : List Slot) (at : Standing) (n m d e : ℕ) → n ≡ m → d ≡ e → HasPath program at n d → HasPath program at m e
 same_path program at n m d e long deep path =
     subst (λ (k : ℕ). HasPath program at k e) long (subst (HasPath program at n) deep path)
 
-step_on : (program : List Slot) (at to : Standing) (insn : Insn) (n d : ℕ) → insn_at program at.slot ≡ Some insn → LeadsTo at insn to → HasPath program to n d → HasPath program at (suc n) (max (frames_at at) d)
+step_on : (program : List Slot) (at to : Standing) (insn : Insn) (n d : ℕ) → insn_at program at.slot ≡ Some insn → StepLeadsTo at insn to → HasPath program to n d → HasPath program at (suc n) (max (frames_at at) d)
 step_on program at to insn n d is leads rest = ((insn, is, inr (to, leads, rest.0)), ap (λ (k : ℕ). max (frames_at at) k) rest.1)
 
 -- from the outermost exit of a path control leads back from the call that is open outside
-pub exit_returns : (at : Standing) (insn : Insn) (return : ℕ) (outer : List ℕ) → IsOutermostExit at insn → LeadsTo (under at (return ∷ outer)) insn (back return outer)
+pub exit_returns : (at : Standing) (insn : Insn) (return : ℕ) (outer : List ℕ) → IsOutermostExit at insn → StepLeadsTo (under at (return ∷ outer)) insn (back return outer)
 exit_returns at insn return outer end =
-    subst (λ (i : Insn). LeadsTo (under at (return ∷ outer)) i (back return outer)) (sym end.0)
+    subst (λ (i : Insn). StepLeadsTo (under at (return ∷ outer)) i (back return outer)) (sym end.0)
     (subst (λ (rs : List ℕ). ReturnsTo (rs ++ return ∷ outer) (back return outer)) (sym end.1) refl)
 
 -- a path to the end of a function, and then one from behind its call
@@ -234,14 +234,14 @@ ways_on program place (suc n) d insn at ((other, is, inl end), deep) =
 ways_on program place (suc n) d insn at ((other, is, inr (to, leads, rest)), deep) =
     let same = same_there insn other (insn_at program place) at is in
     ways_by program place n (depth program to n rest) d (onward place insn) to
-    (leads_on (outermost place) insn to (subst (λ (i : Insn). LeadsTo (outermost place) i to) same leads)) (omega (arith, deep)) (rest, refl)
+    (leads_on (outermost place) insn to (subst (λ (i : Insn). StepLeadsTo (outermost place) i to) same leads)) (omega (arith, deep)) (rest, refl)
 
-from_next : (program : List Slot) (place next n d : ℕ) (insn : Insn) → insn_at program place ≡ Some insn → LeadsTo (outermost place) insn (outermost next) → GoesOut program next n d → HasPath program (outermost place) n d
+from_next : (program : List Slot) (place next n d : ℕ) (insn : Insn) → insn_at program place ≡ Some insn → StepLeadsTo (outermost place) insn (outermost next) → GoesOut program next n d → HasPath program (outermost place) n d
 from_next program place next n d insn at leads out =
     same_path program (outermost place) (suc out.after) n (max 1 d) d (omega (arith, out.long)) (omega (arith, one_frame_at_least program (outermost next) out.after d out.rest))
     (step_on program (outermost place) (outermost next) insn out.after d at leads out.rest)
 
-from_call : (program : List Slot) (place callee next n d : ℕ) (insn : Insn) → insn_at program place ≡ Some insn → LeadsTo (outermost place) insn (record { slot = callee; returns = next ∷ [] }) → CallsOut program callee next n d → HasPath program (outermost place) n d
+from_call : (program : List Slot) (place callee next n d : ℕ) (insn : Insn) → insn_at program place ≡ Some insn → StepLeadsTo (outermost place) insn (record { slot = callee; returns = next ∷ [] }) → CallsOut program callee next n d → HasPath program (outermost place) n d
 from_call program place callee next n d insn at leads out =
     let both = joined program out.inner out.after (outermost callee) next [] out.inner_depth out.after_depth out.path out.rest in
     same_path program (outermost place) (suc (out.inner + out.after)) n _ d (omega (arith, out.long)) (omega (arith, out.deep))

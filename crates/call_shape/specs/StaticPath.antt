@@ -36,23 +36,23 @@ ReturnsTo [] to = ⊥
 ReturnsTo (return ∷ returns) to = to ≡ record { slot = return; returns = returns }
 
 -- where an instruction may lead, whatever the machine
-abbrev pub LeadsTo : Standing → Insn → Standing → Type 0
-LeadsTo at (Alu width op dst src) to = to ≡ moved at (at.slot + 1)
-LeadsTo at (InPlace op dst) to = to ≡ moved at (at.slot + 1)
-LeadsTo at (SignExtend extension dst src) to = to ≡ moved at (at.slot + 1)
-LeadsTo at (JumpIf width condition dst src offset) to = (to ≡ moved at (at.slot + 1)) ⊎ (to ≡ moved at (target at.slot offset))
-LeadsTo at (Jump distance) to = to ≡ moved at (target at.slot (distance_of distance))
-LeadsTo at (LoadImmediate dst value) to = to ≡ moved at (at.slot + 2)
-LeadsTo at (Load form dst src offset) to = to ≡ moved at (at.slot + 1)
-LeadsTo at (Store size dst src offset) to = to ≡ moved at (at.slot + 1)
-LeadsTo at (Call (Helper number)) to = to ≡ moved at (at.slot + 1)
-LeadsTo at (Call (Local distance)) to = to ≡ called at (target at.slot distance)
-LeadsTo at Exit to = ReturnsTo at.returns to
+abbrev pub StepLeadsTo : Standing → Insn → Standing → Type 0
+StepLeadsTo at (Alu width op dst src) to = to ≡ moved at (at.slot + 1)
+StepLeadsTo at (InPlace op dst) to = to ≡ moved at (at.slot + 1)
+StepLeadsTo at (SignExtend extension dst src) to = to ≡ moved at (at.slot + 1)
+StepLeadsTo at (JumpIf width condition dst src offset) to = (to ≡ moved at (at.slot + 1)) ⊎ (to ≡ moved at (target at.slot offset))
+StepLeadsTo at (Jump distance) to = to ≡ moved at (target at.slot (distance_of distance))
+StepLeadsTo at (LoadImmediate dst value) to = to ≡ moved at (at.slot + 2)
+StepLeadsTo at (Load form dst src offset) to = to ≡ moved at (at.slot + 1)
+StepLeadsTo at (Store size dst src offset) to = to ≡ moved at (at.slot + 1)
+StepLeadsTo at (Call (Helper number)) to = to ≡ moved at (at.slot + 1)
+StepLeadsTo at (Call (Local distance)) to = to ≡ called at (target at.slot distance)
+StepLeadsTo at Exit to = ReturnsTo at.returns to
 
 -- Control may come from one standing to another: it stands there already, or an instruction leads there from where it may come.
 pub data PathLeads (program : List Slot) (from : Standing) : Standing → Type 0 where
   starts : PathLeads program from from
-  goes_on : (at to : Standing) (insn : Insn) → PathLeads program from at → insn_at program at.slot ≡ Some insn → LeadsTo at insn to → PathLeads program from to
+  goes_on : (at to : Standing) (insn : Insn) → PathLeads program from at → insn_at program at.slot ≡ Some insn → StepLeadsTo at insn to → PathLeads program from to
 
 -- an exit while no call is open
 abbrev pub IsOutermostExit : Standing → Insn → Type 0
@@ -63,7 +63,7 @@ abbrev pub StaticPath : List Slot → Standing → ℕ → Type 0
 StaticPath program at zero = ⊥
 StaticPath program at (suc n) =
     (insn : Insn) × (insn_at program at.slot ≡ Some insn)
-    × ((IsOutermostExit at insn × (n ≡ 0)) ⊎ ((to : Standing) × LeadsTo at insn to × StaticPath program to n))
+    × ((IsOutermostExit at insn × (n ≡ 0)) ⊎ ((to : Standing) × StepLeadsTo at insn to × StaticPath program to n))
 
 -- the most frames that there are at a time along a path
 abbrev pub depth : (program : List Slot) (at : Standing) (n : ℕ) → StaticPath program at n → ℕ

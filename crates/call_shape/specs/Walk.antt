@@ -61,7 +61,7 @@ LaterSettled program walk place =
 
 -- What a part of a walk leaves of what was before: it settles no place of a function that was entered before it, but
 -- for those that are excepted, and it settles each function that it enters.
-pub record GoesOn (program : List Slot) (excepted : ℕ → Type 0) (before after : Walk) : Type 0 where
+pub record WalkContinues (program : List Slot) (excepted : ℕ → Type 0) (before after : Walk) : Type 0 where
   pub still_settled : (place : ℕ) → is_marked before.settled place ≡ true → is_marked after.settled place ≡ true
   pub still_entered : (function : ℕ) → is_marked before.entered function ≡ true → is_marked after.entered function ≡ true
   pub others_stay : (place : ℕ) → (excepted place → ⊥) → is_marked before.entered (function_of program place) ≡ true → is_marked after.settled place ≡ is_marked before.settled place

@@ -24,7 +24,7 @@ pub(crate) struct Walk {
 }
 
 impl Walk {
-    ghost use Rattle.call_shape.specs.Walk.{is_marked, IsWalk, IsOrderOf, OpenComeTo, GoesOn, with_settled};
+    ghost use Rattle.call_shape.specs.Walk.{is_marked, IsWalk, IsOrderOf, OpenComeTo, WalkContinues, with_settled};
 
     /// The places of a program, each behind all that control may reach from it, or a local call that lies on a cycle of
     /// calls.
@@ -81,7 +81,7 @@ impl Walk {
         requires open_ones { OpenComeTo program.now self.old function }
         ensures walk { OnOk result (IsWalk program.now self.new) }
         ensures settled { OnOk result (is_marked self.new.settled function ≡ true) }
-        ensures goes_on { OnOk result (GoesOn program.now (λ _. ⊥) self.old self.new) }
+        ensures goes_on { OnOk result (WalkContinues program.now (λ _. ⊥) self.old self.new) }
         ensures cycle { IfErr result (IsOnCycle program.now) }
     {
         self.entered[function] = true;
@@ -109,7 +109,7 @@ impl Walk {
         requires open_ones { OpenComeTo program.now self.old (function_of program.now place) }
         ensures walk { OnOk result (IsWalk program.now self.new) }
         ensures settled { OnOk result ((callee : ℕ) → callee_at program.now place ≡ Some callee → is_marked self.new.settled callee ≡ true) }
-        ensures goes_on { OnOk result (GoesOn program.now (λ _. ⊥) self.old self.new) }
+        ensures goes_on { OnOk result (WalkContinues program.now (λ _. ⊥) self.old self.new) }
         ensures cycle { IfErr result (IsOnCycle program.now) }
     {
         let Some(callee) = callee_at(program, place) else {

@@ -6,5 +6,5 @@ mod numbered_slots;
 mod search;
 mod slots;
 
-pub use cam_numbered_slots::NumberedSlots;
+pub use numbered_slots::NumberedSlots;
 pub use search::{Numbered, place_for};

@@ -12,7 +12,7 @@ ghost use Rattle.host_opening.specs.Opened.{Opens};
 ghost use Rattle.camr_c.specs.Exports.{Called, Frozen, IsOpened, Released, Stays, TellsDue, sums_of};
 
 use crate::engine_slot::EngineSlot;
-use crate::loose::Loose;
+use crate::raw_box::RawBox;
 use ccb::{Place, QueueId};
 use host_embedding::CallResult;
 use host_opening::{OpenFault, open, put_fault};
@@ -43,7 +43,7 @@ pub extern "C" fn camr_raw_open(
     *written = 0;
     match open(alloc, manifest) {
         Ok(handle) => {
-            engine.fill(Loose::of(handle));
+            engine.fill(RawBox::of(handle));
             CallResult::Done.number()
         }
         Err(OpenFault::OutOfMemory) => CallResult::OutOfMemory.number(),

@@ -4,7 +4,7 @@
 
 mod engine_exports;
 mod engine_slot;
-mod loose;
+mod raw_box;
 mod result_exports;
 mod run_exports;
 mod run_slot;

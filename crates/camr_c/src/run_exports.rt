@@ -7,7 +7,7 @@ ghost use Rattle.host_embedding.specs.Held.{is_same_run, out_of, IsStretched};
 ghost use Rattle.camr_c.specs.Exports.{Did, Turns, Stays, CalledWith, IsReported, Completed, Resumed};
 
 use crate::engine_slot::EngineSlot;
-use crate::loose::Loose;
+use crate::raw_box::RawBox;
 use crate::run_slot::RunSlot;
 use ccb::{CamStatus, CcbId, Completion};
 use host_embedding::CallResult;
@@ -44,7 +44,7 @@ pub extern "C" fn camr_raw_complete(
     };
     match engine.held().complete(alloc, completion) {
         Ok(Some(handle)) => {
-            run.fill(Loose::of(handle));
+            run.fill(RawBox::of(handle));
             *started = true;
             CallResult::Done.number()
         }
@@ -125,7 +125,7 @@ pub extern "C" fn camr_raw_resume(
     *resumed = false;
     match engine.held().resume(alloc, number) {
         Ok(handle) => {
-            run.fill(Loose::of(handle));
+            run.fill(RawBox::of(handle));
             *resumed = true;
             CallResult::Done.number()
         }

@@ -1,9 +1,9 @@
-// Where a host written in C holds a run: a pointer to its block, which no one but this library follows. It relies on `loose`.
+// Where a host written in C holds a run: a pointer to its block, which no one but this library follows. It relies on `raw_box`.
 
 ghost use Rattle.std.specs.Prelude.{Option};
 ghost use Rattle.host_embedding.specs.declared.run_handle.RunHandle.{RunHandle as Value};
 
-use crate::loose::Loose;
+use crate::raw_box::RawBox;
 use host_embedding::RunHandle;
 use std::alloc::Global;
 use std::marker::Model;
@@ -28,20 +28,20 @@ impl RunSlot {
     ghost use Rattle.camr_c.specs.Lending.{lends_run};
 
     /// Puts a run here. What was here is left as it is.
-    pub(crate) fn fill(&mut self, boxed: Loose<RunHandle, Global>)
+    pub(crate) fn fill(&mut self, boxed: RawBox<RunHandle, Global>)
         ensures { self.new.held ≡ Some boxed.value }
     {
-        let Loose { at, alloc: _ } = boxed;
+        let RawBox { at, alloc: _ } = boxed;
         self.at = at as *mut u8;
     }
 
     /// Takes it out.
-    pub(crate) fn empty(&mut self, alloc: Global) -> Loose<RunHandle, Global>
+    pub(crate) fn empty(&mut self, alloc: Global) -> RawBox<RunHandle, Global>
         requires { IsSome self.old.held }
         ensures value { self.old.held ≡ Some result.value }
         ensures emptied { self.new ≡ record self.old { held = None } }
     {
-        Loose {
+        RawBox {
             at: self.at as *mut RunHandle,
             alloc,
         }

@@ -6,18 +6,18 @@
 ghost use Rattle.std.specs.Prelude.{◌≡◌, length, IfOk};
 ghost use Rattle.cli_inspect_line.specs.Files.{input_paths};
 
-use world_calls::Notices;
-use cli_line::not_utf8;
 use cli_commands::{Fault, report_usage};
 use cli_inspect_line::{Plan, plan};
 use cli_inspection::carry;
 use cli_io::{Disk, MOST_MANIFEST, MOST_TRACE, Patient, Telling, read_file, replace, words};
+use cli_line::not_utf8;
 use std::fs::File;
 use std::io;
 use std::io::{BufWriter, IsTerminal, Stderr, Write};
 use std::process::ExitCode;
 use std::random::RandomSource;
 use std::rt::{Files, Runtime};
+use world_calls::Notices;
 
 fn main(rt: HostRuntime) -> ExitCode {
     let told = rt.stderr();

@@ -1,7 +1,7 @@
 -- Where spills are lost one after another: what is left of them, and of the bytes that are known to be written.
 use Rattle.std.proofs.Common.{◌≡◌, ℕ, ◌+◌, ◌*◌, ◌/◌, ◌<◌, ◌≤◌, Bool, true, false, List, Option, length, refl, sym, subst, ◌∙◌, arith, ◌⊎◌, inl, inr}
 use Rattle.std.proofs.lemmas.Bool.{cases_eq}
-use Rattle.stack_domain.specs.Stack.{Covers, Knows}
+use Rattle.stack_domain.specs.Stack.{MarksCover, Knows}
 use Rattle.check_description.specs.declared.spill.Spill.{Spill}
 use Rattle.check_description.specs.declared.spill.Spill.TheVariants.{Nothing}
 use Rattle.check_description.specs.Spills.{at_place}
@@ -17,7 +17,7 @@ pub record HaveLost (IsLost Stays : ℕ → Type 0) (upto : ℕ) (before after :
   pub each : (place : ℕ) → place < upto → (at_place after place ≡ Nothing) ⊎ Stays place
   pub kept : (place : ℕ) → ((upto ≤ place) ⊎ (IsLost place → ⊥)) → at_place after place ≡ at_place before place
   pub depth : length left ≡ length stack
-  pub covers : (frames : List (List (Option ℕ))) → Covers stack frames → Covers left frames
+  pub covers : (frames : List (List (Option ℕ))) → MarksCover stack frames → MarksCover left frames
   pub knows : (frame offset : ℕ) → (IsLost (64 * frame + offset / 8) → ⊥) → Knows stack frame offset → Knows left frame offset
 
 module _ (IsLost Stays : ℕ → Type 0) (before : List Spill) (stack : List (List Bool)) where
@@ -55,7 +55,7 @@ module _ (IsLost Stays : ℕ → Type 0) (before : List Spill) (stack : List (Li
 
     -- this one is lost
     pub lost_too : (after : List Spill) (fewer : List (List Bool)) → IsLost upto → at_place after upto ≡ Nothing → ((other : ℕ) → (other ≡ upto → ⊥) → at_place after other ≡ at_place places other) → length after ≡ length places
-        → length fewer ≡ length left → ((frames : List (List (Option ℕ))) → Covers left frames → Covers fewer frames)
+        → length fewer ≡ length left → ((frames : List (List (Option ℕ))) → MarksCover left frames → MarksCover fewer frames)
         → ((frame offset : ℕ) → (64 * frame + offset / 8 ≡ upto → ⊥) → Knows left frame offset → Knows fewer frame offset)
         → HaveLost IsLost Stays (upto + 1) before after stack fewer
     lost_too after fewer is nothing others len depth covers knows = record {

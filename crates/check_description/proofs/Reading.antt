@@ -5,7 +5,7 @@ use Rattle.std.specs.List.{list_all}
 use Rattle.std.specs.Option.{option_map, option_and_then}
 use Rattle.bpf_stack_frame.specs.Frame.{all_written}
 use Rattle.std.proofs.lemmas.List.{get_or-take, get_or-drop, length-take}
-use Rattle.stack_domain.specs.Stack.{Covers as CoversFrames, AreWritten}
+use Rattle.stack_domain.specs.Stack.{MarksCover as CoversFrames, AreWritten}
 use Rattle.stack_domain.proofs.Loads as loads
 use Rattle.bpf_semantics.specs.MachineState.{MachineState}
 use Rattle.bpf_semantics.specs.Frames.{frame_bytes}

@@ -6,7 +6,7 @@ use Rattle.std.proofs.Math.ListN.{length-set}
 use Rattle.std.proofs.lemmas.Bool.{cases_eq, cases_lt}
 use Rattle.std.proofs.lemmas.List.{get_or_append_left, get_or-append_right, get_or-map, get_or-set_same, get_or-set_other, length-append, length-map, length-take-le}
 use Rattle.bpf_stack_frame.specs.Frame.{written_at}
-use Rattle.stack_domain.specs.Stack.{Covers as CoversFrames}
+use Rattle.stack_domain.specs.Stack.{MarksCover as CoversFrames}
 use Rattle.stack_domain.specs.Stores.{stored}
 use Rattle.stack_domain.proofs.Stores.{written_at_outside}
 use Rattle.bpf_semantics.specs.MachineState.{MachineState}

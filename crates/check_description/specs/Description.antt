@@ -6,7 +6,7 @@ use Rattle.bpf_insn.specs.declared.reg.Reg.{Reg}
 use Rattle.bpf_insn.specs.Reg.{number_of}
 use Rattle.bpf_semantics.specs.MachineState.{MachineState, register}
 use Rattle.bpf_semantics.specs.Reached.{IsEntry}
-use Rattle.stack_domain.specs.Stack.{Covers as CoversFrames}
+use Rattle.stack_domain.specs.Stack.{MarksCover as CoversFrames}
 use Rattle.check_description.specs.declared.description.Description.{Description}
 use Rattle.check_register_kinds.specs.declared.kind.Kind.{Kind}
 use Rattle.check_register_kinds.specs.declared.kind.Kind.TheVariants.{Unwritten}

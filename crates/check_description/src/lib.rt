@@ -12,7 +12,7 @@ mod saved;
 mod spill;
 mod spills;
 
-pub use check_description::Description;
+pub use description::Description;
 pub use saved::{SavedRegister, SavedRegisters};
 pub use spill::Spill;
 pub use spills::Spills;

@@ -2,7 +2,7 @@
 // for what is known to be written.
 
 ghost use Rattle.std.specs.Prelude.{◌≡◌, ◌↔◌, ◌+◌, ◌*◌, ◌/◌, ◌<◌, ◌≤◌, ◌⊎◌, ℕ, List, Option, length, IsTrue};
-ghost use Rattle.stack_domain.specs.Stack.{Covers, Knows};
+ghost use Rattle.stack_domain.specs.Stack.{MarksCover, Knows};
 ghost use Rattle.check_description.specs.Spills.{IsFewer, IsGone, at_place, spill_at, spill_without};
 
 use crate::spill::Spill;
@@ -72,7 +72,7 @@ fn lose(places: &mut [Spill], place: usize, stack: &mut Stack)
     ensures others { (other : ℕ) → (other ≡ place → ⊥) → at_place places.new other ≡ at_place places.old other }
     ensures len { length places.new ≡ length places.old }
     ensures depth { length stack.new ≡ length stack.old }
-    ensures covers { (frames : List (List (Option ℕ))) → Covers stack.old frames → Covers stack.new frames }
+    ensures covers { (frames : List (List (Option ℕ))) → MarksCover stack.old frames → MarksCover stack.new frames }
     ensures knows { (frame offset : ℕ) → (64 * frame + offset / 8 ≡ place → ⊥) → Knows stack.old frame offset → Knows stack.new frame offset }
 {
     empty(places, place);
@@ -88,7 +88,7 @@ pub(crate) fn outlive(places: &mut [Spill], live: usize, stack: &mut Stack)
     ensures gone { (place : ℕ) → IsGone live (at_place places.new place) → ⊥ }
     ensures len { length places.new ≡ length places.old }
     ensures depth { length stack.new ≡ length stack.old }
-    ensures covers { (frames : List (List (Option ℕ))) → Covers stack.old frames → Covers stack.new frames }
+    ensures covers { (frames : List (List (Option ℕ))) → MarksCover stack.old frames → MarksCover stack.new frames }
     ensures knows { (frame offset : ℕ) → (IsGone live (spill_at places.old frame (offset / 8)) → ⊥) → Knows stack.old frame offset → Knows stack.new frame offset }
 {
     for place in 0..places.len() {
@@ -104,7 +104,7 @@ pub(crate) fn meet(places: &mut [Spill], others: &[Spill], stack: &mut Stack)
     ensures second { IsFewer others.now places.new }
     ensures len { length places.new ≡ length places.old }
     ensures depth { length stack.new ≡ length stack.old }
-    ensures covers { (frames : List (List (Option ℕ))) → Covers stack.old frames → Covers stack.new frames }
+    ensures covers { (frames : List (List (Option ℕ))) → MarksCover stack.old frames → MarksCover stack.new frames }
     ensures knows { (frame offset : ℕ) → spill_at places.old frame (offset / 8) ≡ spill_at others.now frame (offset / 8) → Knows stack.old frame offset → Knows stack.new frame offset }
 {
     for place in 0..places.len().max(others.len()) {

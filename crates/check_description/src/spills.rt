@@ -2,7 +2,7 @@
 // `stack_domain` for what is known to be written.
 
 ghost use Rattle.std.specs.Prelude.{◌≡◌, ◌↔◌, ◌+◌, ◌*◌, ◌/◌, ◌<◌, ◌≤◌, ◌⊎◌, ℕ, List, Option, [], false, length, IfOk, IsOk, IsTrue};
-ghost use Rattle.stack_domain.specs.Stack.{Covers, Knows};
+ghost use Rattle.stack_domain.specs.Stack.{MarksCover, Knows};
 ghost use Rattle.check_description.specs.Spills.{AreUnspilled, IsFewer, IsGone, at_place, spill_at, spill_without};
 
 use crate::places;
@@ -121,7 +121,7 @@ impl Spills {
         ensures outside { (place : ℕ) → 64 * live ≤ place → at_place self.new place ≡ Spill.Nothing }
         ensures none { self.old ≡ [] → self.new ≡ [] }
         ensures depth { length stack.new ≡ length stack.old }
-        ensures covers { (frames : List (List (Option ℕ))) → Covers stack.old frames → Covers stack.new frames }
+        ensures covers { (frames : List (List (Option ℕ))) → MarksCover stack.old frames → MarksCover stack.new frames }
         ensures knows { (frame offset : ℕ) → (IsGone live (spill_at self.old frame (offset / 8)) → ⊥) → Knows stack.old frame offset → Knows stack.new frame offset }
     {
         self.places.truncate(WORDS * live);
@@ -135,7 +135,7 @@ impl Spills {
         ensures second { IsFewer other.now self.new }
         ensures none { self.old ≡ [] → self.new ≡ [] }
         ensures depth { length stack.new ≡ length stack.old }
-        ensures covers { (frames : List (List (Option ℕ))) → Covers stack.old frames → Covers stack.new frames }
+        ensures covers { (frames : List (List (Option ℕ))) → MarksCover stack.old frames → MarksCover stack.new frames }
         ensures knows { (frame offset : ℕ) → spill_at self.old frame (offset / 8) ≡ spill_at other.now frame (offset / 8) → Knows stack.old frame offset → Knows stack.new frame offset }
     {
         places::meet(self.places.as_mut_slice(), other.places.as_slice(), stack);

@@ -7,8 +7,8 @@ use Rattle.std.proofs.lemmas.List.{get_or-drop}
 use Rattle.bpf_insn.specs.declared.reg.Reg.{Reg}
 use Rattle.bpf_insn.specs.declared.reg.Reg.TheVariants.{R0, R1, R2, R3, R4, R5, R6, R7, R8, R9, R10}
 use Rattle.bpf_insn.specs.Reg.{number_of}
-use Rattle.helpers.specs.declared.columns.Asked.{Asked}
-use Rattle.helpers.specs.declared.columns.Asked.TheVariants.{HeldFreeze, Room as RoomOf}
+use Rattle.helpers.specs.declared.columns.ArgKind.{ArgKind}
+use Rattle.helpers.specs.declared.columns.ArgKind.TheVariants.{HeldFreeze, Room as RoomOf}
 use Rattle.helpers.specs.declared.columns.Asks.{Asks}
 use Rattle.helpers.specs.declared.columns.Change.{Change}
 use Rattle.helpers.specs.declared.columns.Change.TheVariants as changes
@@ -38,7 +38,7 @@ use Rattle.check_register_kinds.specs.declared.freeze_name.FreezeName.{FreezeNam
 use Rattle.check_register_kinds.specs.declared.kind.Kind.{Kind}
 use Rattle.check_register_kinds.specs.declared.kind.Kind.TheVariants.{Unwritten, Number, Address, Freeze}
 use Rattle.check_description.specs.declared.saved.SavedRegisters.{SavedRegisters}
-use Rattle.check_helper_calls.specs.Arguments.{AllFit, AreArguments, FitsAny, MeetsNeed}
+use Rattle.check_helper_calls.specs.Arguments.{AllFit, AreArguments, ArgumentMatchesAny, MeetsNeed}
 use Rattle.check_helper_calls.specs.Calls.{CallFollows, CallIsNeverStuck, Changes, HoldsGiven, IsChange, IsLawfulCall, IsNamed, Obeys, Passes, after_call_kinds}
 use Rattle.check_description.specs.Description.{Describes, DescribesWith}
 use Rattle.check_register_kinds.specs.Freezes.{FreezeNumbers}
@@ -129,8 +129,8 @@ value_of numbers (Address region offsets) o written h = (h.0, h.1, (h.0, refl, h
 value_of numbers (Freeze name) o written h = (h.0, h.1, (h.0, refl, h.2))
 
 -- each argument is as asked
-meets_asked : (limits : HelperLimits) (d : Description) (numbers : FreezeNumbers) (callers : List SavedRegisters) (m : MachineState) (known : Known) (arguments : Arguments) (asked : Option Asked) (kind : Kind) (value : ℕ) → DescribesWith numbers callers d m → AreArguments numbers known arguments
-    → HoldsKind numbers kind (Some value) → FitsAny limits d known asked kind → meets limits m arguments asked value ≡ true
+meets_asked : (limits : HelperLimits) (d : Description) (numbers : FreezeNumbers) (callers : List SavedRegisters) (m : MachineState) (known : Known) (arguments : Arguments) (asked : Option ArgKind) (kind : Kind) (value : ℕ) → DescribesWith numbers callers d m → AreArguments numbers known arguments
+    → HoldsKind numbers kind (Some value) → ArgumentMatchesAny limits d known asked kind → meets limits m arguments asked value ≡ true
 meets_asked limits d numbers callers m known arguments (Some asked) kind value is are holds fits = fits numbers callers m arguments value is are holds
 meets_asked limits d numbers callers m known arguments None kind value is are holds fits = refl
 
@@ -207,14 +207,14 @@ first_written (Some first) (Some second) (Some third) arguments e =
     let made : Arguments = record { first = first; second = second; third = third } in
     ap (λ (a : Arguments). Some a.first) (some_same made arguments e)
 
-first_read : (m : MachineState) (helper : Helper) (arguments : Arguments) (asked : Asked) → arguments_at m helper ≡ Some arguments → (asks helper).first ≡ Some asked → register m R1 ≡ Some arguments.first
+first_read : (m : MachineState) (helper : Helper) (arguments : Arguments) (asked : ArgKind) → arguments_at m helper ≡ Some arguments → (asks helper).first ≡ Some asked → register m R1 ≡ Some arguments.first
 first_read m helper arguments asked at reads =
-    ap (λ (a : Option Asked). argument m a R1) (sym reads)
+    ap (λ (a : Option ArgKind). argument m a R1) (sym reads)
     ∙ first_written (argument m (asks helper).first R1) (argument m (asks helper).second R2) (argument m (asks helper).third R3) arguments at
 
 -- what the change rests on
 change_is : (name : FreezeName) (callers : List SavedRegisters) (row : Row) (change : Change) (m : MachineState) (arguments : Arguments) (answer : Answer) → Wants change row → (change ≡ changes.Holds → IsFresh name callers)
-    → ((asked : Asked) → row.asks.first ≡ Some asked → register m R1 ≡ Some arguments.first) → IsGiven m.held row.gives answer.r0 → IsWrittenBy change arguments answer.written → IsChange name callers change m arguments answer
+    → ((asked : ArgKind) → row.asks.first ≡ Some asked → register m R1 ≡ Some arguments.first) → IsGiven m.held row.gives answer.r0 → IsWrittenBy change arguments answer.written → IsChange name callers change m arguments answer
 change_is name callers row changes.Nothing m arguments answer wants fresh reads given written = tt
 change_is name callers row changes.Holds m arguments answer wants fresh reads given written = (fresh refl, subst (λ (g : Gives). IsGiven m.held g answer.r0) wants.0 given)
 change_is name callers row changes.GivesUp m arguments answer wants fresh reads given written = reads HeldFreeze wants.1

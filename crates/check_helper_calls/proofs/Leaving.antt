@@ -5,7 +5,7 @@ use Rattle.std.proofs.lemmas.List.{get_or-drop}
 use Rattle.bpf_insn.specs.declared.reg.Reg.{Reg}
 use Rattle.bpf_insn.specs.declared.reg.Reg.TheVariants.{R0, R1, R2, R3, R4, R5, R6, R7, R8, R9, R10}
 use Rattle.bpf_insn.specs.Reg.{number_of}
-use Rattle.helpers.specs.declared.columns.Asked.{Asked}
+use Rattle.helpers.specs.declared.columns.ArgKind.{ArgKind}
 use Rattle.helpers.specs.declared.columns.Change.{Change}
 use Rattle.helpers.specs.declared.columns.Change.TheVariants as changes
 use Rattle.helpers.specs.declared.table.Helper.{Helper}
@@ -108,12 +108,12 @@ may_change callers d name row known changes.Holds wants are shows may =
     let room = subst (MeetsNeed callers d name) wants.1 may in
     (room.0, room.1)
 may_change callers d name row known changes.GivesUp wants are shows may =
-    subst (IsSureFreeze d) (subst (λ (a : Option Asked). IsKnownOf a (kind_at d R1) known.first) wants.1 are.first)
-    (subst (λ (a : Option Asked). ShowsAny d a known.first) wants.1 shows)
+    subst (IsSureFreeze d) (subst (λ (a : Option ArgKind). IsKnownOf a (kind_at d R1) known.first) wants.1 are.first)
+    (subst (λ (a : Option ArgKind). ShowsAny d a known.first) wants.1 shows)
 may_change callers d name row known changes.Disposes wants are shows may = tt
 may_change callers d name row known (changes.Writes bytes) wants are shows may = (
-  subst (IsPlace d bytes) (subst (λ (a : Option Asked). IsKnownOf a (kind_at d R1) known.first) wants.1 are.first)
-      (subst (λ (a : Option Asked). ShowsAny d a known.first) wants.1 shows),
+  subst (IsPlace d bytes) (subst (λ (a : Option ArgKind). IsKnownOf a (kind_at d R1) known.first) wants.1 are.first)
+      (subst (λ (a : Option ArgKind). ShowsAny d a known.first) wants.1 shows),
   omega (arith, wants.2),
 )
 

@@ -4,7 +4,7 @@ use Rattle.std.specs.Prelude.{◌&&◌, is_some, nat_le}
 use Rattle.std.specs.Option.{option_and_then}
 use Rattle.std.proofs.lemmas.Bool.{and_parts, cond-true}
 use Rattle.bpf_stack_frame.specs.Frame.{all_written}
-use Rattle.helpers.specs.declared.columns.Asked.{Asked}
+use Rattle.helpers.specs.declared.columns.ArgKind.{ArgKind}
 use Rattle.helpers.specs.declared.columns.Tells.{Tells}
 use Rattle.helpers.specs.declared.columns.Tells.TheVariants as tells
 use Rattle.helpers.specs.declared.table.Helper.{Helper}
@@ -32,7 +32,7 @@ bytes_there limits m helper arguments tells.Bytes (first, second) rule =
     let parts = and_parts (meets_need m (row_of helper).needs) _ rule in
     let of_first = and_parts (meets limits m arguments (asks helper).first arguments.first) _ parts.1 in
     let of_second = and_parts (meets limits m arguments (asks helper).second arguments.second) _ of_first.1 in
-    let written = subst (λ (asked : Option Asked). meets limits m arguments asked arguments.first ≡ true) first of_first.0 in
-    let few = subst (λ (asked : Option Asked). meets limits m arguments asked arguments.second ≡ true) second of_second.0 in
+    let written = subst (λ (asked : Option ArgKind). meets limits m arguments asked arguments.first ≡ true) first of_first.0 in
+    let few = subst (λ (asked : Option ArgKind). meets limits m arguments asked arguments.second ≡ true) second of_second.0 in
     let there = some_there (option_and_then all_written (frame_bytes 0 m.frames arguments.first arguments.second)) written in
     (there.0, cond-true (nat_le 1 arguments.second && nat_le arguments.second 64) _ _ few ∙ there.1)

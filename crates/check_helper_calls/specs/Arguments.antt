@@ -1,8 +1,8 @@
 -- What is known of the arguments of a helper call, when each is sure to be as the helper asks, and when the call may pass.
 use Rattle.std.specs.Prelude.{◌≡◌, ℕ, ◌+◌, ◌<◌, ◌≤◌, true, false, List, length, Option, Some, None, slice_index_or}
 use Rattle.bpf_insn.specs.declared.reg.Reg.TheVariants.{R1, R2, R3}
-use Rattle.helpers.specs.declared.columns.Asked.{Asked}
-use Rattle.helpers.specs.declared.columns.Asked.TheVariants.{Queue, HeldFreeze, Within, Table, Index, Word, Room, Bytes}
+use Rattle.helpers.specs.declared.columns.ArgKind.{ArgKind}
+use Rattle.helpers.specs.declared.columns.ArgKind.TheVariants.{Queue, HeldFreeze, Within, Table, Index, Word, Room, Bytes}
 use Rattle.helpers.specs.declared.columns.Asks.{Asks}
 use Rattle.helpers.specs.declared.columns.Needs.{Needs}
 use Rattle.helpers.specs.declared.columns.Needs.TheVariants as needs
@@ -62,8 +62,8 @@ abbrev pub HasWords : List ℕ → Kind → ℕ → Type 0
 HasWords lengths table words = (numbers : FreezeNumbers) (number : ℕ) → HoldsKind numbers table (Some number) → words ≤ slice_index_or lengths number 0
 
 -- so many bytes lie in one live frame from the address on
-abbrev pub HasRoom : Description → Kind → ℕ → Type 0
-HasRoom d kind bytes = (numbers : FreezeNumbers) (callers : List SavedRegisters) (m : MachineState) (address : ℕ) → DescribesWith numbers callers d m → HoldsKind numbers kind (Some address) → has_room 0 m.frames address bytes ≡ true
+abbrev pub PointsToRoom : Description → Kind → ℕ → Type 0
+PointsToRoom d kind bytes = (numbers : FreezeNumbers) (callers : List SavedRegisters) (m : MachineState) (address : ℕ) → DescribesWith numbers callers d m → HoldsKind numbers kind (Some address) → has_room 0 m.frames address bytes ≡ true
 
 -- and are written, as many as a number says
 abbrev pub HasBytes : Description → Kind → Kind → Type 0
@@ -78,26 +78,26 @@ pub record AreArguments (numbers : FreezeNumbers) (known : Known) (arguments : A
   pub third : HoldsKind numbers known.third (Some arguments.third)
 
 -- an argument of that kind is as asked
-abbrev pub Fits : HelperLimits → Description → Known → Asked → Kind → Type 0
-Fits limits d known asked kind =
+abbrev pub ArgumentMatches : HelperLimits → Description → Known → ArgKind → Kind → Type 0
+ArgumentMatches limits d known asked kind =
     (numbers : FreezeNumbers) (callers : List SavedRegisters) (m : MachineState) (arguments : Arguments) (value : ℕ) → DescribesWith numbers callers d m → AreArguments numbers known arguments →
     HoldsKind numbers kind (Some value) → is_as_asked limits m arguments asked value ≡ true
 
-abbrev pub FitsAny : HelperLimits → Description → Known → Option Asked → Kind → Type 0
-FitsAny limits d known (Some asked) kind = Fits limits d known asked kind
-FitsAny limits d known None kind = Unit {0}
+abbrev pub ArgumentMatchesAny : HelperLimits → Description → Known → Option ArgKind → Kind → Type 0
+ArgumentMatchesAny limits d known (Some asked) kind = ArgumentMatches limits d known asked kind
+ArgumentMatchesAny limits d known None kind = Unit {0}
 
 -- all arguments are written, and as asked
 pub record AllFit (limits : HelperLimits) (d : Description) (asks : Asks) (known : Known) : Type 0 where
   pub first_written : IsWritten known.first
   pub second_written : IsWritten known.second
   pub third_written : IsWritten known.third
-  pub first : FitsAny limits d known asks.first known.first
-  pub second : FitsAny limits d known asks.second known.second
-  pub third : FitsAny limits d known asks.third known.third
+  pub first : ArgumentMatchesAny limits d known asks.first known.first
+  pub second : ArgumentMatchesAny limits d known asks.second known.second
+  pub third : ArgumentMatchesAny limits d known asks.third known.third
 
 -- what is known of an argument, where its register is known to be that
-abbrev pub IsKnownOf : Option Asked → Kind → Kind → Type 0
+abbrev pub IsKnownOf : Option ArgKind → Kind → Kind → Type 0
 IsKnownOf (Some asked) register kind = kind ≡ register
 IsKnownOf None register kind = IsWritten kind
 
@@ -107,18 +107,18 @@ pub record AreKnownOf (d : Description) (asks : Asks) (known : Known) : Type 0 w
   pub third : IsKnownOf asks.third (kind_at d R3) known.third
 
 -- what is enough for an argument of that kind to be as asked
-abbrev pub Suits : HelperLimits → Description → Known → Asked → Kind → Type 0
-Suits limits d known Queue kind = IsBelow limits.queues kind
-Suits limits d known HeldFreeze kind = IsSureFreeze d kind
-Suits limits d known (Within least most) kind = IsBetween least most kind
-Suits limits d known Table kind = IsBelow (length limits.table_lengths) kind
-Suits limits d known Index kind = (table : ℕ) × IsKnown table known.first × IsBelow (slice_index_or limits.table_lengths table 0) kind
-Suits limits d known Word kind = IsNumber kind
-Suits limits d known (Room bytes) kind = IsPlace d bytes kind
-Suits limits d known Bytes kind = AreToldBytes d kind known.second
+abbrev pub ArgumentIsChecked : HelperLimits → Description → Known → ArgKind → Kind → Type 0
+ArgumentIsChecked limits d known Queue kind = IsBelow limits.queues kind
+ArgumentIsChecked limits d known HeldFreeze kind = IsSureFreeze d kind
+ArgumentIsChecked limits d known (Within least most) kind = IsBetween least most kind
+ArgumentIsChecked limits d known Table kind = IsBelow (length limits.table_lengths) kind
+ArgumentIsChecked limits d known Index kind = (table : ℕ) × IsKnown table known.first × IsBelow (slice_index_or limits.table_lengths table 0) kind
+ArgumentIsChecked limits d known Word kind = IsNumber kind
+ArgumentIsChecked limits d known (Room bytes) kind = IsPlace d bytes kind
+ArgumentIsChecked limits d known Bytes kind = AreToldBytes d kind known.second
 
-abbrev pub SuitsAny : HelperLimits → Description → Known → Option Asked → Kind → Type 0
-SuitsAny limits d known (Some asked) kind = Suits limits d known asked kind
+abbrev pub SuitsAny : HelperLimits → Description → Known → Option ArgKind → Kind → Type 0
+SuitsAny limits d known (Some asked) kind = ArgumentIsChecked limits d known asked kind
 SuitsAny limits d known None kind = IsWritten kind
 
 pub record AllSuit (limits : HelperLimits) (d : Description) (asks : Asks) (known : Known) : Type 0 where
@@ -131,12 +131,12 @@ abbrev pub RegistersSuit : HelperLimits → Description → Asks → Type 0
 RegistersSuit limits d asks = (known : Known) → AreKnownOf d asks known → AllSuit limits d asks known
 
 -- what is known of an argument that is as asked
-abbrev pub Shows : Description → Asked → Kind → Type 0
+abbrev pub Shows : Description → ArgKind → Kind → Type 0
 Shows d HeldFreeze kind = IsSureFreeze d kind
 Shows d (Room bytes) kind = IsPlace d bytes kind
 Shows d asked kind = Unit {0}
 
-abbrev pub ShowsAny : Description → Option Asked → Kind → Type 0
+abbrev pub ShowsAny : Description → Option ArgKind → Kind → Type 0
 ShowsAny d (Some asked) kind = Shows d asked kind
 ShowsAny d None kind = Unit {0}
 

@@ -5,7 +5,7 @@ ghost use Rattle.std.specs.Prelude.{◌≡◌, ◌↔◌, ℕ, ◌+◌, ◌<◌,
 ghost use Rattle.bpf_insn.specs.declared.reg.Reg.TheVariants.{R1, R2, R3};
 ghost use Rattle.bpf_semantics.specs.Calls.{argument};
 ghost use Rattle.bpf_semantics.specs.MachineState.{MachineState};
-ghost use Rattle.check_helper_calls.specs.Arguments.{AllFit, AllSuit, AreKnownOf, AreToldBytes, Fits, FitsAny, HasBytes, HasRoom, HasWords, IsKnownOf, IsPlace, IsSureFreeze, IsWrittenPlace, Shows, ShowsAny, Suits, SuitsAny};
+ghost use Rattle.check_helper_calls.specs.Arguments.{AllFit, AllSuit, AreKnownOf, AreToldBytes, ArgumentMatches, ArgumentMatchesAny, HasBytes, PointsToRoom, HasWords, IsKnownOf, IsPlace, IsSureFreeze, IsWrittenPlace, Shows, ShowsAny, ArgumentIsChecked, SuitsAny};
 ghost use Rattle.check_description.specs.Description.{DescribesWith, kind_at};
 ghost use Rattle.check_description.specs.Spills.{AreUnspilled};
 ghost use Rattle.check_register_kinds.specs.declared.region.Region.TheVariants.{Frame};
@@ -15,8 +15,8 @@ ghost use Rattle.check_register_kinds.specs.Kinds.{HoldsKind, IsKnown};
 
 use bpf_insn::Reg;
 use check_description::Description;
-use helpers::{Asked, Asks, HelperLimits};
 use check_register_kinds::{Cause, Certainty, Kind, Offsets, Region};
+use helpers::{ArgKind, Asks, HelperLimits};
 use scalar_domain::Scalar;
 
 /// How many bytes a frame has.
@@ -45,7 +45,7 @@ pub(crate) fn arguments(description: &Description, asks: Asks) -> Known
 }
 
 // What is known of an argument; one that the helper does not take counts as 0.
-fn argument(description: &Description, asked: Option<Asked>, reg: Reg) -> Kind
+fn argument(description: &Description, asked: Option<ArgKind>, reg: Reg) -> Kind
     ensures holds { (numbers : FreezeNumbers) (callers : List SavedRegisters) (m : MachineState) → DescribesWith numbers callers description.now m → HoldsKind numbers result (argument m asked reg) }
     ensures known { IsKnownOf asked (kind_at description.now reg) result }
 {
@@ -84,10 +84,10 @@ fn check_any(
     description: &Description,
     limits: &HelperLimits,
     known: &Known,
-    asked: Option<Asked>,
+    asked: Option<ArgKind>,
     kind: Kind,
 ) -> Result<(), Cause>
-    ensures fits { IfOk result (λ _. FitsAny limits.now description.now known.now asked kind) }
+    ensures fits { IfOk result (λ _. ArgumentMatchesAny limits.now description.now known.now asked kind) }
     ensures shows { IfOk result (λ _. ShowsAny description.now asked kind) }
     ensures suits { SuitsAny limits.now description.now known.now asked kind → IsOk result }
 {
@@ -102,16 +102,16 @@ fn check_argument(
     description: &Description,
     limits: &HelperLimits,
     known: &Known,
-    asked: Asked,
+    asked: ArgKind,
     kind: Kind,
 ) -> Result<(), Cause>
-    ensures fits { IfOk result (λ _. Fits limits.now description.now known.now asked kind) }
+    ensures fits { IfOk result (λ _. ArgumentMatches limits.now description.now known.now asked kind) }
     ensures shows { IfOk result (λ _. Shows description.now asked kind) }
-    ensures suits { Suits limits.now description.now known.now asked kind → IsOk result }
+    ensures suits { ArgumentIsChecked limits.now description.now known.now asked kind → IsOk result }
 {
     match asked {
-        Asked::Bytes => check_bytes(description, kind, known.second),
-        Asked::Word if !kind.is_number() => Err(Cause::AddressStored),
+        ArgKind::Bytes => check_bytes(description, kind, known.second),
+        ArgKind::Word if !kind.is_number() => Err(Cause::AddressStored),
         _ => told(is_fit(description, limits, known, asked, kind)),
     }
 }
@@ -121,22 +121,22 @@ fn is_fit(
     description: &Description,
     limits: &HelperLimits,
     known: &Known,
-    asked: Asked,
+    asked: ArgKind,
     kind: Kind,
 ) -> bool
-    ensures fits { IsTrue result → Fits limits.now description.now known.now asked kind }
+    ensures fits { IsTrue result → ArgumentMatches limits.now description.now known.now asked kind }
     ensures shows { IsTrue result → Shows description.now asked kind }
-    ensures suits { (asked ≡ Asked.Bytes → ⊥) → Suits limits.now description.now known.now asked kind → IsTrue result }
+    ensures suits { (asked ≡ ArgKind.Bytes → ⊥) → ArgumentIsChecked limits.now description.now known.now asked kind → IsTrue result }
 {
     match asked {
-        Asked::Queue => kind.lies_below(u64::from(limits.queues)),
-        Asked::HeldFreeze => is_sure_freeze(description, kind),
-        Asked::Within { least, most } => kind.lies_within(least, most),
-        Asked::Table => kind.lies_below(limits.table_lengths.as_slice().len() as u64),
-        Asked::Index => kind.lies_below(words_of(limits.table_lengths.as_slice(), known.first)),
-        Asked::Word => kind.is_number(),
-        Asked::Room { bytes } => has_room(description, kind, bytes),
-        Asked::Bytes => false,
+        ArgKind::Queue => kind.lies_below(u64::from(limits.queues)),
+        ArgKind::HeldFreeze => is_sure_freeze(description, kind),
+        ArgKind::Within { least, most } => kind.lies_within(least, most),
+        ArgKind::Table => kind.lies_below(limits.table_lengths.as_slice().len() as u64),
+        ArgKind::Index => kind.lies_below(words_of(limits.table_lengths.as_slice(), known.first)),
+        ArgKind::Word => kind.is_number(),
+        ArgKind::Room { bytes } => has_room(description, kind, bytes),
+        ArgKind::Bytes => false,
     }
 }
 
@@ -152,7 +152,7 @@ fn is_sure_freeze(description: &Description, kind: Kind) -> bool
 
 // Whether so many bytes lie in one live frame, wherever the address is.
 fn has_room(description: &Description, kind: Kind, bytes: u64) -> bool
-    ensures room { IsTrue result → HasRoom description.now kind bytes }
+    ensures room { IsTrue result → PointsToRoom description.now kind bytes }
     ensures place { IsTrue result ↔ IsPlace description.now bytes kind }
 {
     match kind {
@@ -163,7 +163,7 @@ fn has_room(description: &Description, kind: Kind, bytes: u64) -> bool
 
 // Whether so many bytes lie in one live frame, wherever in its region an address is.
 fn region_has_room(description: &Description, region: Region, offsets: Offsets, bytes: u64) -> bool
-    ensures room { IsTrue result → HasRoom description.now (Kind.Address region offsets) bytes }
+    ensures room { IsTrue result → PointsToRoom description.now (Kind.Address region offsets) bytes }
     ensures place { IsTrue result ↔ IsPlace description.now bytes (Kind.Address region offsets) }
 {
     match region {

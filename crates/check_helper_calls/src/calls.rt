@@ -22,8 +22,10 @@ use crate::saved::is_saved;
 use bpf_insn::Reg;
 use bpf_semantics::MAX_HELD;
 use check_description::{Description, SavedRegisters};
+use check_register_kinds::{
+    Cause, Certainty, FreezeName, GREATEST_FREEZE, HeldFreeze, Kind, Region,
+};
 use helpers::{Change, Gives, Helper, HelperLimits, Needs};
-use check_register_kinds::{Cause, Certainty, FreezeName, GREATEST_FREEZE, HeldFreeze, Kind, Region};
 use scalar_domain::Scalar;
 
 /// Calls the helper of that number under these limits, where these functions wait. A freeze that it takes is named by

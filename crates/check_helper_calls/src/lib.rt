@@ -7,4 +7,4 @@ mod arguments;
 mod calls;
 mod saved;
 
-pub use world_calls::call;
+pub use calls::call;

@@ -23,7 +23,7 @@ use Rattle.bpf_semantics.specs.MachineState.{MachineState, OpenCall, frame_point
 use Rattle.bpf_semantics.specs.Step.{does, entered, has_frame_left, returned}
 use Rattle.bpf_semantics.specs.Stuck.{exit_is_stuck}
 use Rattle.helpers.specs.declared.limits.HelperLimits.{HelperLimits}
-use Rattle.stack_domain.specs.Stack.{Covers as CoversFrames, IsWritten, Knows}
+use Rattle.stack_domain.specs.Stack.{MarksCover as CoversFrames, IsWritten, Knows}
 use Rattle.check_description.specs.declared.description.Description.{Description}
 use Rattle.check_register_kinds.specs.declared.region.Region.TheVariants.{Frame}
 use Rattle.check_description.specs.declared.saved.SavedRegister.{SavedRegister}
@@ -317,7 +317,7 @@ left_described d registers stack spills r0 pointer kept saved frame are is_point
     let frames = take (length m.frames - 1) m.frames in
     let last = has_last m.frames (omega (arith, count)) in
     let words = left_words m.registers call.saved (frame_pointer (length inner.rest)) in
-    let next : MachineState = record m { place = call.return_place; registers = words; frames = frames; open_calls = inner.rest } in
+    let next : MachineState = record m { pc = call.return_pc; registers = words; frames = frames; open_calls = inner.rest } in
     let there : next ≡ m' = some_same next m' (sym (ap (returned m) inner.are) ∙ step) in
     let where_is : frame ≡ length inner.rest = omega (arith, live, count, is.frames.depth) in
     let here : HoldsKind numbers pointer (Some (frame_pointer (length inner.rest))) =

@@ -5,4 +5,4 @@
 mod local_calls;
 mod saved;
 
-pub use check_local_calls::{enter, leave};
+pub use local_calls::{enter, leave};

@@ -16,9 +16,9 @@ ghost use Rattle.check_description.specs.OpenCalls.{AreSaved};
 
 use crate::saved::{at_call, given_back};
 use bpf_insn::Reg;
+use bpf_stack_frame::MAX_FRAMES;
 use check_description::{Description, SavedRegister, SavedRegisters};
 use check_register_kinds::{Kind, Offsets, Region};
-use bpf_stack_frame::MAX_FRAMES;
 
 /// At the start of a local function that is called where this is known; what is known of the caller's R6 to R9 is
 /// answered. R1 to R5 are the arguments, R0 and R6 to R9 are unwritten, R10 is the new frame's pointer, and no byte of

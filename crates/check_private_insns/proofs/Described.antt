@@ -6,7 +6,7 @@ use Rattle.std.proofs.lemmas.Grind.{get_or-set_at}
 use Rattle.bpf_insn.specs.declared.reg.Reg.{Reg}
 use Rattle.bpf_insn.specs.Reg.{number_of}
 use Rattle.bpf_semantics.specs.MachineState.{MachineState, moved_to, register, with_register}
-use Rattle.stack_domain.specs.Stack.{Covers as CoversFrames}
+use Rattle.stack_domain.specs.Stack.{MarksCover as CoversFrames}
 use Rattle.check_description.specs.declared.description.Description.{Description}
 use Rattle.check_register_kinds.specs.declared.held.HeldFreeze.{HeldFreeze}
 use Rattle.check_register_kinds.specs.declared.kind.Kind.{Kind}

@@ -77,7 +77,7 @@ extend_goes d there extension dst src kind means is_set only = record {
 pub constant_goes : (d there : Description) (dst : Reg) (value : ℕ) → ((numbers : FreezeNumbers) → HoldsKind numbers (kind_at there dst) (Some value)) → ChangesOnly dst d there → GoesOn (LoadImmediate dst value) d there
 constant_goes d there dst value holds only = record {
   unstuck = λ limits callers m is. refl;
-  follows = goes_by (LoadImmediate dst value) FallThrough d there (λ m. refl) (λ numbers callers m is. (_, refl, set_described numbers callers d there m dst value (m.place + 2) only (holds numbers) is));
+  follows = goes_by (LoadImmediate dst value) FallThrough d there (λ m. refl) (λ numbers callers m is. (_, refl, set_described numbers callers d there m dst value (m.pc + 2) only (holds numbers) is));
 }
 
 pub load_goes : (d there : Description) (form : LoadForm) (dst src : Reg) (offset : ℤ) (kind : Kind) → Loads d form src offset kind → kind_at there dst ≡ kind → ChangesOnly dst d there → GoesOn (Load form dst src offset) d there
@@ -85,7 +85,7 @@ load_goes d there form dst src offset kind loads is_set only = record {
   unstuck = λ limits callers m (numbers, is). let word = loads numbers callers m is in ap (load_is_stuck m form) word.lies ∙ ap not (word_read (load_width form) m word.address word.word word.is);
   follows = goes_by (Load form dst src offset) FallThrough d there (λ m. refl) (λ numbers callers m is.
       let word = loads numbers callers m is in
-      (_, ap (load m form dst) word.lies ∙ ap (option_map (λ n. moved_to (with_register m dst (loaded form n)) (m.place + 1))) word.is, set_described numbers callers d there m dst _ _ only (rw is_set word.holds) is));
+      (_, ap (load m form dst) word.lies ∙ ap (option_map (λ n. moved_to (with_register m dst (loaded form n)) (m.pc + 1))) word.is, set_described numbers callers d there m dst _ _ only (rw is_set word.holds) is));
 }
 
 pub store_goes : {X E : Type 0} (r : Result X E) (d there : Description) (size : StoreSize) (dst : Reg) (src : Operand) (offset : ℤ) (kind : Kind) → ((numbers : FreezeNumbers) (callers : List SavedRegisters) (m : MachineState) → DescribesWith numbers callers d m → HoldsKind numbers kind (operand m src)) → IfOk r (λ _. Stores d size dst offset kind there) → IfOk r (λ _. GoesOn (Store size dst src offset) d there)
@@ -100,7 +100,7 @@ store_goes (Ok done) d there size dst src offset kind holds stores =
           let word = has numbers callers m is in (
             _,
             ap (λ a. store m size a (operand m src)) word.lies
-                ∙ (ap (store m size (Some word.address)) word.is ∙ ap (option_map (λ next. moved_to next (m.place + 1))) word.does),
-            moved_described numbers callers there word.with_word (m.place + 1) word.describes,
+                ∙ (ap (store m size (Some word.address)) word.is ∙ ap (option_map (λ next. moved_to next (m.pc + 1))) word.does),
+            moved_described numbers callers there word.with_word (m.pc + 1) word.describes,
           ));
     }

@@ -20,7 +20,7 @@ use Rattle.check_register_kinds.specs.Freezes.{FreezeNumbers}
 use Rattle.check_register_kinds.specs.declared.access.Access.{Access}
 use Rattle.check_description.specs.declared.description.Description.{Description}
 use Rattle.check_description.specs.Description.{kind_at}
-use Rattle.check_private_insns.specs.Memory.{AreThere, Gives, IsLoaded, Loads, Reads}
+use Rattle.check_private_insns.specs.Memory.{AreThere, LoadGives, IsLoaded, Loads, AccessReads}
 use Rattle.check_private_insns.proofs.Storing.{Reaches}
 use Rattle.check_description.proofs.ByteNumbers.{number_below}
 
@@ -53,7 +53,7 @@ spill_given numbers m frame address word offsets kind lies holds is =
 
 -- what is known of the word is known of what the load gives
 pub loads_ok : {E : Type 0} (r : Result Kind E) (d : Description) (form : LoadForm) (src : Reg) (offset : ℤ) (base : Kind) (access : Access) (bytes : ℕ) → base ≡ kind_at d src → Reaches base offset access.region access.offsets → bytes ≡ byte_len (load_width form)
-    → Reads d access bytes → IfOk r (Gives d form access.region access.offsets) → IfOk r (Loads d form src offset)
+    → AccessReads d access bytes → IfOk r (LoadGives d form access.region access.offsets) → IfOk r (Loads d form src offset)
 loads_ok (Ok kind) d form src offset base access bytes of_src reaches all reads gives = λ numbers callers m is.
     let at = subst (λ (k : Kind). Reaches k offset access.region access.offsets) of_src reaches numbers (register m src) (is.registers src) in
     let there = subst (AreThere m (address_at at.0 offset)) all (reads numbers callers m (address_at at.0 offset) is at.2) in

@@ -6,7 +6,7 @@ use Rattle.bpf_semantics.specs.MachineState.{context_address, MachineState}
 use Rattle.bpf_semantics.specs.Frames.{frame_start}
 use Rattle.bpf_semantics.specs.Memory.{in_context}
 use Rattle.std.proofs.lemmas.List.{length-take}
-use Rattle.stack_domain.specs.Stack.{Covers as CoversFrames, AreWritten}
+use Rattle.stack_domain.specs.Stack.{MarksCover as CoversFrames, AreWritten}
 use Rattle.check_description.specs.declared.description.Description.{Description}
 use Rattle.check_register_kinds.specs.declared.region.Offsets.{Offsets}
 use Rattle.check_register_kinds.specs.declared.region.Region.TheVariants.{Context, Frame}

@@ -21,7 +21,7 @@ use Rattle.check_register_kinds.specs.Kinds.{IsAt, HoldsKind, IsNumber, IsWritte
 use Rattle.check_description.specs.Memory.{AreKnown, AreWritten, LeavesMarked, Writes, WritesWord}
 use Rattle.check_private_insns.specs.Enough.{LeavesStored, LiesInFrame}
 use Rattle.check_register_kinds.specs.Freezes.{FreezeNumbers}
-use Rattle.check_private_insns.specs.Memory.{Puts, Stores}
+use Rattle.check_private_insns.specs.Memory.{StoreLeaves, Stores}
 use Rattle.check_description.proofs.ByteNumbers.{bytes_below, length-low_bytes}
 use Rattle.check_description.proofs.FramePlaces.{frame_is}
 
@@ -36,18 +36,18 @@ word_of numbers (Address region offsets) o written h = (h.0, h.1)
 word_of numbers (Freeze name) o written h = (h.0, h.1)
 
 -- the bytes of a word are bytes
-pub puts_bytes : (d there : Description) (frame count : ℕ) (offsets : Offsets) (kind : Kind) → Writes d frame offsets count there → Puts d frame offsets count kind there
+pub puts_bytes : (d there : Description) (frame count : ℕ) (offsets : Offsets) (kind : Kind) → Writes d frame offsets count there → StoreLeaves d frame offsets count kind there
 puts_bytes d there frame count offsets kind writes = λ numbers callers m address word is lies holds.
     writes numbers callers m address (little_bytes count word) is lies (length-low_bytes 0 count word) (bytes_below 0 count word)
 
 -- and a spill is written at one offset
-pub puts_word : (d there : Description) (frame word : ℕ) (offsets : Offsets) (kind : Kind) → offsets.least ≡ 8 * word → offsets.most ≡ 8 * word → WritesWord d frame (8 * word) kind there → Puts d frame offsets 8 kind there
+pub puts_word : (d there : Description) (frame word : ℕ) (offsets : Offsets) (kind : Kind) → offsets.least ≡ 8 * word → offsets.most ≡ 8 * word → WritesWord d frame (8 * word) kind there → StoreLeaves d frame offsets 8 kind there
 puts_word d there frame word offsets kind least most writes = λ numbers callers m address value is lies holds.
     let at : frame_start frame + 8 * word ≡ address = omega (arith, lies.1, lies.2, lies.3, least, most) in
     subst (λ (a : ℕ). AreWritten numbers callers m a (little_bytes 8 value) there) at (writes numbers callers m value is holds)
 
 stores : (d there : Description) (size : StoreSize) (dst : Reg) (offset : ℤ) (word : Kind) (frame : ℕ) (offsets : Offsets) → Reaches (kind_at d dst) offset (Frame frame) offsets
-    → Puts d frame offsets (byte_len (store_width size)) word there → IsWritten word → Stores d size dst offset word there
+    → StoreLeaves d frame offsets (byte_len (store_width size)) word there → IsWritten word → Stores d size dst offset word there
 stores d there size dst offset kind frame offsets reaches puts written numbers callers m stored is holds =
     let at = reaches numbers (register m dst) (is.registers dst) in
     let word = word_of numbers kind stored written holds in
@@ -63,12 +63,12 @@ stores d there size dst offset kind frame offsets reaches puts written numbers c
     }
 
 pub stores_ok : {E : Type 0} (r : Result (Unit {0}) E) (d there : Description) (size : StoreSize) (dst : Reg) (offset : ℤ) (word base : Kind) (region : Region) (offsets : Offsets) → base ≡ kind_at d dst
-    → Reaches base offset region offsets → (count : ℕ) → count ≡ byte_len (store_width size) → IfOk r (λ x. (frame : ℕ) × (region ≡ Frame frame) × Puts d frame offsets count word there) → IsWritten word
+    → Reaches base offset region offsets → (count : ℕ) → count ≡ byte_len (store_width size) → IfOk r (λ x. (frame : ℕ) × (region ≡ Frame frame) × StoreLeaves d frame offsets count word there) → IsWritten word
     → IfOk r (λ x. Stores d size dst offset word there)
 stores_ok (Ok x) d there size dst offset word base region offsets of_dst reaches count same (frame, in_frame, puts) written =
     stores d there size dst offset word frame offsets
     (subst (λ (k : Kind). Reaches k offset (Frame frame) offsets) of_dst (subst (λ (g : Region). Reaches base offset g offsets) in_frame reaches))
-    (subst (λ (n : ℕ). Puts d frame offsets n word there) same puts) written
+    (subst (λ (n : ℕ). StoreLeaves d frame offsets n word there) same puts) written
 stores_ok (Err cause) d there size dst offset word base region offsets of_dst reaches count same puts written = tt
 
 same_address : (f g a b : ℕ) → Address (Frame f) (record { least = a; most = a }) ≡ Address (Frame g) (record { least = b; most = b }) → (f ≡ g) × (a ≡ b)

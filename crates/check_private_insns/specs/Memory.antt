@@ -26,15 +26,15 @@ pub record AreThere (m : MachineState) (address bytes : ℕ) : Type 0 where
   pub each : All (λ byte. byte < 256) found
 
 -- wherever in its region an access begins
-abbrev pub Reads : Description → Access → ℕ → Type 0
-Reads d access bytes = (numbers : FreezeNumbers) (callers : List SavedRegisters) (m : MachineState) (address : ℕ) → DescribesWith numbers callers d m → LiesAt access.region access.offsets address → AreThere m address bytes
+abbrev pub AccessReads : Description → Access → ℕ → Type 0
+AccessReads d access bytes = (numbers : FreezeNumbers) (callers : List SavedRegisters) (m : MachineState) (address : ℕ) → DescribesWith numbers callers d m → LiesAt access.region access.offsets address → AreThere m address bytes
 
 abbrev pub ReadsFrame : Description → ℕ → Offsets → ℕ → Type 0
 ReadsFrame d frame offsets bytes = (numbers : FreezeNumbers) (callers : List SavedRegisters) (m : MachineState) (address : ℕ) → DescribesWith numbers callers d m → LiesAt (Frame frame) offsets address → AreThere m address bytes
 
 -- the kind holds of what the load makes of the word that stands there
-abbrev pub Gives : Description → LoadForm → Region → Offsets → Kind → Type 0
-Gives d form region offsets kind =
+abbrev pub LoadGives : Description → LoadForm → Region → Offsets → Kind → Type 0
+LoadGives d form region offsets kind =
     (numbers : FreezeNumbers) (callers : List SavedRegisters) (m : MachineState) (address word : ℕ) → DescribesWith numbers callers d m → LiesAt region offsets address →
     word_from (load_width form) m address ≡ Some word → word < 256 ^ byte_len (load_width form) → HoldsKind numbers kind (Some (loaded form word))
 
@@ -50,8 +50,8 @@ abbrev pub Loads : Description → LoadForm → Reg → ℤ → Kind → Type 0
 Loads d form src offset kind = (numbers : FreezeNumbers) (callers : List SavedRegisters) (m : MachineState) → DescribesWith numbers callers d m → IsLoaded numbers m form src offset kind
 
 -- a word of that kind, wherever in the frame its bytes begin
-abbrev pub Puts : Description → ℕ → Offsets → ℕ → Kind → Description → Type 0
-Puts d frame offsets count kind there =
+abbrev pub StoreLeaves : Description → ℕ → Offsets → ℕ → Kind → Description → Type 0
+StoreLeaves d frame offsets count kind there =
     (numbers : FreezeNumbers) (callers : List SavedRegisters) (m : MachineState) (address word : ℕ) → DescribesWith numbers callers d m → LiesAt (Frame frame) offsets address → HoldsKind numbers kind (Some word) →
     AreWritten numbers callers m address (little_bytes count word) there
 

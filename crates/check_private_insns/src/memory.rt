@@ -10,7 +10,7 @@ ghost use Rattle.check_description.specs.Memory.{AreKnown, LeavesMarked};
 ghost use Rattle.check_description.specs.Spills.{AreUnspilled};
 ghost use Rattle.check_private_insns.specs.Enough.{LeavesStored, LiesInContext, LiesInFrame, LiesWritten};
 ghost use Rattle.check_register_kinds.specs.Kinds.{IsNumber, size_of};
-ghost use Rattle.check_private_insns.specs.Memory.{Gives, Loads, Puts, Reads, ReadsFrame, Stores};
+ghost use Rattle.check_private_insns.specs.Memory.{LoadGives, Loads, StoreLeaves, AccessReads, ReadsFrame, Stores};
 
 use base::OrMemory;
 use bpf_insn::{LoadForm, Reg, SignExtension, StoreSize};
@@ -50,7 +50,7 @@ fn given(
     requires inside { access.offsets.most + bytes ≤ size_of access.region }
     requires live { (frame : ℕ) → access.region ≡ Frame frame → frame < length description.now.stack }
     requires all { bytes ≡ byte_len (load_width form) }
-    ensures gives { IfOk result (Gives description.now form access.region access.offsets) }
+    ensures gives { IfOk result (LoadGives description.now form access.region access.offsets) }
     ensures context { access.region ≡ Context → IsOkAnd result IsNumber }
     ensures frame { (frame from : ℕ) → access.region ≡ Frame frame → access.offsets ≡ record { least = from; most = from } → AreUnspilled description.now.spills frame from (from + bytes) → IsOkAnd result IsNumber }
 {
@@ -71,7 +71,7 @@ fn given_in(
     requires inside { offsets.most + bytes ≤ 512 }
     requires live { frame < length description.now.stack }
     requires all { bytes ≡ byte_len (load_width form) }
-    ensures gives { IfOk result (Gives description.now form (Frame frame) offsets) }
+    ensures gives { IfOk result (LoadGives description.now form (Frame frame) offsets) }
     ensures unspilled { AreUnspilled description.now.spills frame offsets.least (offsets.most + bytes) → IsOkAnd result IsNumber }
     ensures spilled { (AreUnspilled description.now.spills frame offsets.least (offsets.most + bytes) → ⊥) → IfOk result (λ kind. IsNumber kind → ⊥) }
 {
@@ -88,7 +88,7 @@ fn given_in(
 fn reloaded(description: &Description, frame: u8, offsets: Offsets) -> Result<Kind, Cause>
     requires inside { offsets.most + 8 ≤ 512 }
     requires live { frame < length description.now.stack }
-    ensures gives { IfOk result (Gives description.now LoadForm.DoubleWord (Frame frame) offsets) }
+    ensures gives { IfOk result (LoadGives description.now LoadForm.DoubleWord (Frame frame) offsets) }
     ensures no_number { IfOk result (λ kind. IsNumber kind → ⊥) }
 {
     let kind = description.spilled(frame, offsets);
@@ -102,7 +102,7 @@ fn reloaded(description: &Description, frame: u8, offsets: Offsets) -> Result<Ki
 // Whether the bytes of a load are written.
 fn check_read(description: &Description, access: Access, bytes: u16) -> Result<(), Cause>
     requires inside { access.offsets.most + bytes ≤ size_of access.region }
-    ensures reads { IfOk result (λ _. Reads description.now access bytes) }
+    ensures reads { IfOk result (λ _. AccessReads description.now access bytes) }
     ensures live { IfOk result (λ _. (frame : ℕ) → access.region ≡ Frame frame → frame < length description.now.stack) }
     ensures context { access.region ≡ Context → IsOk result }
     ensures frame { (frame from : ℕ) → access.region ≡ Frame frame → access.offsets ≡ record { least = from; most = from } → frame < length description.now.stack → AreKnown description.now frame from bytes → IsOk result }
@@ -177,7 +177,7 @@ fn store_at(
 ) -> Result<(), OrMemory<Cause>>
     requires inside { access.offsets.most + bytes ≤ size_of access.region }
     requires few { bytes ≤ 8 }
-    ensures puts { IfOk result (λ _. (frame : ℕ) × (access.region ≡ Frame frame) × Puts description.old frame access.offsets bytes word description.new) }
+    ensures puts { IfOk result (λ _. (frame : ℕ) × (access.region ≡ Frame frame) × StoreLeaves description.old frame access.offsets bytes word description.new) }
     ensures leaves { (frame from : ℕ) → access.region ≡ Frame frame → IsNumber word → access.offsets ≡ record { least = from; most = from } → frame < length description.old.stack → IsOkAnd result (λ _. LeavesMarked description.old frame from bytes description.new) }
     ensures depth { IfOk result (λ _. length description.new.stack ≡ length description.old.stack) }
 {
@@ -197,7 +197,7 @@ fn store_in(
 ) -> Result<(), OrMemory<Cause>>
     requires inside { offsets.most + bytes ≤ 512 }
     requires few { bytes ≤ 8 }
-    ensures puts { IfOk result (λ _. Puts description.old frame offsets bytes word description.new) }
+    ensures puts { IfOk result (λ _. StoreLeaves description.old frame offsets bytes word description.new) }
     ensures leaves { (from : ℕ) → IsNumber word → offsets ≡ record { least = from; most = from } → frame < length description.old.stack → IsOkAnd result (λ _. LeavesMarked description.old frame from bytes description.new) }
     ensures depth { IfOk result (λ _. length description.new.stack ≡ length description.old.stack) }
 {
@@ -221,7 +221,7 @@ fn spill(
 ) -> Result<(), OrMemory<Cause>>
     requires live { frame < length description.old.stack }
     requires inside { offsets.most + bytes ≤ 512 }
-    ensures puts { IfOk result (λ _. Puts description.old frame offsets bytes word description.new) }
+    ensures puts { IfOk result (λ _. StoreLeaves description.old frame offsets bytes word description.new) }
     ensures depth { IfOk result (λ _. length description.new.stack ≡ length description.old.stack) }
 {
     if bytes == 8 && offsets.least == offsets.most && offsets.least.is_multiple_of(8) {

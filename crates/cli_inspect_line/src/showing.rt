@@ -11,9 +11,9 @@ use crate::plans::Plan;
 use clap::error::ErrorKind;
 use clap::{ArgMatches, Error};
 use cli_line::{is_true, show_command};
-use std::alloc::{AllocError, Global};
 use cli_text_page::ForeignText;
 use show_events::Filter;
+use std::alloc::{AllocError, Global};
 
 /// The greatest number of a queue.
 const LAST_QUEUE: u64 = 63;

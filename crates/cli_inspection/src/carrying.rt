@@ -7,11 +7,11 @@ ghost use Rattle.cli_inspection.specs.Shown.{IsAccepted, IsAsAsked, IsFaulty, Is
 
 use crate::explaining::print_explanation;
 use crate::tracing::{Told, print_traced};
-use world_calls::Notices;
 use cli_commands::status;
 use cli_inspect_line::Plan;
 use std::alloc::Global;
 use std::io::Write;
+use world_calls::Notices;
 
 /// Carries a plan out over the bytes of its input files, in the order of the line, and answers the status: 0 done; 1 refused, or
 /// explained why; 2 for a file that is to be text and is not UTF-8, for want of memory, or if a writer fails. What is to go out is

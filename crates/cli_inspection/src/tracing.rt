@@ -5,17 +5,17 @@ ghost use Rattle.std.specs.Prelude.{◌≡◌, ◌≤◌, Contains, Some, IsUtf8
 ghost use Rattle.cli_inspect_line.specs.Files.{input_paths};
 ghost use Rattle.cli_commands.specs.Told.{IsAcceptedTrace, IsManifest, IsRejectedTrace};
 
-use world_calls::{Notices, Trace};
 use cli_commands::{replayed, status};
 use cli_inspect_line::Plan;
 use manifest::{Manifest, NamedProgram};
-use std::alloc::{AllocError, Global};
-use std::io;
-use std::io::Write;
 use show_account::account;
 use show_events::{Filter, NamedAccepted};
 use show_picture::draw;
 use show_summary::summarise;
+use std::alloc::{AllocError, Global};
+use std::io;
+use std::io::Write;
+use world_calls::{Notices, Trace};
 
 /// What is shown of a trace that is accepted.
 #[derive(Clone, Copy)]

@@ -16,8 +16,8 @@ use crate::plans::{MAX_WORKERS, MIN_WORKERS, Plan, Watch};
 use crate::usage::{camr_command, run_command};
 use clap::error::ErrorKind;
 use clap::{ArgMatches, Error};
-use std::alloc::{AllocError, Global};
 use cli_text_page::{ForeignText, escaped};
+use std::alloc::{AllocError, Global};
 
 /// Why the words are no plan: a mistake in them, or a request for help. Its text is for the user, and
 /// `exit_code` is the status to end with.

@@ -9,10 +9,10 @@ use Rattle.engine_runs.specs.RunsState.{RunsState}
 use Rattle.world_calls.specs.declared.record.Record.{Record}
 use Rattle.world.specs.World.{Transport, Setup, LiveRun, World, queue_setup}
 use Rattle.engine_core.specs.declared.event.Event.{Event}
-use Rattle.engine_core.specs.declared.event.Event.TheVariants.{Submit, Dispatch, Complete, Advance, Clock, GuestFreeze, GuestRelease, Park, Resume}
+use Rattle.engine_core.specs.declared.event.Event.TheVariants.{Advance, GuestRelease, Park}
 use Rattle.engine_core.specs.declared.reply.Reply.{Reply}
-use Rattle.engine_core.specs.declared.reply.Reply.TheVariants.{Given, Refused, Unfit, OutOfMemory}
-use Rattle.engine_core.specs.Invariant.{HasRoom, KeepsEngine}
+use Rattle.engine_core.specs.declared.reply.Reply.TheVariants.{Success, Refused, NotAdmitted, OutOfMemory}
+use Rattle.engine_core.specs.Invariant.{HistoryHasRoom, KeepsEngine}
 use Rattle.engine_core.specs.Performing.{FitsAt, IsRoomFor, LeavesRoom, Performs, world_with}
 use Rattle.engine_core.specs.RunState.{StoppedState}
 use Rattle.engine_core.specs.Replies.{IsFit, IsOfKnown, IsUnfit, ToldFit, owns, record_of}
@@ -38,15 +38,10 @@ unless_err (Err fault) fact failed holds = absurd (let bad : true ≡ false = fa
 
 -- what owns nothing fits always
 pub unfit_owns : (event : Event) (world : World) → IsUnfit world event → owns event ≡ true
-unfit_owns (Submit queue priority retries) world unfit = absurd (unfit tt)
-unfit_owns (Dispatch queue) world unfit = absurd (unfit tt)
-unfit_owns (Complete completion) world unfit = absurd (unfit tt)
 unfit_owns (Advance run) world unfit = refl
-unfit_owns (Clock reading) world unfit = absurd (unfit tt)
-unfit_owns (GuestFreeze place guest) world unfit = absurd (unfit tt)
 unfit_owns (GuestRelease token) world unfit = refl
 unfit_owns (Park run) world unfit = refl
-unfit_owns (Resume run) world unfit = absurd (unfit tt)
+unfit_owns event world unfit = absurd (unfit tt)
 
 -- a queue's program is that of each live run of this queue
 pub knows_program : (setup : Setup) (history : List Record) (transport : Transport) (runs : RunsState) (run : StoppedState) (known : Option QueueId) → KeepsEngine setup history transport runs → IsOfKnown setup (Advance run) known → KnowsProgram runs.runs.list run.number run.segment.program.program known
@@ -56,51 +51,32 @@ knows_program setup history transport runs run (Some queue) kept of = λ it foun
 
 -- what was found fits
 pub fit_at : (event : Event) (place : ℕ) (transport : Transport) (runs : RunsState) (world : World) → FitsAt place transport runs event → IsFit (world_with transport runs world) event
-fit_at (Submit queue priority retries) place transport runs world fit = tt
-fit_at (Dispatch queue) place transport runs world fit = tt
-fit_at (Complete completion) place transport runs world fit = tt
 fit_at (Advance run) place transport runs world fit = record { it = fit.0.it; found = fit.0.found; out = fit.0.recorded.0; program_is = sym fit.0.recorded.1; machine_is = sym fit.0.recorded.2 }
-fit_at (Clock reading) place transport runs world fit = tt
-fit_at (GuestFreeze its guest) place transport runs world fit = tt
 fit_at (GuestRelease token) place transport runs world fit = fit
 fit_at (Park run) place transport runs world fit = record { it = fit.0.it; found = fit.0.found; out = fit.0.recorded.0; program_is = sym fit.0.recorded.1; machine_is = sym fit.0.recorded.2 }
-fit_at (Resume run) place transport runs world fit = tt
+fit_at event place transport runs world fit = tt
 
 -- a reply that is recorded does not tell that the event is unfit
 pub told_fit : (event : Event) (reply : Reply) (told : Record) (world : World) → record_of event reply ≡ Some told → IsFit world event → ToldFit world event reply
-told_fit event (Given given) told world is fit = fit
+told_fit event (Success given) told world is fit = fit
 told_fit event (Refused refusal) told world is fit = fit
-told_fit event (Unfit back) told world is fit = absurd (let bad : None ≡ Some told = is in cc)
+told_fit event (NotAdmitted back) told world is fit = absurd (let bad : None ≡ Some told = is in cc)
 told_fit event (OutOfMemory back) told world is fit = fit
 
 -- there is room for its record
-pub room_to_tell : (event : Event) (place : ℕ) (transport : Transport) (runs : RunsState) (records was capacity : ℕ) → FitsAt place transport runs event → HasRoom records was runs.runs.list → was ≤ capacity → IsRoomFor event records capacity → records < capacity
-room_to_tell (Submit queue priority retries) place transport runs records was capacity fit had more room = omega (arith, room)
-room_to_tell (Dispatch queue) place transport runs records was capacity fit had more room = omega (arith, room)
-room_to_tell (Complete completion) place transport runs records was capacity fit had more room = omega (arith, room)
-room_to_tell (Advance run) place transport runs records was capacity fit had more room = omega (arith, room)
-room_to_tell (Clock reading) place transport runs records was capacity fit had more room = omega (arith, room)
-room_to_tell (GuestFreeze its guest) place transport runs records was capacity fit had more room = omega (arith, room)
-room_to_tell (GuestRelease token) place transport runs records was capacity fit had more room = omega (arith, room)
+pub room_to_tell : (event : Event) (place : ℕ) (transport : Transport) (runs : RunsState) (records was capacity : ℕ) → FitsAt place transport runs event → HistoryHasRoom records was runs.runs.list → was ≤ capacity → IsRoomFor event records capacity → records < capacity
 room_to_tell (Park run) place transport runs records was capacity fit had more room =
     let one = room_to_park records was run.number runs.runs.list fit.0.it had fit.0.found fit.0.recorded.0 in
     omega (arith, one, more)
-room_to_tell (Resume run) place transport runs records was capacity fit had more room = omega (arith, room)
+room_to_tell event place transport runs records was capacity fit had more room = omega (arith, room)
 
 -- and behind it for that of a park of each run that is out
-few_out : (runs : List LiveRun) (records capacity : ℕ) → records + 257 ≤ capacity → length runs ≤ 256 → HasRoom (records + 1) capacity runs
+few_out : (runs : List LiveRun) (records capacity : ℕ) → records + 257 ≤ capacity → length runs ≤ 256 → HistoryHasRoom (records + 1) capacity runs
 few_out runs records capacity room few = omega (arith, room, few, count_by-le-length (λ (run : LiveRun). run.out) runs)
 
-pub room_behind : (event : Event) (old new : List LiveRun) (records was capacity : ℕ) → LeavesRoom event old new → length new ≤ 256 → HasRoom records was old → was ≤ capacity → IsRoomFor event records capacity → HasRoom (records + 1) capacity new
-room_behind (Submit queue priority retries) old new records was capacity leaves few had more room = few_out new records capacity room few
-room_behind (Dispatch queue) old new records was capacity leaves few had more room = few_out new records capacity room few
-room_behind (Complete completion) old new records was capacity leaves few had more room = few_out new records capacity room few
-room_behind (Advance run) old new records was capacity leaves few had more room = few_out new records capacity room few
-room_behind (Clock reading) old new records was capacity leaves few had more room = few_out new records capacity room few
-room_behind (GuestFreeze its guest) old new records was capacity leaves few had more room = few_out new records capacity room few
-room_behind (GuestRelease token) old new records was capacity leaves few had more room = few_out new records capacity room few
+pub room_behind : (event : Event) (old new : List LiveRun) (records was capacity : ℕ) → LeavesRoom event old new → length new ≤ 256 → HistoryHasRoom records was old → was ≤ capacity → IsRoomFor event records capacity → HistoryHasRoom (records + 1) capacity new
 room_behind (Park run) old new records was capacity leaves few had more room = leaves records capacity (omega (arith, had, more))
-room_behind (Resume run) old new records was capacity leaves few had more room = few_out new records capacity room few
+room_behind event old new records was capacity leaves few had more room = few_out new records capacity room few
 
 -- the engine behind an event that was performed
 pub performed : (setup : Setup) (history later : List Record) (event : Event) (transport : Transport) (old : RunsState) (more : Transport) (new : RunsState) (reply : Reply) (told : Record) → KeepsEngine setup history transport old → later ≡ history ++ told ∷ [] → Performs setup event transport old more new reply told → Goes setup history later transport more old new told

@@ -1,13 +1,13 @@
 -- What a call of a helper may rely on where its segment stops, and what it answers where it only reads. What each deed does
--- stands beside its function (`carrying_out`).
+-- stands beside its function (`helper_effects`).
 use Rattle.std.proofs.Common.{◌≡◌, ℕ, ◌<◌, ◌≤◌, List, length, map, true, false, Option, Some, refl, ap, sym, subst, ◌∙◌, arith}
 use Rattle.std.proofs.lemmas.Bool.{and_parts}
-use Rattle.helpers.specs.declared.columns.Asked.{Asked}
+use Rattle.helpers.specs.declared.columns.ArgKind.{ArgKind}
 use Rattle.helpers.specs.declared.columns.Needs.{Needs}
 use Rattle.helpers.specs.declared.columns.Gives.{Gives}
 use Rattle.helpers.specs.declared.columns.Change.{Change}
 use Rattle.helpers.specs.declared.columns.Tells.{Tells}
-use Rattle.helpers.specs.declared.table.Deed.{Deed}
+use Rattle.helpers.specs.declared.table.HelperEffect.{HelperEffect}
 use Rattle.helpers.specs.declared.limits.HelperLimits.{HelperLimits}
 use Rattle.helpers.specs.declared.request.Request.{Request}
 use Rattle.helpers.specs.declared.request.Answer.{Answer}
@@ -29,7 +29,7 @@ use Rattle.world_calls.specs.declared.record.Record.{Record}
 use Rattle.world.specs.Limits.{AnswerLimits}
 use Rattle.world.specs.World.{Transport, Setup, queue_count, LiveCcb, LiveRun, World}
 use Rattle.world.specs.Lookups.{ccb_of}
-use Rattle.world.specs.RunSteps.{is_run, goes_on, answers, by_deed}
+use Rattle.world.specs.RunSteps.{is_run, goes_on, answers, by_effect}
 use Rattle.world.specs.Laws.FreezeLaws.{entries_of, held_by}
 use Rattle.world.proofs.Lists.Each.{all_found}
 use Rattle.world.proofs.Steps.Moves.{run_key}
@@ -47,20 +47,20 @@ use Rattle.world_laws.proofs.Steps.Does.{AnswersFrom}
 use Rattle.engine_core.specs.TakingOver.{IsAdmitted, IsCalled, at_stop, Does}
 
 -- what the rule of a call says of the run and of its first two arguments
-pub record IsRuled (limits : HelperLimits) (m : MachineState) (request : Request) (need : Needs) (first second : Option Asked) : Type 0 where
+pub record IsRuled (limits : HelperLimits) (m : MachineState) (request : Request) (need : Needs) (first second : Option ArgKind) : Type 0 where
   pub needed : meets_need m need ≡ true
   pub first_met : meets limits m request.arguments first request.arguments.first ≡ true
   pub second_met : meets limits m request.arguments second request.arguments.second ≡ true
 
-pub is_ruled : (limits : HelperLimits) (m : MachineState) (request : Request) (one two three : Option Asked) (need : Needs) (give : Gives) (change : Change) (tell : Tells) → Columns one two three need give change tell (row_of request.helper) → meets_rule limits m request ≡ true → IsRuled limits m request need one two
+pub is_ruled : (limits : HelperLimits) (m : MachineState) (request : Request) (one two three : Option ArgKind) (need : Needs) (give : Gives) (change : Change) (tell : Tells) → Columns one two three need give change tell (row_of request.helper) → meets_rule limits m request ≡ true → IsRuled limits m request need one two
 is_ruled limits m request one two three need give change tell row rule =
     let needs = and_parts _ _ rule in
     let firsts = and_parts _ _ needs.1 in
     let seconds = and_parts _ _ firsts.1 in
     record {
       needed = subst (λ (n : Needs). meets_need m n ≡ true) row.needs_is needs.0;
-      first_met = subst (λ (o : Option Asked). meets limits m request.arguments o request.arguments.first ≡ true) row.first_is firsts.0;
-      second_met = subst (λ (o : Option Asked). meets limits m request.arguments o request.arguments.second ≡ true) row.second_is seconds.0;
+      first_met = subst (λ (o : Option ArgKind). meets limits m request.arguments o request.arguments.first ≡ true) row.first_is firsts.0;
+      second_met = subst (λ (o : Option ArgKind). meets limits m request.arguments o request.arguments.second ≡ true) row.second_is seconds.0;
     }
 
 -- an answer as the columns have it
@@ -71,8 +71,8 @@ is_answer m request given give change gives_is machine_is answer written = (
 )
 
 -- what a call by this deed is, in the world
-pub deed_step : (world : World) (run : LiveRun) (request : Request) (deed : Deed) → (row_of request.helper).deed ≡ deed → by_deed (row_of request.helper).deed world run request ≡ by_deed deed world run request
-deed_step world run request deed is = ap (λ (d : Deed). by_deed d world run request) is
+pub deed_step : (world : World) (run : LiveRun) (request : Request) (effect : HelperEffect) → (row_of request.helper).effect ≡ effect → by_effect (row_of request.helper).effect world run request ≡ by_effect effect world run request
+deed_step world run request effect is = ap (λ (d : HelperEffect). by_effect d world run request) is
 
 -- the world in which the run stands at its stop
 abbrev pub between : Transport → RunsState → SegmentState → Setup → List Record → LiveRun → World
@@ -106,8 +106,8 @@ module _ (transport : Transport) (old : RunsState) (place : ℕ) (segment : Segm
       }
 
   -- A number is told, and nothing done.
-  pub told : (deed : Deed) → (row_of request.helper).deed ≡ deed → (answer : World → LiveRun → Request → ℕ) (least most : ℕ) → Reads deed answer least most → (r0 : ℕ) → ((number : ℕ) (b : IsAdmitted transport old number place segment) (setup : Setup) (history : List Record) → r0 ≡ answer (between transport old segment setup history b.out.it) (at_stop b.out.it segment) request) → Does place segment request (answer_number r0) transport old transport old
-  told deed is answer least most reading r0 r0_is =
+  pub told : (effect : HelperEffect) → (row_of request.helper).effect ≡ effect → (answer : World → LiveRun → Request → ℕ) (least most : ℕ) → Reads effect answer least most → (r0 : ℕ) → ((number : ℕ) (b : IsAdmitted transport old number place segment) (setup : Setup) (history : List Record) → r0 ≡ answer (between transport old segment setup history b.out.it) (at_stop b.out.it segment) request) → Does place segment request (answer_number r0) transport old transport old
+  told effect is answer least most reading r0 r0_is =
       let a = it.admitted in
       let columns = reading.columns request is in
       let range = reading.within a.setup (between transport old segment a.setup a.history a.out.it) (at_stop a.out.it segment) request answers_from in
@@ -121,7 +121,7 @@ module _ (transport : Transport) (old : RunsState) (place : ℕ) (segment : Segm
             let before : World = between transport old segment setup history b.out.it in
             record {
               world = before;
-              step = deed_step before run request deed is
+              step = deed_step before run request effect is
                   ∙ (reading.step before run request ∙ ap (λ (k : ℕ). Some (answers before run request (answer_number k))) (sym (r0_is n b setup history)));
               is = refl;
             };
@@ -201,7 +201,7 @@ module _ (transport : Transport) (old : RunsState) (place : ℕ) (segment : Segm
       record { fresh = fresh; run = a.out.it; there = a.there; live = its.live; found = its.found; state = its.state }
 
   -- A word of a table that the call names is there.
-  pub its_word_there : (third : Option Asked) → NamesWord third (row_of request.helper) → HasWord old.runs.tables request.arguments.first request.arguments.second
+  pub its_word_there : (third : Option ArgKind) → NamesWord third (row_of request.helper) → HasWord old.runs.tables request.arguments.first request.arguments.second
   its_word_there third columns = word_named it.admitted.setup (world_of it.admitted.setup it.admitted.history transport old.runs) segment.to request third answer_limits columns rule
 
   -- The run's queue is there.

@@ -6,7 +6,7 @@ use Rattle.std.proofs.lemmas.Bool.{cond-true, cond-false}
 use Rattle.ccb.specs.Completion.{Outcome, IsCompletion}
 use Rattle.world_calls.specs.declared.call.Call.TheVariants.{Complete}
 use Rattle.world_calls.specs.declared.call_answer.CallAnswer.TheVariants as answers
-use Rattle.world_calls.specs.declared.call_refusal.CallRefusal.TheVariants.{Unknown, Limit, NotActive}
+use Rattle.ccb.specs.declared.call_refusal.CallRefusal.TheVariants.{Unknown, Limit, NotActive}
 use Rattle.world.specs.declared.ccb_state.CcbState.{CcbState}
 use Rattle.world.specs.declared.ccb_state.CcbState.TheVariants.{Waiting, Active, InRecovery}
 use Rattle.world.specs.World.{Setup, LiveCcb, World}

@@ -8,7 +8,7 @@ use Rattle.ccb.specs.declared.place.Place.{Place}
 use Rattle.ccb.specs.Places.{index_of, places_of}
 use Rattle.helpers.specs.declared.limits.HelperSet.{HelperSet}
 use Rattle.helpers.specs.declared.limits.HelperSet.TheVariants.{Controllers, Queues}
-use Rattle.helpers.specs.declared.table.Deed.TheVariants as deeds
+use Rattle.helpers.specs.declared.table.HelperEffect.TheVariants as effects
 use Rattle.helpers.specs.declared.request.Request.{Request}
 use Rattle.helpers.specs.Table.{row_of}
 use Rattle.bpf_semantics.specs.MachineState.{MachineState}
@@ -30,20 +30,20 @@ use Rattle.engine_core.proofs.Recording.{kept_sound, opening_count}
 
 pub by_row : (place : ℕ) (runs : RunsState) (request : Request) (frozen : Place) → FreezesPlace place runs request frozen → FreezesByRow (row_of request.helper)
 by_row place runs request frozen (freezes_queue is named) =
-    let columns = suits deeds.Freeze request is in
+    let columns = suits effects.Freeze request is in
     record { machine_is = columns.machine_is; gives_is = columns.gives_is; tells_is = columns.tells_is }
 by_row place runs request frozen (freezes_controller is named) =
-    let columns = (suits deeds.FreezeController request is).0 in
+    let columns = (suits effects.FreezeController request is).0 in
     record { machine_is = columns.machine_is; gives_is = columns.gives_is; tells_is = columns.tells_is }
 
 -- it is the world's step that takes a freeze of that place
 pub freezing_step : (place : ℕ) (runs : RunsState) (request : Request) (frozen : Place) → FreezesPlace place runs request frozen → (before : World) (run : LiveRun) (to : MachineState) → HasRunAt runs.runs.list place run → step_request before (record run { machine = to }) request ≡ Some (takes before (record run { machine = to }) request frozen)
 freezing_step place runs request frozen (freezes_queue is named) before run to there =
     let standing : LiveRun = record run { machine = to } in
-    deed_step before standing request deeds.Freeze is ∙ ap (λ (p : Place). Some (takes before standing request p)) (sym named)
+    deed_step before standing request effects.Freeze is ∙ ap (λ (p : Place). Some (takes before standing request p)) (sym named)
 freezing_step place runs request frozen (freezes_controller is named) before run to there =
     let standing : LiveRun = record run { machine = to } in
-    deed_step before standing request deeds.FreezeController is ∙ ap (λ (p : Place). Some (takes before standing request p)) (sym (named run there))
+    deed_step before standing request effects.FreezeController is ∙ ap (λ (p : Place). Some (takes before standing request p)) (sym (named run there))
 
 -- the controller of each queue is one that there may be
 pub controller_below : (helpers : HelperSet) (controllers : ℕ) (queues : List QueueSetup) (queue : ℕ) → AreUnder helpers controllers queues → queue < length queues → (slice_index_or queues queue no_queue).controller < 8
@@ -66,10 +66,10 @@ module _ (transport : Transport) (old : RunsState) (place : ℕ) (segment : Segm
       omega (arith, controller_is, its, below)
 
   -- the queue that the call names is there
-  pub queue_named : (row_of request.helper).deed ≡ deeds.Freeze → (request.arguments.first < length transport.openings) × (request.arguments.first < 4294967296)
+  pub queue_named : (row_of request.helper).effect ≡ effects.Freeze → (request.arguments.first < length transport.openings) × (request.arguments.first < 4294967296)
   queue_named is =
       let a = it.admitted in
-      let ruled = is_ruled a.setup.limits segment.to request _ _ _ _ _ _ _ (suits deeds.Freeze request is) (rule transport old place segment request it) in
+      let ruled = is_ruled a.setup.limits segment.to request _ _ _ _ _ _ _ (suits effects.Freeze request is) (rule transport old place segment request it) in
       let known : request.arguments.first < a.setup.limits.queues = ltb-true _ _ ruled.first_met in (
         omega (arith, known, a.kept.run.lawful.agreed, opening_count a.setup a.history transport old a.kept),
         omega (arith, known, a.kept.run.lawful.agreed, a.kept.run.lawful.queue_number.1),
@@ -96,11 +96,11 @@ module _ (transport : Transport) (old : RunsState) (place : ℕ) (segment : Segm
   pub freezing : (frozen : Place) → FreezesPlace place old request frozen → IsFreezing frozen
   freezing frozen (freezes_queue is named) =
       let a = it.admitted in
-      let ruled = is_ruled a.setup.limits segment.to request _ _ _ _ _ _ _ (suits deeds.Freeze request is) (rule transport old place segment request it) in
+      let ruled = is_ruled a.setup.limits segment.to request _ _ _ _ _ _ _ (suits effects.Freeze request is) (rule transport old place segment request it) in
       with_room frozen (ltb-true (length segment.to.held) 8 ruled.needed)
       (subst (λ (p : Place). index_of p < places_of (length transport.openings) 8) (sym named) (queue_placed (length transport.openings) request.arguments.first (queue_named is).0))
   freezing frozen (freezes_controller is named) =
       let a = it.admitted in
-      let ruled = is_ruled a.setup.limits segment.to request _ _ _ _ _ _ _ (suits deeds.FreezeController request is).0 (rule transport old place segment request it) in
+      let ruled = is_ruled a.setup.limits segment.to request _ _ _ _ _ _ _ (suits effects.FreezeController request is).0 (rule transport old place segment request it) in
       with_room frozen (ltb-true (length segment.to.held) 8 ruled.needed)
       (subst (λ (p : Place). index_of p < places_of (length transport.openings) 8) (sym (named a.out.it a.there)) (controller_placed (length transport.openings) a.out.it.controller (controller_there a.out.it.controller refl)))

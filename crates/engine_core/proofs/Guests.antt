@@ -23,7 +23,7 @@ use Rattle.world_laws.proofs.Steps.Does.{FreezeDeed, leaves_freezes, takes_one, 
 use Rattle.world_laws.proofs.Steps.Calls.{Asks}
 use Rattle.world_laws.proofs.Steps.Cases.{Case, case_of, refuses, submits, dispatches, finishes_one, recovers_one, recovers_unfrozen, freezes_one, releases_one, reads_clock, turns_one, goes_on_one, asks_one, exits}
 use Rattle.world_calls.specs.declared.record.StoppedAt.{StoppedAt}
-use Rattle.engine_core.specs.Unrecorded.{AreTokens, guests_of}
+use Rattle.engine_core.specs.ByNumber.{AreTokens, guests_of}
 
 abbrev its_guest : Freeze → Bool
 its_guest freeze = is_guest freeze.holder

@@ -14,4 +14,4 @@ pub mod Going
 pub mod Performing
 pub mod Answering
 pub mod Guests
-pub mod Unrecording
+pub mod Numbered

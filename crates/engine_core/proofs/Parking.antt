@@ -8,7 +8,7 @@ use Rattle.world_calls.specs.declared.record.Record.{Record}
 use Rattle.world_calls.specs.declared.call.Call.TheVariants.{Park, Resume}
 use Rattle.world_calls.specs.declared.call_answer.CallAnswer.TheVariants as answers
 use Rattle.world_calls.specs.declared.record.Record.TheVariants.{Called}
-use Rattle.world_calls.specs.declared.call_refusal.CallRefusal.TheVariants.{Unknown}
+use Rattle.ccb.specs.declared.call_refusal.CallRefusal.TheVariants.{Unknown}
 use Rattle.bpf_semantics.specs.Reached.{Reached}
 use Rattle.world.specs.World.{Transport, LiveRun, Setup, World, queue_count, queue_setup}
 use Rattle.world.specs.Lookups.{run_of, with_run}
@@ -21,7 +21,7 @@ use Rattle.world.proofs.Lists.Found.{found_key, put_same}
 use Rattle.world.proofs.Lists.Rising.{count_put, found_counts}
 use Rattle.world.proofs.Steps.Moves.{run_key, run_found}
 use Rattle.engine_core.specs.EngineState.{world_of}
-use Rattle.engine_core.specs.Invariant.{HasRoom, KeepsEngine}
+use Rattle.engine_core.specs.Invariant.{HistoryHasRoom, KeepsEngine}
 use Rattle.engine_core.specs.TakingOver.{LeadsTo}
 use Rattle.engine_core.proofs.OneMore.{once}
 use Rattle.engine_core.proofs.Recording.{kept_sound}
@@ -60,14 +60,14 @@ resumes_none setup history transport runs number none =
     (none_resumes before (run_of number runs.runs.list) none) refl
 
 -- there is room for the record of the park of a run that is out
-pub room_to_park : (records capacity number : ℕ) (runs : List LiveRun) (it : LiveRun) → HasRoom records capacity runs → run_of number runs ≡ Some it → it.out ≡ true → records + 1 ≤ capacity
+pub room_to_park : (records capacity number : ℕ) (runs : List LiveRun) (it : LiveRun) → HistoryHasRoom records capacity runs → run_of number runs ≡ Some it → it.out ≡ true → records + 1 ≤ capacity
 room_to_park records capacity number runs it room found out =
     let counts = found_counts run_key (λ (run : LiveRun). run.out) number runs it found in
     let one : cond {A = ℕ} it.out 1 0 ≡ 1 = cond-true it.out 1 0 out in
     omega (arith, room, counts, one)
 
 -- and once it is parked for those of the others
-pub room_left : (records capacity number greatest : ℕ) (runs : List LiveRun) (it : LiveRun) → AreRising 0 (map (λ (run : LiveRun). run.number) runs) greatest → HasRoom records capacity runs → run_of number runs ≡ Some it → it.out ≡ true → HasRoom (records + 1) capacity (with_run (record it { out = false }) runs)
+pub room_left : (records capacity number greatest : ℕ) (runs : List LiveRun) (it : LiveRun) → AreRising 0 (map (λ (run : LiveRun). run.number) runs) greatest → HistoryHasRoom records capacity runs → run_of number runs ≡ Some it → it.out ≡ true → HistoryHasRoom (records + 1) capacity (with_run (record it { out = false }) runs)
 room_left records capacity number greatest runs it rising room found out =
     let count = count_put run_key (λ (run : LiveRun). run.out) 0 runs greatest (record it { out = false }) it rising (run_found number runs it found) in
     let one : cond {A = ℕ} it.out 1 0 ≡ 1 = cond-true it.out 1 0 out in
@@ -101,5 +101,5 @@ found_out runs after number it found same =
     ∙ subst (λ (n : ℕ). run_of n (with_run (record it { out = true }) runs.runs.list) ≡ Some (record it { out = true })) its there
 
 -- one record more, in the room that there is
-pub room_kept : (records capacity later more : ℕ) (runs : List LiveRun) → HasRoom (records + 1) capacity runs → later ≡ records + 1 → more ≡ capacity → HasRoom later more runs
+pub room_kept : (records capacity later more : ℕ) (runs : List LiveRun) → HistoryHasRoom (records + 1) capacity runs → later ≡ records + 1 → more ≡ capacity → HistoryHasRoom later more runs
 room_kept records capacity later more runs room one same = omega (arith, room, one, same)

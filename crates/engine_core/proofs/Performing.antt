@@ -18,8 +18,8 @@ use Rattle.world_calls.specs.declared.call.Call.{Call}
 use Rattle.world_calls.specs.declared.call.Call.TheVariants as its
 use Rattle.world_calls.specs.declared.call_answer.CallAnswer.{CallAnswer}
 use Rattle.world_calls.specs.declared.call_answer.CallAnswer.TheVariants as answers
-use Rattle.world_calls.specs.declared.call_refusal.CallRefusal.{CallRefusal}
-use Rattle.world_calls.specs.declared.call_refusal.CallRefusal.TheVariants.{Unknown}
+use Rattle.ccb.specs.declared.call_refusal.CallRefusal.{CallRefusal}
+use Rattle.ccb.specs.declared.call_refusal.CallRefusal.TheVariants.{Unknown}
 use Rattle.world_calls.specs.declared.record.Record.{Record}
 use Rattle.world_calls.specs.declared.record.Record.TheVariants.{Called, Advance as AdvanceRecord}
 use Rattle.world_calls.specs.declared.record.StoppedAt.{StoppedAt}
@@ -33,12 +33,12 @@ use Rattle.world.specs.Step.{step_call}
 use Rattle.world.proofs.Lists.Found.{leave}
 use Rattle.world.proofs.Steps.Moves.{ccb_key}
 use Rattle.engine_core.specs.declared.event.Event.TheVariants.{Submit, Dispatch, Complete, Advance, Clock, GuestFreeze, GuestRelease, Park, Resume}
-use Rattle.engine_core.specs.declared.reply.Given.{Given as TheGiven}
-use Rattle.engine_core.specs.declared.reply.Given.TheVariants as given
-use Rattle.engine_core.specs.declared.reply.Reply.TheVariants.{Given, Refused}
+use Rattle.engine_core.specs.declared.reply.Success.{Success as TheGiven}
+use Rattle.engine_core.specs.declared.reply.Success.TheVariants as given
+use Rattle.engine_core.specs.declared.reply.Reply.TheVariants.{Success, Refused}
 use Rattle.engine_core.specs.Answers.{stopped_at}
 use Rattle.engine_core.specs.EngineState.{world_of}
-use Rattle.engine_core.specs.Invariant.{HasRoom, HoldEntries, KeepsEngine}
+use Rattle.engine_core.specs.Invariant.{HistoryHasRoom, HoldEntries, KeepsEngine}
 use Rattle.engine_core.specs.Performing.{IsPlaced, Performs, world_with}
 use Rattle.engine_core.specs.Replies.{IsAdvanced, IsGiven, ccb_reply, removed_reply, r0_given}
 use Rattle.engine_core.specs.TakingOver.{Becomes, LeadsBy}
@@ -110,10 +110,10 @@ reads reading transport more (Err refusal) step removed same setup runs = record
   room = tt;
 }
 
-pub freezes : (setup : Setup) (place : Place) (guest : ℕ) (transport more : Transport) (token : Freeze) (number : ℕ) → number ≡ token.number → (token.place ≡ place) × (token.holder ≡ Guest guest) × (more.freezes ≡ transport.freezes ++ token ∷ []) → StepsOf setup transport more (its.GuestFreeze place guest) (answers.Freeze token.number) → (runs : RunsState) → Performs setup (GuestFreeze place guest) transport runs more runs (Given (given.Freeze token)) (Called (answers.Freeze number) (its.GuestFreeze place guest))
+pub freezes : (setup : Setup) (place : Place) (guest : ℕ) (transport more : Transport) (token : Freeze) (number : ℕ) → number ≡ token.number → (token.place ≡ place) × (token.holder ≡ Guest guest) × (more.freezes ≡ transport.freezes ++ token ∷ []) → StepsOf setup transport more (its.GuestFreeze place guest) (answers.Freeze token.number) → (runs : RunsState) → Performs setup (GuestFreeze place guest) transport runs more runs (Success (given.Freeze token)) (Called (answers.Freeze number) (its.GuestFreeze place guest))
 freezes setup place guest transport more token number named is step runs =
     let guests : is_guest token.holder ≡ true = ap is_guest is.1 in
-    subst (λ (n : ℕ). Performs setup (GuestFreeze place guest) transport runs more runs (Given (given.Freeze token)) (Called (answers.Freeze n) (its.GuestFreeze place guest))) (sym named) (record {
+    subst (λ (n : ℕ). Performs setup (GuestFreeze place guest) transport runs more runs (Success (given.Freeze token)) (Called (answers.Freeze n) (its.GuestFreeze place guest))) (sym named) (record {
       is = refl;
       fits = tt;
       leads = λ history kept. by_transport setup history transport more runs _ _ step kept;
@@ -132,9 +132,9 @@ refuses_freeze setup place guest transport more refusal same step runs = record 
   room = tt;
 }
 
-pub releases : (token : Freeze) (transport more : Transport) (number count : ℕ) → number ≡ token.number → Contains transport.freezes token → is_guest token.holder ≡ true → more.freezes ≡ without token.number transport.freezes → Steps transport more (its.GuestRelease token.number) (answers.Left count) → (setup : Setup) (runs : RunsState) → Performs setup (GuestRelease token) transport runs more runs (Given (given.Left count)) (Called (answers.Left count) (its.GuestRelease number))
+pub releases : (token : Freeze) (transport more : Transport) (number count : ℕ) → number ≡ token.number → Contains transport.freezes token → is_guest token.holder ≡ true → more.freezes ≡ without token.number transport.freezes → Steps transport more (its.GuestRelease token.number) (answers.Left count) → (setup : Setup) (runs : RunsState) → Performs setup (GuestRelease token) transport runs more runs (Success (given.Left count)) (Called (answers.Left count) (its.GuestRelease number))
 releases token transport more number count named there guests fewer step setup runs =
-    subst (λ (n : ℕ). Performs setup (GuestRelease token) transport runs more runs (Given (given.Left count)) (Called (answers.Left count) (its.GuestRelease n))) (sym named) (record {
+    subst (λ (n : ℕ). Performs setup (GuestRelease token) transport runs more runs (Success (given.Left count)) (Called (answers.Left count) (its.GuestRelease n))) (sym named) (record {
       is = refl;
       fits = tt;
       leads = λ history kept. by_transport setup history transport more runs _ _ (step setup) kept;
@@ -157,7 +157,7 @@ refuses_completion setup transport runs completion refusal step = record {
   room = tt;
 }
 
-pub finishes_ccb : (setup : Setup) (transport more : Transport) (runs : RunsState) (completion : Bor Completion) (ccb : Ccb) → more ≡ record transport { live = leave ccb_key ccb.number.0 transport.live } → ((world : World) → step_call setup (record world { transport = transport; runs = runs.runs }) (its.Complete completion.now) ≡ Some (replies answers.Done, finishes (record world { transport = transport; runs = runs.runs }) ccb completion.now.status)) → Performs setup (Complete completion) transport runs more runs (Given given.Done) (Called answers.Done (its.Complete completion.now))
+pub finishes_ccb : (setup : Setup) (transport more : Transport) (runs : RunsState) (completion : Bor Completion) (ccb : Ccb) → more ≡ record transport { live = leave ccb_key ccb.number.0 transport.live } → ((world : World) → step_call setup (record world { transport = transport; runs = runs.runs }) (its.Complete completion.now) ≡ Some (replies answers.Done, finishes (record world { transport = transport; runs = runs.runs }) ccb completion.now.status)) → Performs setup (Complete completion) transport runs more runs (Success given.Done) (Called answers.Done (its.Complete completion.now))
 finishes_ccb setup transport more runs completion ccb fewer step = record {
   is = refl;
   fits = tt;
@@ -170,9 +170,9 @@ finishes_ccb setup transport more runs completion ccb fewer step = record {
   room = tt;
 }
 
-pub starts_run : (setup : Setup) (transport more : Transport) (runs after : RunsState) (completion : Bor Completion) (run : RunState) (number freeze : ℕ) → number ≡ run.number → HoldEntries more.freezes after → ((world : World) → step_call setup (record world { transport = transport; runs = runs.runs }) (its.Complete completion.now) ≡ Some (replies (answers.Started run.number freeze), record world { transport = more; runs = after.runs })) → ((world : World) → IsOutUnder setup (record world { runs = after.runs }) run) → Performs setup (Complete completion) transport runs more after (Given (given.Started run freeze)) (Called (answers.Started number freeze) (its.Complete completion.now))
+pub starts_run : (setup : Setup) (transport more : Transport) (runs after : RunsState) (completion : Bor Completion) (run : RunState) (number freeze : ℕ) → number ≡ run.number → HoldEntries more.freezes after → ((world : World) → step_call setup (record world { transport = transport; runs = runs.runs }) (its.Complete completion.now) ≡ Some (replies (answers.Started run.number freeze), record world { transport = more; runs = after.runs })) → ((world : World) → IsOutUnder setup (record world { runs = after.runs }) run) → Performs setup (Complete completion) transport runs more after (Success (given.Started run freeze)) (Called (answers.Started number freeze) (its.Complete completion.now))
 starts_run setup transport more runs after completion run number freeze named holds step out =
-    subst (λ (n : ℕ). Performs setup (Complete completion) transport runs more after (Given (given.Started run freeze)) (Called (answers.Started n freeze) (its.Complete completion.now))) (sym named) (record {
+    subst (λ (n : ℕ). Performs setup (Complete completion) transport runs more after (Success (given.Started run freeze)) (Called (answers.Started n freeze) (its.Complete completion.now))) (sym named) (record {
       is = refl;
       fits = tt;
       leads = λ history kept.
@@ -184,9 +184,9 @@ starts_run setup transport more runs after completion run number freeze named ho
     })
 
 -- a run that is parked
-pub parks_it : (setup : Setup) (history : List Record) (transport : Transport) (runs after : RunsState) (run : RunState) (it : LiveRun) (number : ℕ) → number ≡ run.number → KeepsEngine setup history transport runs → run_of run.number runs.runs.list ≡ Some it → it.out ≡ true → after ≡ with_out_run it false runs → Performs setup (Park run) transport runs transport after (Given given.Parked) (Called answers.Ok (its.Park number))
+pub parks_it : (setup : Setup) (history : List Record) (transport : Transport) (runs after : RunsState) (run : RunState) (it : LiveRun) (number : ℕ) → number ≡ run.number → KeepsEngine setup history transport runs → run_of run.number runs.runs.list ≡ Some it → it.out ≡ true → after ≡ with_out_run it false runs → Performs setup (Park run) transport runs transport after (Success given.Parked) (Called answers.Ok (its.Park number))
 parks_it setup history transport runs after run it number named kept found out same =
-    subst (λ (n : ℕ). Performs setup (Park run) transport runs transport after (Given given.Parked) (Called answers.Ok (its.Park n))) (sym named) (record {
+    subst (λ (n : ℕ). Performs setup (Park run) transport runs transport after (Success given.Parked) (Called answers.Ok (its.Park n))) (sym named) (record {
       is = refl;
       fits = tt;
       leads = λ past its_kept. parks_run setup past transport runs after run.number it found out same;
@@ -194,11 +194,11 @@ parks_it setup history transport runs after run it number named kept found out s
       gives = λ before later. tt;
       room = λ records capacity room.
           let rising = (kept_sound setup history transport runs kept).kept.runs.rising in
-          subst (λ (r : RunsState). HasRoom (records + 1) capacity r.runs.list) (sym same) (room_left records capacity run.number _ runs.runs.list it rising room found out);
+          subst (λ (r : RunsState). HistoryHasRoom (records + 1) capacity r.runs.list) (sym same) (room_left records capacity run.number _ runs.runs.list it rising room found out);
     })
 
 -- one that goes on, and none that does
-pub resumes_it : (setup : Setup) (transport : Transport) (runs after : RunsState) (number : ℕ) (it : LiveRun) (again : RunState) → run_of number runs.runs.list ≡ Some it → it.out ≡ false → after ≡ with_out_run it true runs → again.number ≡ number → ((world : World) → IsOutUnder setup (record world { runs = after.runs }) again) → Performs setup (Resume number) transport runs transport after (Given (given.Resumed again)) (Called answers.Ok (its.Resume number))
+pub resumes_it : (setup : Setup) (transport : Transport) (runs after : RunsState) (number : ℕ) (it : LiveRun) (again : RunState) → run_of number runs.runs.list ≡ Some it → it.out ≡ false → after ≡ with_out_run it true runs → again.number ≡ number → ((world : World) → IsOutUnder setup (record world { runs = after.runs }) again) → Performs setup (Resume number) transport runs transport after (Success (given.Resumed again)) (Called answers.Ok (its.Resume number))
 resumes_it setup transport runs after number it again found out same named under = record {
   is = refl;
   fits = tt;
@@ -220,7 +220,7 @@ resumes_nothing setup transport runs number none = record {
 
 -- what a run did is taken over
 pub takes_over : (setup : Setup) (transport more : Transport) (runs after : RunsState) (run : StoppedState) (place number steps : ℕ) (stop : StoppedAt) (r0 : ℕ) (what : TheGiven) → number ≡ run.number → steps ≡ run.segment.steps → stop ≡ stopped_at run.segment.stop → HoldEntries more.freezes after → r0_given what ≡ r0 → IsAdvanced what → IsOutWith runs.runs.list run.number run.segment.program.program run.segment.from → IsPlaced runs.runs.list run.number place → LeadsBy (stopped_at run.segment.stop) r0 place run.segment transport runs more after
-    → ((before later : World) → IsGiven setup (world_with transport runs before) (Advance run) (world_with more after later) what) → Performs setup (Advance run) transport runs more after (Given what) (AdvanceRecord number steps stop r0)
+    → ((before later : World) → IsGiven setup (world_with transport runs before) (Advance run) (world_with more after later) what) → Performs setup (Advance run) transport runs more after (Success what) (AdvanceRecord number steps stop r0)
 takes_over setup transport more runs after run place number steps stop r0 what named counted stopped holds told may out at leads gives =
     rw (named, counted, stopped, ← told) (record {
       is = refl;

@@ -3,7 +3,7 @@ use Rattle.std.proofs.Common.{◌≡◌, ℕ, List, [], true, Option, Some, refl
 use Rattle.std.proofs.lemmas.Bool.{and_parts, leb-true}
 use Rattle.helpers.specs.declared.limits.HelperLimits.{HelperLimits}
 use Rattle.helpers.specs.declared.request.Request.{Request}
-use Rattle.helpers.specs.declared.columns.Asked.{Asked}
+use Rattle.helpers.specs.declared.columns.ArgKind.{ArgKind}
 use Rattle.helpers.specs.declared.columns.Needs.{Needs}
 use Rattle.helpers.specs.declared.columns.Change.{Change}
 use Rattle.helpers.specs.declared.columns.Change.TheVariants as changes
@@ -15,7 +15,7 @@ use Rattle.helpers.specs.declared.request.Answer.{Answer}
 use Rattle.bpf_insn.specs.declared.program.Slot.{Slot}
 use Rattle.bpf_semantics.specs.MachineState.{MachineState}
 use Rattle.bpf_semantics.specs.Calls.{meets, meets_need, meets_rule}
-use Rattle.bpf_semantics.specs.Step.{request_at, HasRoom, HasRoomFor, answered}
+use Rattle.bpf_semantics.specs.Step.{request_at, StackHasRoom, HasRoomFor, answered}
 use Rattle.bpf_semantics.specs.declared.stop.Stop.{Stop}
 use Rattle.bpf_semantics.specs.declared.stop.Stop.TheVariants.{Helper, Exit}
 use Rattle.interpreter.specs.Segments.{SegmentState, IsSegment, StandsAt}
@@ -45,7 +45,7 @@ use Rattle.engine_core.proofs.Stops.{Arrives, arrives, called, call_leads, nothi
 rule_room : (limits : HelperLimits) (m : MachineState) (request : Request) → meets_rule limits m request ≡ true → HasRoomFor m request
 rule_room limits m request rule = by_change (row_of request.helper).machine (wanted request.helper)
   where
-    by_change : (change : Change) → Wants change (row_of request.helper) → HasRoom m change
+    by_change : (change : Change) → Wants change (row_of request.helper) → StackHasRoom m change
     by_change changes.Nothing wants = tt
     by_change changes.Holds wants = ltb-true _ _ (subst (λ (need : Needs). meets_need m need ≡ true) wants.1 (and_parts _ _ rule).0)
     by_change changes.GivesUp wants = tt
@@ -59,7 +59,7 @@ rule_code limits m request rule = by_tells (row_of request.helper).tells (told r
     by_tells tells.Name says = tt
     by_tells tells.Bytes says = tt
     by_tells tells.Code says =
-        let asked = subst (λ (o : Option Asked). meets limits m request.arguments o request.arguments.first ≡ true) says (and_parts _ _ (and_parts _ _ rule).1).0 in
+        let asked = subst (λ (o : Option ArgKind). meets limits m request.arguments o request.arguments.first ≡ true) says (and_parts _ _ (and_parts _ _ rule).1).0 in
         leb-true _ _ (and_parts _ _ asked).1
 
 -- a segment that is handed to an engine of these CCBs and runs

@@ -1,5 +1,5 @@
 -- What each fault says.
-use Rattle.world_calls.specs.declared.call_refusal.CallRefusal.{CallRefusal}
+use Rattle.ccb.specs.declared.call_refusal.CallRefusal.{CallRefusal}
 use Rattle.engine_core.specs.declared.answers.CallFault.{CallFault}
 use Rattle.engine_core.specs.declared.answers.CallFault.TheVariants.{OutOfMemory, Refused}
 use Rattle.engine_core.specs.declared.answers.ReleaseFault.{ReleaseFault}

@@ -21,5 +21,5 @@ abbrev pub outs : List LiveRun → ℕ
 outs runs = count_by (λ run. run.out) runs
 
 -- a history of so many records has room for that of a park of each run that is out
-abbrev pub HasRoom : ℕ → ℕ → List LiveRun → Type 0
-HasRoom records capacity runs = records + outs runs ≤ capacity
+abbrev pub HistoryHasRoom : ℕ → ℕ → List LiveRun → Type 0
+HistoryHasRoom records capacity runs = records + outs runs ≤ capacity

@@ -16,5 +16,5 @@ pub mod Courses
 pub mod TakingOver
 pub mod Replies
 pub mod Performing
-pub mod Unrecorded
+pub mod ByNumber
 pub mod Looking

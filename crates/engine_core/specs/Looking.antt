@@ -1,5 +1,6 @@
--- What can be read of an engine's runs: what is recorded of one, and what it asks next.
-use Rattle.std.specs.Prelude.{◌≡◌, ℕ, true, List, Option, Some, None}
+-- What can be read of an engine's runs: what is recorded of one, what it asks next, and which is the first that is out.
+use Rattle.std.specs.Prelude.{◌≡◌, ℕ, true, find, List, Option, Some, None}
+use Rattle.std.specs.Option.{option_map}
 use Rattle.helpers.specs.declared.request.Request.{Request}
 use Rattle.bpf_semantics.specs.declared.stop.Stop.{Stop}
 use Rattle.bpf_semantics.specs.declared.stop.Stop.TheVariants.{Helper, Exit}
@@ -37,3 +38,7 @@ asked_at (Exit r0) = None
 abbrev pub AsksNext : List LiveRun → ℕ → Option Request → Type 0
 AsksNext runs number (Some request) = StopsNext runs number (Helper request)
 AsksNext runs number None = (it : LiveRun) → run_of number runs ≡ Some it → it.out ≡ true → (r0 : ℕ) × StopsNext runs number (Exit r0)
+
+-- the number of the first run that is out
+abbrev pub first_out : List LiveRun → Option ℕ
+first_out runs = option_map (λ run. run.number) (find (λ run. run.out) runs)

@@ -13,8 +13,8 @@ use Rattle.engine_core.specs.declared.event.Event.TheVariants.{Advance, GuestRel
 use Rattle.engine_core.specs.declared.reply.Reply.{Reply}
 use Rattle.engine_core.specs.declared.engine.TheConstants.{ROOM}
 use Rattle.engine_core.specs.EngineState.{world_of}
-use Rattle.engine_core.specs.Invariant.{HoldEntries, KeepsEngine, HasRoom}
-use Rattle.engine_core.specs.Replies.{record_of, Fits, Gives}
+use Rattle.engine_core.specs.Invariant.{HoldEntries, KeepsEngine, HistoryHasRoom}
+use Rattle.engine_core.specs.Replies.{record_of, ReplyMatchesEvent, GivesAsRecorded}
 use Rattle.engine_core.specs.TakingOver.{LeadsTo}
 
 -- the world with this transport and these runs
@@ -41,15 +41,15 @@ IsRoomFor event records capacity = records + ROOM ≤ capacity
 
 -- one run that is out more needs its room no more behind a park
 abbrev pub LeavesRoom : Event → List LiveRun → List LiveRun → Type 0
-LeavesRoom (Park run) old new = (records capacity : ℕ) → HasRoom records capacity old → HasRoom (records + 1) capacity new
+LeavesRoom (Park run) old new = (records capacity : ℕ) → HistoryHasRoom records capacity old → HistoryHasRoom (records + 1) capacity new
 LeavesRoom event old new = Unit {0}
 
 -- The event is carried out or refused on these parts, which are of an engine: by this reply and this record, which stands for
 -- what leads from the old world to the new one. What each run holds are the entries that name it still.
 pub record Performs (setup : Setup) (event : Event) (transport : Transport) (old : RunsState) (more : Transport) (new : RunsState) (reply : Reply) (told : Record) : Type 0 where
   pub is : record_of event reply ≡ Some told
-  pub fits : Fits event reply
+  pub fits : ReplyMatchesEvent event reply
   pub leads : (history : List Record) → KeepsEngine setup history transport old → LeadsTo setup (world_of setup history transport old.runs) (events_of told) more new.runs
   pub tokens : (history : List Record) → KeepsEngine setup history transport old → HoldEntries more.freezes new
-  pub gives : (before after : World) → Gives setup (world_with transport old before) event (world_with more new after) reply
+  pub gives : (before after : World) → GivesAsRecorded setup (world_with transport old before) event (world_with more new after) reply
   pub room : LeavesRoom event old.runs.list new.runs.list

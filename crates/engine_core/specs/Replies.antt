@@ -9,7 +9,7 @@ use Rattle.world_calls.specs.declared.call.Call.{Call}
 use Rattle.world_calls.specs.declared.call.Call.TheVariants as its
 use Rattle.world_calls.specs.declared.call_answer.CallAnswer.{CallAnswer}
 use Rattle.world_calls.specs.declared.call_answer.CallAnswer.TheVariants as answers
-use Rattle.world_calls.specs.declared.call_refusal.CallRefusal.{CallRefusal}
+use Rattle.ccb.specs.declared.call_refusal.CallRefusal.{CallRefusal}
 use Rattle.world_calls.specs.declared.record.Record.{Record}
 use Rattle.world_calls.specs.declared.record.Record.TheVariants.{Called, Advance as advanced}
 use Rattle.engine_core.specs.RunState.{IsOut, IsOutUnder, before_stop}
@@ -20,10 +20,10 @@ use Rattle.engine_core.specs.declared.answers.AdvanceAnswer.{AdvanceAnswer}
 use Rattle.engine_core.specs.declared.answers.AdvanceAnswer.TheVariants as advances
 use Rattle.engine_core.specs.declared.event.Event.{Event}
 use Rattle.engine_core.specs.declared.event.Event.TheVariants.{Submit, Dispatch, Complete, Advance, Clock, GuestFreeze, GuestRelease, Park, Resume}
-use Rattle.engine_core.specs.declared.reply.Given.{Given}
-use Rattle.engine_core.specs.declared.reply.Given.TheVariants.{Ccb, Done, Started, Goes, Ended, Freeze, Left, Removed, Parked, Resumed}
-use Rattle.engine_core.specs.declared.reply.Back.{Back}
-use Rattle.engine_core.specs.declared.reply.Back.TheVariants as back
+use Rattle.engine_core.specs.declared.reply.Success.{Success}
+use Rattle.engine_core.specs.declared.reply.Success.TheVariants.{Ccb, Done, Started, Goes, Ended, Freeze, Left, Removed, Parked, Resumed}
+use Rattle.engine_core.specs.declared.reply.Returned.{Returned}
+use Rattle.engine_core.specs.declared.reply.Returned.TheVariants as back
 use Rattle.engine_core.specs.declared.reply.Reply.{Reply}
 use Rattle.engine_core.specs.declared.reply.Reply.TheVariants as replied
 use Rattle.engine_core.specs.Answers.{stopped_at, GoesOrEnds}
@@ -31,71 +31,71 @@ use Rattle.engine_core.specs.EngineState.{EngineState, Records, GuestHolds}
 
 -- What may be given, by the event.
 
-abbrev pub IsCcb : Given → Type 0
+abbrev pub IsCcb : Success → Type 0
 IsCcb (Ccb ccb) = Unit {0}
 IsCcb given = ⊥
 
-abbrev pub IsCompleted : Given → Type 0
+abbrev pub IsCompleted : Success → Type 0
 IsCompleted Done = Unit {0}
 IsCompleted (Started run freeze) = Unit {0}
 IsCompleted given = ⊥
 
-abbrev pub IsAdvanced : Given → Type 0
+abbrev pub IsAdvanced : Success → Type 0
 IsAdvanced (Goes run r0) = Unit {0}
 IsAdvanced (Ended r0) = Unit {0}
 IsAdvanced given = ⊥
 
-abbrev pub IsRemoved : Given → Type 0
+abbrev pub IsRemoved : Success → Type 0
 IsRemoved (Removed count) = Unit {0}
 IsRemoved given = ⊥
 
-abbrev pub IsFreeze : Given → Type 0
+abbrev pub IsFreeze : Success → Type 0
 IsFreeze (Freeze token) = Unit {0}
 IsFreeze given = ⊥
 
-abbrev pub IsLeft : Given → Type 0
+abbrev pub IsLeft : Success → Type 0
 IsLeft (Left count) = Unit {0}
 IsLeft given = ⊥
 
-abbrev pub IsParked : Given → Type 0
+abbrev pub IsParked : Success → Type 0
 IsParked Parked = Unit {0}
 IsParked given = ⊥
 
-abbrev pub IsResumed : Given → Type 0
+abbrev pub IsResumed : Success → Type 0
 IsResumed (Resumed run) = Unit {0}
 IsResumed given = ⊥
 
-abbrev pub Suits : Event → Given → Type 0
-Suits (Submit queue priority retries) given = IsCcb given
-Suits (Dispatch queue) given = IsCcb given
-Suits (Complete completion) given = IsCompleted given
-Suits (Advance run) given = IsAdvanced given
-Suits (Clock reading) given = IsRemoved given
-Suits (GuestFreeze place guest) given = IsFreeze given
-Suits (GuestRelease token) given = IsLeft given
-Suits (Park run) given = IsParked given
-Suits (Resume run) given = IsResumed given
+abbrev pub SuccessMatchesEvent : Event → Success → Type 0
+SuccessMatchesEvent (Submit queue priority retries) given = IsCcb given
+SuccessMatchesEvent (Dispatch queue) given = IsCcb given
+SuccessMatchesEvent (Complete completion) given = IsCompleted given
+SuccessMatchesEvent (Advance run) given = IsAdvanced given
+SuccessMatchesEvent (Clock reading) given = IsRemoved given
+SuccessMatchesEvent (GuestFreeze place guest) given = IsFreeze given
+SuccessMatchesEvent (GuestRelease token) given = IsLeft given
+SuccessMatchesEvent (Park run) given = IsParked given
+SuccessMatchesEvent (Resume run) given = IsResumed given
 
-abbrev pub given_completed : CompleteAnswer → Given
+abbrev pub given_completed : CompleteAnswer → Success
 given_completed completes.Done = Done
 given_completed (completes.Started run freeze) = Started run freeze
 
-abbrev pub given_advanced : AdvanceAnswer → Given
+abbrev pub given_advanced : AdvanceAnswer → Success
 given_advanced (advances.Goes run r0) = Goes run r0
 given_advanced (advances.Ended r0) = Ended r0
 
 -- what the event owns
-abbrev pub owned : Event → Back
+abbrev pub owned : Event → Returned
 owned (Advance run) = back.Run (before_stop run)
 owned (GuestRelease token) = back.Token token
 owned (Park run) = back.Run run
 owned event = back.Nothing
 
-abbrev pub IsRunBack : Back → Type 0
+abbrev pub IsRunBack : Returned → Type 0
 IsRunBack (back.Run run) = Unit {0}
 IsRunBack other = ⊥
 
-abbrev pub IsTokenBack : Back → Type 0
+abbrev pub IsTokenBack : Returned → Type 0
 IsTokenBack (back.Token token) = Unit {0}
 IsTokenBack other = ⊥
 
@@ -118,7 +118,7 @@ call_of (Park run) = Some (its.Park run.number)
 call_of (Resume run) = Some (its.Resume run)
 
 -- the answer to a call that is carried out
-abbrev pub answer_of : Given → CallAnswer
+abbrev pub answer_of : Success → CallAnswer
 answer_of (Ccb ccb) = answers.Ccb ccb
 answer_of Done = answers.Done
 answer_of (Started run freeze) = answers.Started run.number freeze
@@ -128,13 +128,13 @@ answer_of (Removed count) = answers.Removed count
 answer_of given = answers.Ok
 
 -- R0 behind what an advance gives
-abbrev pub r0_given : Given → ℕ
+abbrev pub r0_given : Success → ℕ
 r0_given (Goes run r0) = r0
 r0_given (Ended r0) = r0
 r0_given given = 0
 
 -- the record of an event that is carried out, where this is what it gives
-abbrev pub record_given : Event → Given → Record
+abbrev pub record_given : Event → Success → Record
 record_given (Submit queue priority retries) given = Called (answer_of given) (its.Submit queue priority retries)
 record_given (Dispatch queue) given = Called (answer_of given) (its.Dispatch queue)
 record_given (Complete completion) given = Called (answer_of given) (its.Complete completion.now)
@@ -147,15 +147,15 @@ record_given (Resume run) given = Called (answer_of given) (its.Resume run)
 
 -- the one record that an event with this reply makes, or none
 abbrev pub record_of : Event → Reply → Option Record
-record_of event (replied.Given given) = Some (record_given event given)
+record_of event (replied.Success given) = Some (record_given event given)
 record_of event (replied.Refused refusal) = option_map (λ call. Called (answers.Refused refusal) call) (call_of event)
-record_of event (replied.Unfit back) = None
+record_of event (replied.NotAdmitted back) = None
 record_of event (replied.OutOfMemory back) = None
 
 abbrev pub is_recorded : Reply → Bool
-is_recorded (replied.Given given) = true
+is_recorded (replied.Success given) = true
 is_recorded (replied.Refused refusal) = true
-is_recorded (replied.Unfit back) = false
+is_recorded (replied.NotAdmitted back) = false
 is_recorded (replied.OutOfMemory back) = false
 
 -- with a record one record more, and without one all is as it was
@@ -171,11 +171,11 @@ owns event = false
 
 -- The event can be replied to so: it gives what it may. What owns something is carried out or unfit, and never refused, and
 -- that comes back where it is not carried out; what owns nothing is never unfit. A park takes no memory.
-abbrev pub Fits : Event → Reply → Type 0
-Fits event (replied.Given given) = Suits event given
-Fits event (replied.Refused refusal) = owns event ≡ false
-Fits event (replied.Unfit back) = (owns event ≡ true) × (back ≡ owned event)
-Fits event (replied.OutOfMemory back) = (is_park event ≡ false) × (back ≡ owned event)
+abbrev pub ReplyMatchesEvent : Event → Reply → Type 0
+ReplyMatchesEvent event (replied.Success given) = SuccessMatchesEvent event given
+ReplyMatchesEvent event (replied.Refused refusal) = owns event ≡ false
+ReplyMatchesEvent event (replied.NotAdmitted back) = (owns event ≡ true) × (back ≡ owned event)
+ReplyMatchesEvent event (replied.OutOfMemory back) = (is_park event ≡ false) × (back ≡ owned event)
 
 -- the run is out with this program and in this machine, or a guest's freeze is the token's; other events fit always
 abbrev pub IsFit : World → Event → Type 0
@@ -199,11 +199,11 @@ IsUnfit world event = IsFit world event → ⊥
 
 -- it is told to be unfit exactly where it is
 abbrev pub ToldFit : World → Event → Reply → Type 0
-ToldFit world event (replied.Unfit back) = IsUnfit world event
+ToldFit world event (replied.NotAdmitted back) = IsUnfit world event
 ToldFit world event reply = IsFit world event
 
 -- what is given is what the world has then: a run that is out, or a guest's freeze
-abbrev pub IsGiven : Setup → World → Event → World → Given → Type 0
+abbrev pub IsGiven : Setup → World → Event → World → Success → Type 0
 IsGiven setup before (Complete completion) after (Started run freeze) = IsOutUnder setup after run
 IsGiven setup before (Advance run) after (Goes again r0) = GoesOrEnds setup before after (before_stop run) run.segment (advances.Goes again r0)
 IsGiven setup before (Advance run) after (Ended r0) = GoesOrEnds setup before after (before_stop run) run.segment (advances.Ended r0)
@@ -211,9 +211,9 @@ IsGiven setup before (GuestFreeze place guest) after (Freeze token) = GuestHolds
 IsGiven setup before (Resume run) after (Resumed again) = (again.number ≡ run) × IsOutUnder setup after again
 IsGiven setup before event after given = Unit {0}
 
-abbrev pub Gives : Setup → World → Event → World → Reply → Type 0
-Gives setup before event after (replied.Given given) = IsGiven setup before event after given
-Gives setup before event after reply = Unit {0}
+abbrev pub GivesAsRecorded : Setup → World → Event → World → Reply → Type 0
+GivesAsRecorded setup before event after (replied.Success given) = IsGiven setup before event after given
+GivesAsRecorded setup before event after reply = Unit {0}
 
 -- why a call that owns nothing is not carried out
 abbrev pub IsFault : Reply → Type 0
@@ -228,11 +228,11 @@ IsMemory reply = ⊥
 -- What is replied where the code gives a value or a refusal.
 
 abbrev pub ccb_reply : Result CcbId CallRefusal → Reply
-ccb_reply (Ok ccb) = replied.Given (Ccb ccb)
+ccb_reply (Ok ccb) = replied.Success (Ccb ccb)
 ccb_reply (Err refusal) = replied.Refused refusal
 
 abbrev pub removed_reply : Result ℕ CallRefusal → Reply
-removed_reply (Ok count) = replied.Given (Removed count)
+removed_reply (Ok count) = replied.Success (Removed count)
 removed_reply (Err refusal) = replied.Refused refusal
 
 -- a call that is refused, as it is replied and recorded

@@ -3,8 +3,8 @@ use Rattle.std.specs.Prelude.{◌≡◌, ℕ, List, Some}
 use Rattle.ccb.specs.declared.place.Place.{Place}
 use Rattle.ccb.specs.declared.place.Place.TheVariants.{Controller}
 use Rattle.ccb.specs.Places.{device}
-use Rattle.helpers.specs.declared.table.Deed.{Deed}
-use Rattle.helpers.specs.declared.table.Deed.TheVariants as deeds
+use Rattle.helpers.specs.declared.table.HelperEffect.{HelperEffect}
+use Rattle.helpers.specs.declared.table.HelperEffect.TheVariants as effects
 use Rattle.helpers.specs.Table.{row_of}
 use Rattle.helpers.specs.declared.request.Request.{Request}
 use Rattle.helpers.specs.declared.request.Answer.{Answer}
@@ -25,8 +25,8 @@ use Rattle.world.specs.Event.{Event, Reply}
 use Rattle.world.specs.RunSteps.{goes_on, answers, step_request}
 use Rattle.world.specs.WorldRun.{Leads}
 use Rattle.world.specs.Flat.{events_of}
-use Rattle.engine_core.specs.declared.reply.Given.{Given}
-use Rattle.engine_core.specs.declared.reply.Given.TheVariants as given
+use Rattle.engine_core.specs.declared.reply.Success.{Success}
+use Rattle.engine_core.specs.declared.reply.Success.TheVariants as given
 use Rattle.engine_core.specs.EngineState.{world_of}
 use Rattle.engine_core.specs.Invariant.{HoldEntries, KeepsEngine}
 
@@ -84,36 +84,36 @@ pub record IsCalled (transport : Transport) (runs : RunsState) (place : ℕ) (se
   pub admitted : IsAdmitted transport runs number place segment
 
 -- the helper of the call does this deed
-abbrev pub IsOfDeed : Deed → Request → Type 0
-IsOfDeed deed request = (row_of request.helper).deed ≡ deed
+abbrev pub IsOfDeed : HelperEffect → Request → Type 0
+IsOfDeed effect request = (row_of request.helper).effect ≡ effect
 
 -- a run at this place stands at such a call
-abbrev pub AsksOf : Deed → Transport → RunsState → ℕ → Request → Type 0
-AsksOf deed transport runs place request = IsOfDeed deed request × ((segment : SegmentState) × IsCalled transport runs place segment request)
+abbrev pub AsksOf : HelperEffect → Transport → RunsState → ℕ → Request → Type 0
+AsksOf effect transport runs place request = IsOfDeed effect request × ((segment : SegmentState) × IsCalled transport runs place segment request)
 
 -- with some transport
-abbrev pub Asks : Deed → RunsState → ℕ → Request → Type 0
-Asks deed runs place request = IsOfDeed deed request × ((transport : Transport) × (segment : SegmentState) × IsCalled transport runs place segment request)
+abbrev pub Asks : HelperEffect → RunsState → ℕ → Request → Type 0
+Asks effect runs place request = IsOfDeed effect request × ((transport : Transport) × (segment : SegmentState) × IsCalled transport runs place segment request)
 
 -- a call that freezes this place: a queue that it names, or the controller that its run's queue is under
 pub data FreezesPlace (place : ℕ) (runs : RunsState) (request : Request) (frozen : Place) : Type 0 where
-  freezes_queue : IsOfDeed deeds.Freeze request → frozen ≡ device request.arguments.first → FreezesPlace place runs request frozen
-  freezes_controller : IsOfDeed deeds.FreezeController request → ((run : LiveRun) → HasRunAt runs.runs.list place run → frozen ≡ Controller run.controller) → FreezesPlace place runs request frozen
+  freezes_queue : IsOfDeed effects.Freeze request → frozen ≡ device request.arguments.first → FreezesPlace place runs request frozen
+  freezes_controller : IsOfDeed effects.FreezeController request → ((run : LiveRun) → HasRunAt runs.runs.list place run → frozen ≡ Controller run.controller) → FreezesPlace place runs request frozen
 
 abbrev pub AsksToFreeze : Place → Transport → RunsState → ℕ → Request → Type 0
 AsksToFreeze frozen transport runs place request =
     FreezesPlace place runs request frozen × ((segment : SegmentState) × IsCalled transport runs place segment request)
 
 -- what is done is what such a call does
-pub record AnswersOf (place : ℕ) (request : Request) (given : Answer) (transport : Transport) (runs : RunsState) (more : Transport) (after : RunsState) : Type 0 where
+pub record RefinesHelperStep (place : ℕ) (request : Request) (given : Answer) (transport : Transport) (runs : RunsState) (more : Transport) (after : RunsState) : Type 0 where
   pub does : (segment : SegmentState) → IsCalled transport runs place segment request → Does place segment request given transport runs more after
 
 -- whatever the transport is, and it stays
-abbrev pub Answers : ℕ → Request → Answer → RunsState → RunsState → Type 0
-Answers place request given runs after = (transport : Transport) → AnswersOf place request given transport runs transport after
+abbrev pub RefinesOnRuns : ℕ → Request → Answer → RunsState → RunsState → Type 0
+RefinesOnRuns place request given runs after = (transport : Transport) → RefinesHelperStep place request given transport runs transport after
 
 -- the run at this place goes on there with its next machine, and is otherwise as it was
-pub record GoesOn (old new : List LiveRun) (place : ℕ) : Type 0 where
+pub record RunContinues (old new : List LiveRun) (place : ℕ) : Type 0 where
   pub machine : MachineState
   pub stands : (it : LiveRun) → HasRunAt old place it → HasRunAt new place (record it { machine = machine })
   pub found : (number : ℕ) (it : LiveRun) → HasRunAt old place it → run_of number old ≡ Some it → run_of number new ≡ Some (record it { machine = machine })
@@ -128,11 +128,11 @@ Stands old after place machine = (it : LiveRun) → HasRunAt old.runs.list place
 
 -- the same run goes on, with that machine
 pub record GoesAs (run : StoppedState) (again : RunState) (old new : List LiveRun) (place : ℕ) : Type 0 where
-  pub on : GoesOn old new place
+  pub on : RunContinues old new place
   pub is : again ≡ record (before_stop run) { machine = on.machine }
 
 -- what becomes of the run: it goes on, or it exited with this R0
-abbrev pub Becomes : StoppedState → Given → List LiveRun → List LiveRun → ℕ → Type 0
+abbrev pub Becomes : StoppedState → Success → List LiveRun → List LiveRun → ℕ → Type 0
 Becomes run (given.Goes again r0) old new place = GoesAs run again old new place
 Becomes run (given.Ended r0) old new place = run.segment.stop ≡ at_exit r0
 Becomes run what old new place = ⊥

@@ -1,8 +1,8 @@
 // What the engine's methods answer beside their values. It relies on `world_calls` for refusals, and on `run` for runs.
 
 use crate::run::Run;
-use world_calls::CallRefusal;
 use thiserror::Error;
+use world_calls::CallRefusal;
 
 /// Why a call was not carried out.
 #[derive(Clone, Copy, Debug, PartialEq, Eq, Error)]

@@ -1,24 +1,24 @@
 // The events that are about CCBs: a submission, a start and a completion. It relies on `engine_transport` for CCBs and their
-// queues, and on `course` for what becomes of a completed one.
+// queues, and on `completion_action` for what becomes of a completed one.
 
 ghost use Rattle.std.specs.Prelude.{◌≡◌, List, IfOk, IfErr};
 ghost use Rattle.world_calls.specs.declared.record.Record.{Record as TheRecord};
 ghost use Rattle.engine_runs.specs.RunsState.{RunsState};
 ghost use Rattle.world.specs.World.{Setup};
 ghost use Rattle.engine_core.specs.declared.event.Event.TheVariants.{Submit, Dispatch, Complete};
-ghost use Rattle.engine_core.specs.declared.reply.Back.TheVariants as back;
+ghost use Rattle.engine_core.specs.declared.reply.Returned.TheVariants as back;
 ghost use Rattle.engine_core.specs.Invariant.{KeepsEngine};
 ghost use Rattle.engine_core.specs.Performing.{Performs};
 
-use crate::course::{Course, decide, recover};
-use crate::reply::{Back, Given, Reply};
+use crate::completion_action::{CompletionAction, decide, recover};
+use crate::reply::{Reply, Returned, Success};
 use crate::told::{ccb_told, refused};
-use world_calls::{Call, CallAnswer, CompletionRecord, Record};
 use ccb::{Completion, QueueId};
 use engine_config::Config;
 use engine_runs::Runs;
-use std::alloc::{AllocError, Global};
 use engine_transport::Transport;
+use std::alloc::{AllocError, Global};
+use world_calls::{Call, CallAnswer, CompletionRecord, Record};
 
 /// A CCB waits, or C1, or C2.
 #[inline(always)]
@@ -62,24 +62,27 @@ pub(crate) fn complete(
     transport: &mut Transport,
     runs: &mut Runs,
     completion: &Completion,
-) -> Result<(Reply, Record), Back>
+) -> Result<(Reply, Record), Returned>
     requires { (history : List TheRecord) × KeepsEngine config.now history transport.old runs.old }
     ensures performs { IfOk result (λ it. Performs config.now (Complete completion.entry) transport.old runs.old transport.new runs.new it.0 it.1) }
     ensures refused { IfErr result (λ owned. (transport.new ≡ transport.old) × (runs.new ≡ runs.old) × (owned ≡ back.Nothing)) }
 {
     let course = decide(transport, runs, completion);
     let Ok(kept) = CompletionRecord::new(alloc, completion) else {
-        return Err(Back::Nothing);
+        return Err(Returned::Nothing);
     };
     let call = Call::Complete { completion: kept };
     match course {
-        Course::Refuse(refusal) => Ok(refused(refusal, call)),
-        Course::Finish(ccb) => {
+        CompletionAction::Refuse(refusal) => Ok(refused(refusal, call)),
+        CompletionAction::Finish(ccb) => {
             transport.finish(ccb.number);
             let answer = CallAnswer::Done;
-            Ok((Reply::Given(Given::Done), Record::Called { answer, call }))
+            Ok((
+                Reply::Success(Success::Done),
+                Record::Called { answer, call },
+            ))
         }
-        Course::Recover(place, ccb) => match recover(
+        CompletionAction::Recover(place, ccb) => match recover(
             config, transport, runs, place, ccb, completion,
         ) {
             Ok((run, freeze)) => {
@@ -88,11 +91,11 @@ pub(crate) fn complete(
                     freeze,
                 };
                 Ok((
-                    Reply::Given(Given::Started(run, freeze)),
+                    Reply::Success(Success::Started(run, freeze)),
                     Record::Called { answer, call },
                 ))
             }
-            Err(AllocError) => Err(Back::Nothing),
+            Err(AllocError) => Err(Returned::Nothing),
         },
     }
 }

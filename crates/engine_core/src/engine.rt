@@ -14,23 +14,23 @@ ghost use Rattle.world.specs.TotalsOf.{TotalsOf, totals_in};
 ghost use Rattle.engine_core.specs.EngineState.{opened, IsRun};
 ghost use Rattle.engine_core.specs.Performing.{IsRoomFor};
 ghost use Rattle.engine_core.specs.RunState.{IsReached};
-ghost use Rattle.engine_core.specs.Replies.{IsOfKnown, IsRecorded, Fits, ToldFit, Gives, is_park};
+ghost use Rattle.engine_core.specs.Replies.{IsOfKnown, IsRecorded, ReplyMatchesEvent, ToldFit, GivesAsRecorded, is_park};
 
 use crate::event::Event;
 use crate::parts::Parts;
 use crate::reply::Reply;
 use crate::run::Run;
-use bpf_accepted::Accepted;
-use world_calls::{Record, Totals, Trace, Version};
-use ccb::QueueId;
 use base_chunked_list::ChunkedList;
+use bpf_accepted::Accepted;
+use ccb::QueueId;
 use engine_config::Config;
-use interpreter::Segment;
 use engine_runs::{MAX_RUNS, Runs};
+use engine_transport::Transport;
+use interpreter::Segment;
 use std::alloc::{AllocError, Global};
 use std::marker::Model;
 use std::sync::Arc;
-use engine_transport::Transport;
+use world_calls::{Record, Totals, Trace, Version};
 
 /// The room that a call makes in the history: for its own record, and for one of each run, which may be parked behind it.
 const ROOM: usize = 1 + MAX_RUNS;
@@ -55,9 +55,9 @@ impl Model for Engine {
     ghost view = { λ e. record { setup = e.config; history = e.history.items; world = world_of e.config e.history.items e.parts.transport e.parts.runs.runs } };
 
     ghost use Rattle.std.specs.Prelude.{length};
-    ghost use Rattle.engine_core.specs.Invariant.{HasRoom};
+    ghost use Rattle.engine_core.specs.Invariant.{HistoryHasRoom};
 
-    ghost invariant = { λ e. KeepsEngine e.config e.history.items e.parts.transport e.parts.runs × HasRoom (length e.history.items) e.history.capacity e.parts.runs.runs.list };
+    ghost invariant = { λ e. KeepsEngine e.config e.history.items e.parts.transport e.parts.runs × HistoryHasRoom (length e.history.items) e.history.capacity e.parts.runs.runs.list };
 }
 
 // Makes room for the record of an event, and for one of each run, which may be parked behind it. For the record of a park
@@ -117,9 +117,9 @@ impl Engine {
     /// refused nothing changes, and what it owned comes back. A park takes no memory.
     pub fn answer(&mut self, event: Event<'_>) -> Reply
         ensures recorded { IsRecorded self.old event.entry result self.new }
-        ensures fits { Fits event.entry result }
+        ensures fits { ReplyMatchesEvent event.entry result }
         ensures fit { ToldFit self.old.world event.entry result }
-        ensures gives { Gives self.old.setup self.old.world event.entry self.new.world result }
+        ensures gives { GivesAsRecorded self.old.setup self.old.world event.entry self.new.world result }
         ensures run { IsRun self.new }
     {
         self.answer_known(event, None)
@@ -130,13 +130,13 @@ impl Engine {
     pub fn answer_known(&mut self, event: Event<'_>, known: Option<QueueId>) -> Reply
         requires { IsOfKnown self.old.setup event known }
         ensures recorded { IsRecorded self.old event.entry result self.new }
-        ensures fits { Fits event.entry result }
+        ensures fits { ReplyMatchesEvent event.entry result }
         ensures fit { ToldFit self.old.world event.entry result }
-        ensures gives { Gives self.old.setup self.old.world event.entry self.new.world result }
+        ensures gives { GivesAsRecorded self.old.setup self.old.world event.entry self.new.world result }
         ensures run { IsRun self.new }
     {
         let Some(place) = self.parts.fits(&event, known) else {
-            return Reply::Unfit(event.owned());
+            return Reply::NotAdmitted(event.owned());
         };
         if make_room(&mut self.history, &event).is_err() {
             return Reply::OutOfMemory(event.owned());

@@ -4,7 +4,7 @@
 ghost use Rattle.std.specs.Prelude.{◌≡◌};
 ghost use Rattle.engine_core.specs.Replies.{is_park, owned};
 
-use crate::reply::Back;
+use crate::reply::Returned;
 use crate::run::Run;
 use crate::stopped::Stopped;
 use ccb::{Completion, Place, QueueId};
@@ -55,13 +55,13 @@ pub enum Event<'a> {
 
 impl Event<'_> {
     /// What it owns.
-    pub fn owned(self) -> Back
+    pub fn owned(self) -> Returned
         ensures { result ≡ owned self.entry }
     {
         match self {
-            Event::Advance { run } => Back::Run(run.back()),
-            Event::Park { run } => Back::Run(run),
-            Event::GuestRelease { token } => Back::Token(token),
+            Event::Advance { run } => Returned::Run(run.back()),
+            Event::Park { run } => Returned::Run(run),
+            Event::GuestRelease { token } => Returned::Token(token),
             Event::Submit {
                 queue: _,
                 priority: _,
@@ -71,7 +71,7 @@ impl Event<'_> {
             | Event::Complete { completion: _ }
             | Event::Clock { reading: _ }
             | Event::GuestFreeze { place: _, guest: _ }
-            | Event::Resume { run: _ } => Back::Nothing,
+            | Event::Resume { run: _ } => Returned::Nothing,
         }
     }
 

@@ -7,13 +7,13 @@ ghost use Rattle.world.specs.FreezeSteps.{is_guest};
 ghost use Rattle.engine_core.specs.declared.event.Event.TheVariants.{Clock, GuestFreeze, GuestRelease};
 ghost use Rattle.engine_core.specs.Performing.{Performs};
 
-use crate::reply::{Given, Reply};
+use crate::reply::{Reply, Success};
 use crate::told::{refused, removed_told};
-use world_calls::{Call, CallAnswer, Record};
 use ccb::Place;
 use engine_config::Config;
-use freeze_ledger::FreezeToken;
 use engine_transport::Transport;
+use freeze_ledger::FreezeToken;
+use world_calls::{Call, CallAnswer, Record};
 
 /// A guest has a freeze more of the place, or C1, or C2.
 pub(crate) fn guest_freeze(
@@ -29,7 +29,7 @@ pub(crate) fn guest_freeze(
         Ok(token) => {
             let answer = CallAnswer::Freeze(token.number());
             (
-                Reply::Given(Given::Freeze(token)),
+                Reply::Success(Success::Freeze(token)),
                 Record::Called { answer, call },
             )
         }
@@ -48,7 +48,7 @@ pub(crate) fn guest_release(transport: &mut Transport, token: FreezeToken) -> (R
     let count = transport.guest_release(token);
     let answer = CallAnswer::Left(count);
     (
-        Reply::Given(Given::Left(count)),
+        Reply::Success(Success::Left(count)),
         Record::Called { answer, call },
     )
 }

@@ -1,13 +1,13 @@
 // The tokens of guests' freezes, where nobody else keeps them: found by number. It relies on `freeze_ledger` for tokens, and on
 // `cam_numbered_slots` for the search.
 
-ghost use Rattle.std.specs.Prelude.{◌≡◌, ◌<◌, ◌≤◌, Contains, None, IfSome, IfNone, length, vec_capacity};
+ghost use Rattle.std.specs.Prelude.{◌≡◌, ◌<◌, ◌≤◌, Contains, IsSome, IsTrue, false, None, IfSome, IfNone, length, vec_capacity};
 ghost use Rattle.std.specs.List.{insert};
 ghost use Rattle.freeze_ledger.specs.Freezes.{entry_of, without};
-ghost use Rattle.engine_core.specs.Unrecorded.{AreTokens};
+ghost use Rattle.engine_core.specs.ByNumber.{AreTokens};
 
-use freeze_ledger::FreezeToken;
 use cam_numbered_slots::{Numbered, place_for};
+use freeze_ledger::FreezeToken;
 use std::marker::Model;
 
 /// The right of a guest to give a freeze back. Where it is dropped, as with its engine, the freeze is forfeited.
@@ -49,6 +49,16 @@ impl GuestToken {
         let GuestToken(token) = self;
         token
     }
+}
+
+/// Whether the token of the freeze of that number is there. It asks for tokens of rising numbers.
+pub(crate) fn has_token(tokens: &[GuestToken], freeze: u32) -> bool
+    requires { AreTokens tokens.now }
+    ensures there { IsTrue result → IsSome (entry_of freeze tokens.now) }
+    ensures none { result ≡ false → entry_of freeze tokens.now ≡ None }
+{
+    let place = place_for(tokens, freeze);
+    place < tokens.len() && tokens[place].number() == freeze
 }
 
 /// Takes out the token of the freeze of that number, with the place at which it stood; `None`, which changes nothing, exactly

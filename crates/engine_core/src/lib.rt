@@ -4,15 +4,17 @@
 #![tactic(auto)]
 
 mod answers;
-mod carrying_out;
 mod ccb_events;
-mod course;
+mod commit_segment;
+mod completion_action;
 mod engine;
 mod event;
 mod freeze_events;
 mod guest_tokens;
+mod helper_effects;
 pub mod laws;
 mod methods;
+mod numbered_engine;
 mod parts;
 mod reply;
 mod run;
@@ -20,20 +22,18 @@ mod run_events;
 mod run_info;
 mod segments;
 mod stopped;
-mod taking_over;
 mod told;
-mod unrecorded;
 
 pub use answers::{AdvanceAnswer, AdvanceFault, CallFault, CompleteAnswer, ReleaseFault};
-pub use world_calls::{Call, CallAnswer, CallRefusal, Record, StoppedAt, Totals, Trace};
 pub use engine::Engine;
 pub use engine_config::Config;
+pub use engine_transport::LiveCcb;
 pub use event::Event;
 pub use guest_tokens::{GuestToken, put_token, take_token};
-pub use reply::{Back, Given, Reply};
+pub use numbered_engine::NumberedEngine;
+pub use reply::{Reply, Returned, Success};
 pub use run::Run;
 pub use run_info::RunInfo;
 pub use stopped::Stopped;
-pub use engine_transport::LiveCcb;
-pub use unrecorded::Unrecorded;
 pub use world::{CcbState, QueueInfo};
+pub use world_calls::{Call, CallAnswer, CallRefusal, Record, StoppedAt, Totals, Trace};

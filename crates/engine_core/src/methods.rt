@@ -40,7 +40,7 @@ impl Engine {
             priority,
             retries,
         }) {
-            Reply::Given(given) => Ok(given.ccb()),
+            Reply::Success(given) => Ok(given.ccb()),
             fault => Err(fault.fault()),
         }
     }
@@ -54,7 +54,7 @@ impl Engine {
         ensures run { IsRun self.new }
     {
         match self.answer(Event::Dispatch { queue }) {
-            Reply::Given(given) => Ok(given.ccb()),
+            Reply::Success(given) => Ok(given.ccb()),
             fault => Err(fault.fault()),
         }
     }
@@ -78,7 +78,7 @@ impl Engine {
         match self.answer(Event::Complete {
             completion: &completion,
         }) {
-            Reply::Given(given) => Ok(given.completed()),
+            Reply::Success(given) => Ok(given.completed()),
             fault => Err((fault.fault(), completion)),
         }
     }
@@ -109,8 +109,8 @@ impl Engine {
         ensures run { IsRun self.new }
     {
         match self.answer(Event::Advance { run }) {
-            Reply::Given(given) => Ok(given.advanced()),
-            Reply::Unfit(back) => Err((AdvanceFault::NotOut, back.run())),
+            Reply::Success(given) => Ok(given.advanced()),
+            Reply::NotAdmitted(back) => Err((AdvanceFault::NotOut, back.run())),
             Reply::OutOfMemory(back) => Err((AdvanceFault::OutOfMemory, back.run())),
             Reply::Refused(_) => unreachable!(),
         }
@@ -127,8 +127,8 @@ impl Engine {
         ensures run { IsRun self.new }
     {
         match self.answer(Event::Park { run }) {
-            Reply::Given(given) => Ok(given.parked()),
-            Reply::Unfit(back) => Err(back.run()),
+            Reply::Success(given) => Ok(given.parked()),
+            Reply::NotAdmitted(back) => Err(back.run()),
             other => {
                 other.forfeit();
                 unreachable!()
@@ -144,7 +144,7 @@ impl Engine {
         ensures run { IsRun self.new }
     {
         match self.answer(Event::Resume { run }) {
-            Reply::Given(given) => Ok(given.resumed()),
+            Reply::Success(given) => Ok(given.resumed()),
             fault => Err(fault.fault()),
         }
     }
@@ -160,7 +160,7 @@ impl Engine {
     {
         let place = Place::Device(queue);
         match self.answer(Event::GuestFreeze { place, guest }) {
-            Reply::Given(given) => Ok(given.token()),
+            Reply::Success(given) => Ok(given.token()),
             fault => Err(fault.fault()),
         }
     }
@@ -180,7 +180,7 @@ impl Engine {
     {
         let place = Place::Controller(controller);
         match self.answer(Event::GuestFreeze { place, guest }) {
-            Reply::Given(given) => Ok(given.token()),
+            Reply::Success(given) => Ok(given.token()),
             fault => Err(fault.fault()),
         }
     }
@@ -194,8 +194,8 @@ impl Engine {
         ensures run { IsRun self.new }
     {
         match self.answer(Event::GuestRelease { token }) {
-            Reply::Given(given) => Ok(given.left()),
-            Reply::Unfit(back) => Err((ReleaseFault::NotHeld, back.token())),
+            Reply::Success(given) => Ok(given.left()),
+            Reply::NotAdmitted(back) => Err((ReleaseFault::NotHeld, back.token())),
             Reply::OutOfMemory(back) => Err((ReleaseFault::OutOfMemory, back.token())),
             Reply::Refused(_) => unreachable!(),
         }
@@ -210,7 +210,7 @@ impl Engine {
         ensures run { IsRun self.new }
     {
         match self.answer(Event::Clock { reading }) {
-            Reply::Given(given) => Ok(given.removed()),
+            Reply::Success(given) => Ok(given.removed()),
             fault => Err(fault.fault()),
         }
     }

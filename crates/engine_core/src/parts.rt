@@ -11,14 +11,14 @@ ghost use Rattle.engine_core.specs.Replies.{IsOfKnown, IsUnfit, is_park, owned};
 use crate::ccb_events::{complete, dispatch, submit};
 use crate::event::Event;
 use crate::freeze_events::{guest_freeze, guest_release, read_clock};
-use crate::reply::{Back, Reply};
+use crate::reply::{Reply, Returned};
 use crate::run_events::{advance, park, resume};
-use world_calls::Record;
 use ccb::QueueId;
 use engine_config::Config;
 use engine_runs::Runs;
-use std::alloc::Global;
 use engine_transport::Transport;
+use std::alloc::Global;
+use world_calls::Record;
 
 /// What CAM keeps, and the runs of recovery programs.
 #[derive(Drop)]
@@ -52,12 +52,7 @@ impl Parts {
                     None
                 }
             }
-            Event::Submit { .. }
-            | Event::Dispatch { .. }
-            | Event::Complete { .. }
-            | Event::Clock { .. }
-            | Event::GuestFreeze { .. }
-            | Event::Resume { .. } => Some(0),
+            _ => Some(0),
         }
     }
 
@@ -70,7 +65,7 @@ impl Parts {
         config: &Config,
         place: usize,
         event: Event<'_>,
-    ) -> Result<(Reply, Record), Back>
+    ) -> Result<(Reply, Record), Returned>
         requires of { (history : List TheRecord) × KeepsEngine config.now history self.old.transport self.old.runs }
         requires fit { FitsAt place self.old.transport self.old.runs event }
         ensures performs { IfOk result (λ it. Performs config.now event.entry self.old.transport self.old.runs self.new.transport self.new.runs it.0 it.1) }
@@ -108,7 +103,7 @@ impl Parts {
         ensures { self.new ≡ self.old }
     {
         match reply {
-            Reply::Given(given) => {
+            Reply::Success(given) => {
                 if let Some(run) = given.run() {
                     let (machine, next) = run.spent();
                     self.runs.keep_place(machine);

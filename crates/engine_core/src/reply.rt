@@ -3,19 +3,19 @@
 
 ghost use Rattle.std.specs.Prelude.{◌≡◌};
 ghost use Rattle.engine_core.specs.Replies.{IsCcb, IsCompleted, IsFault, IsMemory, IsAdvanced, IsFreeze, IsLeft, IsRemoved, IsParked, IsResumed, IsRunBack, IsTokenBack, given_completed, given_advanced, is_recorded};
-ghost use Rattle.engine_core.specs.declared.reply.Given.TheVariants.{Ccb, Freeze, Left, Removed, Parked, Resumed};
-ghost use Rattle.engine_core.specs.declared.reply.Back.TheVariants as back;
+ghost use Rattle.engine_core.specs.declared.reply.Success.TheVariants.{Ccb, Freeze, Left, Removed, Parked, Resumed};
+ghost use Rattle.engine_core.specs.declared.reply.Returned.TheVariants as back;
 ghost use Rattle.engine_core.specs.declared.reply.Reply.TheVariants as replied;
 ghost use Rattle.engine_core.specs.Faults.{FaultIs};
 
 use crate::answers::{AdvanceAnswer, CallFault, CompleteAnswer};
 use crate::run::Run;
-use world_calls::CallRefusal;
 use ccb::CcbId;
 use freeze_ledger::FreezeToken;
+use world_calls::CallRefusal;
 
 /// What a call gives that was carried out.
-pub enum Given {
+pub enum Success {
     /// The number of the CCB that was submitted or started.
     Ccb(CcbId),
     /// The CCB is finished.
@@ -39,7 +39,7 @@ pub enum Given {
 }
 
 /// What a call owned that was not carried out.
-pub enum Back {
+pub enum Returned {
     /// It owned nothing.
     Nothing,
     Run(Run),
@@ -49,13 +49,13 @@ pub enum Back {
 /// The engine's reply to a call.
 pub enum Reply {
     /// The call was carried out, and is recorded.
-    Given(Given),
+    Success(Success),
     /// It was refused, and that is recorded. It changed nothing else.
     Refused(CallRefusal),
     /// C4 or C6: the run is not out, or the token is no guest's. The engine is as before.
-    Unfit(Back),
+    NotAdmitted(Returned),
     /// Memory was refused. The engine is as before.
-    OutOfMemory(Back),
+    OutOfMemory(Returned),
 }
 
 impl Reply {
@@ -64,16 +64,16 @@ impl Reply {
         ensures { result ≡ is_recorded self.now }
     {
         match self {
-            Reply::Given(_) | Reply::Refused(_) => true,
-            Reply::Unfit(_) | Reply::OutOfMemory(_) => false,
+            Reply::Success(_) | Reply::Refused(_) => true,
+            Reply::NotAdmitted(_) | Reply::OutOfMemory(_) => false,
         }
     }
 
     /// Spends what it gives, or what came back.
     pub fn forfeit(self) {
         match self {
-            Reply::Given(given) => given.forfeit(),
-            Reply::Unfit(back) | Reply::OutOfMemory(back) => back.forfeit(),
+            Reply::Success(given) => given.forfeit(),
+            Reply::NotAdmitted(back) | Reply::OutOfMemory(back) => back.forfeit(),
             Reply::Refused(_) => {}
         }
     }
@@ -97,25 +97,26 @@ impl Reply {
     }
 }
 
-impl Given {
+impl Success {
     /// Spends what it gives.
     pub fn forfeit(self) {
         match self {
-            Given::Started(run, _) | Given::Goes(run, _) | Given::Resumed(run) => run.forfeit(),
-            Given::Freeze(token) => token.forfeit(),
-            Given::Ccb(_)
-            | Given::Done
-            | Given::Ended(_)
-            | Given::Left(_)
-            | Given::Removed(_)
-            | Given::Parked => {}
+            Success::Started(run, _) | Success::Goes(run, _) | Success::Resumed(run) =>
+                run.forfeit(),
+            Success::Freeze(token) => token.forfeit(),
+            Success::Ccb(_)
+            | Success::Done
+            | Success::Ended(_)
+            | Success::Left(_)
+            | Success::Removed(_)
+            | Success::Parked => {}
         }
     }
 
     /// The run that is out, if one is given. What else is given is spent.
     pub(crate) fn run(self) -> Option<Run> {
         match self {
-            Given::Started(run, _) | Given::Goes(run, _) | Given::Resumed(run) => Some(run),
+            Success::Started(run, _) | Success::Goes(run, _) | Success::Resumed(run) => Some(run),
             other => {
                 other.forfeit();
                 None
@@ -129,7 +130,7 @@ impl Given {
         ensures { self ≡ Ccb result }
     {
         match self {
-            Given::Ccb(ccb) => ccb,
+            Success::Ccb(ccb) => ccb,
             other => {
                 other.forfeit();
                 unreachable!()
@@ -143,8 +144,8 @@ impl Given {
         ensures { self ≡ given_completed result }
     {
         match self {
-            Given::Done => CompleteAnswer::Done,
-            Given::Started(run, freeze) => CompleteAnswer::Started(run, freeze),
+            Success::Done => CompleteAnswer::Done,
+            Success::Started(run, freeze) => CompleteAnswer::Started(run, freeze),
             other => {
                 other.forfeit();
                 unreachable!()
@@ -158,8 +159,8 @@ impl Given {
         ensures { self ≡ given_advanced result }
     {
         match self {
-            Given::Goes(run, r0) => AdvanceAnswer::Goes(run, r0),
-            Given::Ended(r0) => AdvanceAnswer::Ended(r0),
+            Success::Goes(run, r0) => AdvanceAnswer::Goes(run, r0),
+            Success::Ended(r0) => AdvanceAnswer::Ended(r0),
             other => {
                 other.forfeit();
                 unreachable!()
@@ -173,7 +174,7 @@ impl Given {
         ensures { self ≡ Freeze result }
     {
         match self {
-            Given::Freeze(token) => token,
+            Success::Freeze(token) => token,
             other => {
                 other.forfeit();
                 unreachable!()
@@ -187,7 +188,7 @@ impl Given {
         ensures { self ≡ Left result }
     {
         match self {
-            Given::Left(count) => count,
+            Success::Left(count) => count,
             other => {
                 other.forfeit();
                 unreachable!()
@@ -201,7 +202,7 @@ impl Given {
         ensures { self ≡ Removed result }
     {
         match self {
-            Given::Removed(count) => count,
+            Success::Removed(count) => count,
             other => {
                 other.forfeit();
                 unreachable!()
@@ -223,7 +224,7 @@ impl Given {
         ensures { self ≡ Resumed result }
     {
         match self {
-            Given::Resumed(run) => run,
+            Success::Resumed(run) => run,
             other => {
                 other.forfeit();
                 unreachable!()
@@ -232,13 +233,13 @@ impl Given {
     }
 }
 
-impl Back {
+impl Returned {
     /// Spends what came back.
     pub fn forfeit(self) {
         match self {
-            Back::Nothing => {}
-            Back::Run(run) => run.forfeit(),
-            Back::Token(token) => token.forfeit(),
+            Returned::Nothing => {}
+            Returned::Run(run) => run.forfeit(),
+            Returned::Token(token) => token.forfeit(),
         }
     }
 
@@ -248,7 +249,7 @@ impl Back {
         ensures { self ≡ back.Run result }
     {
         match self {
-            Back::Run(run) => run,
+            Returned::Run(run) => run,
             other => {
                 other.forfeit();
                 unreachable!()
@@ -262,7 +263,7 @@ impl Back {
         ensures { self ≡ back.Token result }
     {
         match self {
-            Back::Token(token) => token,
+            Returned::Token(token) => token,
             other => {
                 other.forfeit();
                 unreachable!()

@@ -1,5 +1,5 @@
 // The events of a run: an advance, a park and a resume. It relies on `engine_runs` for what is recorded of a run, and on
-// `taking_over` for what its segment's stop does.
+// `commit_segment` for what its segment's stop does.
 
 ghost use Rattle.std.specs.Prelude.{◌≡◌, ℕ, List, IfOk, IfErr};
 ghost use Rattle.world.specs.World.{Transport as TheTransport};
@@ -8,22 +8,22 @@ ghost use Rattle.engine_runs.specs.Admits.{IsOutWith};
 ghost use Rattle.world.specs.World.{Setup, LiveRun};
 ghost use Rattle.engine_runs.specs.RunPlaces.{HasRunAt};
 ghost use Rattle.engine_core.specs.declared.event.Event.TheVariants.{Advance, Park, Resume};
-ghost use Rattle.engine_core.specs.declared.reply.Back.TheVariants as back;
+ghost use Rattle.engine_core.specs.declared.reply.Returned.TheVariants as back;
 ghost use Rattle.engine_core.specs.Invariant.{KeepsEngine};
 ghost use Rattle.engine_core.specs.Performing.{IsPlaced, Performs};
 ghost use Rattle.engine_core.specs.RunState.{before_stop, IsAgain};
 
-use crate::reply::{Back, Given, Reply};
+use crate::commit_segment::{recorded, take_over};
+use crate::reply::{Reply, Returned, Success};
 use crate::run::Run;
 use crate::stopped::Stopped;
-use crate::taking_over::{recorded, take_over};
 use crate::told::refused;
-use world_calls::{Call, CallAnswer, CallRefusal, Record};
 use engine_config::Config;
 use engine_runs::Runs;
+use engine_transport::Transport;
 use std::alloc::{AllocError, Global};
 use std::sync::Arc;
-use engine_transport::Transport;
+use world_calls::{Call, CallAnswer, CallRefusal, Record};
 
 /// What the run at this place executed is taken over. Where memory is refused nothing changes, and the run comes back.
 #[inline(always)]
@@ -33,7 +33,7 @@ pub(crate) fn advance(
     runs: &mut Runs,
     place: usize,
     run: Stopped,
-) -> Result<(Reply, Record), Back>
+) -> Result<(Reply, Record), Returned>
     requires of { (setup : Setup) × (history : List TheRecord) × KeepsEngine setup history transport.old runs.old }
     requires out { IsOutWith runs.old.runs.list run.number run.segment.program.program run.segment.from }
     requires place { IsPlaced runs.old.runs.list run.number place }
@@ -44,7 +44,7 @@ pub(crate) fn advance(
     let instructions = run.steps();
     let at = run.stop();
     let Ok(stop) = recorded(alloc, &at) else {
-        return Err(Back::Run(run.back()));
+        return Err(Returned::Run(run.back()));
     };
     let (given, r0) = take_over(transport, runs, place, run, &at);
     let told = Record::Advance {
@@ -53,7 +53,7 @@ pub(crate) fn advance(
         stop,
         r0,
     };
-    Ok((Reply::Given(given), told))
+    Ok((Reply::Success(given), told))
 }
 
 /// The run at this place, which is out so, is parked. The places of its machines are kept for runs to come.
@@ -68,11 +68,18 @@ pub(crate) fn park(runs: &mut Runs, place: usize, run: Run) -> (Reply, Record)
     runs.keep_place(next);
     runs.set_out(place, false);
     let answer = CallAnswer::Ok;
-    (Reply::Given(Given::Parked), Record::Called { answer, call })
+    (
+        Reply::Success(Success::Parked),
+        Record::Called { answer, call },
+    )
 }
 
 /// The run of that number, which is parked, is out again, or C1. Where memory is refused nothing changes.
-pub(crate) fn resume(config: &Config, runs: &mut Runs, run: u32) -> Result<(Reply, Record), Back>
+pub(crate) fn resume(
+    config: &Config,
+    runs: &mut Runs,
+    run: u32,
+) -> Result<(Reply, Record), Returned>
     requires { (transport : TheTransport) × (history : List TheRecord) × KeepsEngine config.now history transport runs.old }
     ensures performs { IfOk result (λ it. (transport : TheTransport) → Performs config.now (Resume run) transport runs.old transport runs.new it.0 it.1) }
     ensures refused { IfErr result (λ owned. (runs.new ≡ runs.old) × (owned ≡ back.Nothing)) }
@@ -82,12 +89,12 @@ pub(crate) fn resume(config: &Config, runs: &mut Runs, run: u32) -> Result<(Repl
         return Ok(refused(CallRefusal::Unknown, call));
     };
     let Ok(again) = run_at(config, runs, place) else {
-        return Err(Back::Nothing);
+        return Err(Returned::Nothing);
     };
     runs.set_out(place, true);
     let answer = CallAnswer::Ok;
     Ok((
-        Reply::Given(Given::Resumed(again)),
+        Reply::Success(Success::Resumed(again)),
         Record::Called { answer, call },
     ))
 }

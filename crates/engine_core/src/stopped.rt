@@ -16,9 +16,9 @@ use bpf_accepted::Accepted;
 use bpf_machine::Machine;
 use bpf_semantics::Stop;
 use ccb::QueueId;
+use engine_runs::Runs;
 use helpers::{Answer, Request};
 use interpreter::stop_of;
-use engine_runs::Runs;
 use std::marker::Model;
 use std::sync::Arc;
 

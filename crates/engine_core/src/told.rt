@@ -4,11 +4,11 @@ ghost use Rattle.std.specs.Prelude.{◌≡◌};
 ghost use Rattle.world_calls.specs.declared.record.Record.TheVariants.{Called};
 ghost use Rattle.world_calls.specs.Answered.{ccb_answer, removed_answer};
 ghost use Rattle.engine_core.specs.Replies.{ccb_reply, removed_reply, refused_as};
-ghost use Rattle.engine_core.specs.Unrecorded.{IsCalled, answer_told};
+ghost use Rattle.engine_core.specs.ByNumber.{IsCalled, answer_told};
 
-use crate::reply::{Given, Reply};
-use world_calls::{Call, CallAnswer, CallRefusal, Record};
+use crate::reply::{Reply, Success};
 use ccb::CcbId;
+use world_calls::{Call, CallAnswer, CallRefusal, Record};
 
 /// A call that is refused.
 pub(crate) fn refused(refusal: CallRefusal, call: Call) -> (Reply, Record)
@@ -26,7 +26,7 @@ pub(crate) fn ccb_told(answer: Result<CcbId, CallRefusal>, call: Call) -> (Reply
         Ok(ccb) => {
             let answer = CallAnswer::Ccb(ccb);
             (
-                Reply::Given(Given::Ccb(ccb)),
+                Reply::Success(Success::Ccb(ccb)),
                 Record::Called { answer, call },
             )
         }
@@ -42,7 +42,7 @@ pub(crate) fn removed_told(answer: Result<u32, CallRefusal>, call: Call) -> (Rep
         Ok(count) => {
             let answer = CallAnswer::Removed(count);
             (
-                Reply::Given(Given::Removed(count)),
+                Reply::Success(Success::Removed(count)),
                 Record::Called { answer, call },
             )
         }

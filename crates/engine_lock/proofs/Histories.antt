@@ -11,8 +11,8 @@ use Rattle.world.specs.Flat.{flat}
 use Rattle.engine_core.specs.EngineState.{EngineState, Records}
 use Rattle.engine_core.specs.declared.event.Event.{Event}
 use Rattle.engine_core.specs.declared.reply.Reply.{Reply}
-use Rattle.engine_core.specs.declared.reply.Reply.TheVariants.{Given, Refused, Unfit, OutOfMemory}
-use Rattle.engine_core.specs.Replies.{Fits, Gives, IsRecorded, ToldFit, is_recorded}
+use Rattle.engine_core.specs.declared.reply.Reply.TheVariants.{Success, Refused, NotAdmitted, OutOfMemory}
+use Rattle.engine_core.specs.Replies.{ReplyMatchesEvent, GivesAsRecorded, IsRecorded, ToldFit, is_recorded}
 use Rattle.engine_lock.specs.Publishing.{last_of}
 use Rattle.engine_lock.specs.Sharing.{Answers, IsNewCaller, IsNewWatch, IsSince, Section, Tells, TellsUnrecorded, is_unfit}
 use Rattle.engine_lock.proofs.Since.{HasRecord, has_record}
@@ -23,7 +23,7 @@ last_more (only ∷ []) made = refl
 last_more (first ∷ second ∷ rest) made = last_more (second ∷ rest) made
 
 -- the engine's last record is beyond what was known, and is the one that the reply makes
-module _ (known : List Record) (old new : EngineState) (event : Event) (reply : Reply) (fits : Fits event reply) (is : is_recorded reply ≡ true) (recorded : IsRecorded old event reply new) (same : known ≡ old.history) where
+module _ (known : List Record) (old new : EngineState) (event : Event) (reply : Reply) (fits : ReplyMatchesEvent event reply) (is : is_recorded reply ≡ true) (recorded : IsRecorded old event reply new) (same : known ≡ old.history) where
   made : HasRecord event reply
   made = has_record event reply fits is
 
@@ -45,21 +45,21 @@ module _ (known : List Record) (old new : EngineState) (event : Event) (reply : 
 
 -- a call that is not recorded tells what was looked at, or nothing
 pub tells_unfit : (setup : Setup) (history : List Pair) (event : Event) (reply : Reply) (before after : CallerState) → is_unfit reply ≡ true → Looks setup history before after → Tells setup history event reply before after
-tells_unfit setup history event (Given given) before after is looks = absurd (let bad : false ≡ true = is in cc)
+tells_unfit setup history event (Success given) before after is looks = absurd (let bad : false ≡ true = is in cc)
 tells_unfit setup history event (Refused refusal) before after is looks = absurd (let bad : false ≡ true = is in cc)
-tells_unfit setup history event (Unfit back) before after is looks = looks
+tells_unfit setup history event (NotAdmitted back) before after is looks = looks
 tells_unfit setup history event (OutOfMemory back) before after is looks = absurd (let bad : false ≡ true = is in cc)
 
 pub tells_nothing : (setup : Setup) (history : List Pair) (event : Event) (reply : Reply) (before after : CallerState) → is_recorded reply ≡ false → is_unfit reply ≡ false → after ≡ before → Tells setup history event reply before after
-tells_nothing setup history event (Given given) before after unrecorded fit same = absurd (let bad : true ≡ false = unrecorded in cc)
+tells_nothing setup history event (Success given) before after unrecorded fit same = absurd (let bad : true ≡ false = unrecorded in cc)
 tells_nothing setup history event (Refused refusal) before after unrecorded fit same = absurd (let bad : true ≡ false = unrecorded in cc)
-tells_nothing setup history event (Unfit back) before after unrecorded fit same = absurd (let bad : true ≡ false = fit in cc)
+tells_nothing setup history event (NotAdmitted back) before after unrecorded fit same = absurd (let bad : true ≡ false = fit in cc)
 tells_nothing setup history event (OutOfMemory back) before after unrecorded fit same = same
 
 -- a call under the lock, by what stood there
 pub section_of : (setup : Setup) (begun : List Record) (calls : ℕ) (found left : EngineState) (history : List Pair) (event : Event) (reply : Reply) (before after : CallerState) →
     IsSince setup begun calls found → records history ≡ found.history →
-    IsRecorded found event reply left → Fits event reply → ToldFit found.world event reply → Gives found.setup found.world event left.world reply →
+    IsRecorded found event reply left → ReplyMatchesEvent event reply → ToldFit found.world event reply → GivesAsRecorded found.setup found.world event left.world reply →
     Tells setup history event reply before after → Section setup event reply before after
 section_of setup begun calls found left history event reply before after since its recorded fits fit gives tells = record {
   found = found;
@@ -85,6 +85,6 @@ new_watch_is setup begun keeper legal front = record { told = refl; seen = legal
 
 -- what is said of the engine inside the lock is said of the one that contracts see
 module _ (inside seen : EngineState) (same : inside ≡ seen) where
-  pub answered_so : (event : Event) (reply : Reply) (after : EngineState) → IsRecorded inside event reply after → Fits event reply → ToldFit inside.world event reply → Gives inside.setup inside.world event after.world reply → Answers seen event reply after
+  pub answered_so : (event : Event) (reply : Reply) (after : EngineState) → IsRecorded inside event reply after → ReplyMatchesEvent event reply → ToldFit inside.world event reply → GivesAsRecorded inside.setup inside.world event after.world reply → Answers seen event reply after
   answered_so event reply after recorded fits fit gives =
       subst (λ (e : EngineState). Answers e event reply after) same (record { recorded = recorded; fits = fits; fit = fit; gives = gives })

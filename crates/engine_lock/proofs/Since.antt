@@ -5,10 +5,10 @@ use Rattle.world_calls.specs.declared.record.Record.{Record}
 use Rattle.world.specs.World.{Setup}
 use Rattle.engine_core.specs.EngineState.{EngineState, IsRun, Records}
 use Rattle.engine_core.specs.declared.event.Event.{Event}
-use Rattle.engine_core.specs.declared.event.Event.TheVariants.{Submit, Dispatch, Complete, Advance, Clock, GuestFreeze, GuestRelease, Park, Resume}
+use Rattle.engine_core.specs.declared.event.Event.TheVariants.{Advance, GuestRelease, Park}
 use Rattle.engine_core.specs.declared.reply.Reply.{Reply}
-use Rattle.engine_core.specs.declared.reply.Reply.TheVariants.{Given, Refused, Unfit, OutOfMemory}
-use Rattle.engine_core.specs.Replies.{Fits, IsRecorded, is_recorded, record_of}
+use Rattle.engine_core.specs.declared.reply.Reply.TheVariants.{Success, Refused, NotAdmitted, OutOfMemory}
+use Rattle.engine_core.specs.Replies.{ReplyMatchesEvent, IsRecorded, is_recorded, record_of}
 use Rattle.engine_lock.specs.Sharing.{IsSince}
 
 -- which record it makes
@@ -16,21 +16,16 @@ pub record HasRecord (event : Event) (reply : Reply) : Type 0 where
   pub told : Record
   pub is : record_of event reply ≡ Some told
 
-pub has_record : (event : Event) (reply : Reply) → Fits event reply → is_recorded reply ≡ true → HasRecord event reply
-has_record event (Given given) fits is = record { told = _; is = refl }
-has_record (Submit queue priority retries) (Refused refusal) fits is = record { told = _; is = refl }
-has_record (Dispatch queue) (Refused refusal) fits is = record { told = _; is = refl }
-has_record (Complete completion) (Refused refusal) fits is = record { told = _; is = refl }
+pub has_record : (event : Event) (reply : Reply) → ReplyMatchesEvent event reply → is_recorded reply ≡ true → HasRecord event reply
+has_record event (Success given) fits is = record { told = _; is = refl }
 has_record (Advance run) (Refused refusal) fits is = absurd (let bad : true ≡ false = fits in cc)
-has_record (Clock reading) (Refused refusal) fits is = record { told = _; is = refl }
-has_record (GuestFreeze place guest) (Refused refusal) fits is = record { told = _; is = refl }
 has_record (GuestRelease token) (Refused refusal) fits is = absurd (let bad : true ≡ false = fits in cc)
 has_record (Park run) (Refused refusal) fits is = absurd (let bad : true ≡ false = fits in cc)
-has_record (Resume run) (Refused refusal) fits is = record { told = _; is = refl }
-has_record event (Unfit back) fits is = absurd (let bad : false ≡ true = is in cc)
+has_record event (Refused refusal) fits is = record { told = _; is = refl }
+has_record event (NotAdmitted back) fits is = absurd (let bad : false ≡ true = is in cc)
 has_record event (OutOfMemory back) fits is = absurd (let bad : false ≡ true = is in cc)
 
-pub since_more : (setup : Setup) (begun : List Record) (calls : ℕ) (old new : EngineState) (event : Event) (reply : Reply) → IsSince setup begun calls old → Fits event reply → is_recorded reply ≡ true → IsRecorded old event reply new → IsRun new → IsSince setup begun (calls + 1) new
+pub since_more : (setup : Setup) (begun : List Record) (calls : ℕ) (old new : EngineState) (event : Event) (reply : Reply) → IsSince setup begun calls old → ReplyMatchesEvent event reply → is_recorded reply ≡ true → IsRecorded old event reply new → IsRun new → IsSince setup begun (calls + 1) new
 since_more setup begun calls old new event reply s fits is recorded run =
     let made = has_record event reply fits is in
     let more : Records old new made.told = subst (λ (o : Option Record). MatchOption o (new ≡ old) (λ told. Records old new told)) made.is recorded in

@@ -6,8 +6,8 @@ use Rattle.world.specs.World.{Setup}
 use Rattle.engine_core.specs.EngineState.{EngineState, IsRun}
 use Rattle.engine_core.specs.declared.event.Event.{Event}
 use Rattle.engine_core.specs.declared.reply.Reply.{Reply}
-use Rattle.engine_core.specs.declared.reply.Reply.TheVariants.{Unfit}
-use Rattle.engine_core.specs.Replies.{Fits, Gives, IsRecorded, ToldFit, record_of}
+use Rattle.engine_core.specs.declared.reply.Reply.TheVariants.{NotAdmitted}
+use Rattle.engine_core.specs.Replies.{ReplyMatchesEvent, GivesAsRecorded, IsRecorded, ToldFit, record_of}
 use Rattle.monitor.specs.declared.knowledge.Pair.{Pair}
 use Rattle.monitor.specs.LegalHistory.{LegalHistory, StartsWith, records, unshared}
 use Rattle.monitor.specs.Telling.{Agrees, CallerState, Joins, KeeperState, Looks, WatchState}
@@ -23,9 +23,9 @@ pub record IsSince (setup : Setup) (begun : List Record) (calls : ℕ) (state : 
 -- the engine answers an event so
 pub record Answers (old : EngineState) (event : Event) (reply : Reply) (new : EngineState) : Type 0 where
   pub recorded : IsRecorded old event reply new
-  pub fits : Fits event reply
+  pub fits : ReplyMatchesEvent event reply
   pub fit : ToldFit old.world event reply
-  pub gives : Gives old.setup old.world event new.world reply
+  pub gives : GivesAsRecorded old.setup old.world event new.world reply
 
 -- what stands under the lock: the engine, its history with who made each record, and how many callers were given out
 pub record LockedState : Type 0 where
@@ -39,13 +39,13 @@ keeper_of state = record { history = state.history; callers = state.given }
 
 -- C4 or C6
 abbrev pub is_unfit : Reply → Bool
-is_unfit (Unfit back) = true
+is_unfit (NotAdmitted back) = true
 is_unfit reply = false
 
 -- What a call that is not recorded tells its caller, where this history stood. After C4 or C6 it has seen that history. Where
 -- memory was refused it knows what it knew.
 abbrev pub TellsUnrecorded : Setup → List Pair → Reply → CallerState → CallerState → Type 0
-TellsUnrecorded setup history (Unfit back) before after = Looks setup history before after
+TellsUnrecorded setup history (NotAdmitted back) before after = Looks setup history before after
 TellsUnrecorded setup history reply before after = after ≡ before
 
 -- What a call tells its caller, where this history stood. Where it is recorded its record joined the history, at its end, and the

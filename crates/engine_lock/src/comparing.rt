@@ -17,14 +17,7 @@ pub(crate) fn known_queue(programs: &[Arc<Accepted>], event: &Event<'_>) -> Opti
 {
     match event {
         Event::Advance { run } => queue_of(programs, run),
-        Event::Submit { .. }
-        | Event::Dispatch { .. }
-        | Event::Complete { .. }
-        | Event::Clock { .. }
-        | Event::GuestFreeze { .. }
-        | Event::GuestRelease { .. }
-        | Event::Park { .. }
-        | Event::Resume { .. } => None,
+        _ => None,
     }
 }
 

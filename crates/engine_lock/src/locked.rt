@@ -187,5 +187,5 @@ impl<B: Object> Locked<B> {
 fn is_unfit(reply: &Reply) -> bool
     ensures { result ≡ is_unfit reply.now }
 {
-    matches!(reply, Reply::Unfit(_))
+    matches!(reply, Reply::NotAdmitted(_))
 }

@@ -8,5 +8,5 @@ mod run_record;
 mod runs;
 mod started;
 
-pub use engine_runs::{MAX_RUNS, Runs};
+pub use runs::{MAX_RUNS, Runs};
 pub use started::Started;

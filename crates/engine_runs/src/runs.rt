@@ -19,7 +19,7 @@ ghost use Rattle.world.specs.Capacities.{most_runs};
 ghost use Rattle.world.specs.Lookups.{run_of, with_run};
 ghost use Rattle.world.specs.CcbSteps.{run_meets_limit};
 ghost use Rattle.table_store.specs.Tables.{HasWord, with_word, word_at};
-ghost use Rattle.engine_runs.specs.Admits.{IsOutWith, IsRecorded, KnowsProgram};
+ghost use Rattle.engine_runs.specs.Admits.{IsOutWith, IsRunRecorded, KnowsProgram};
 ghost use Rattle.engine_runs.specs.LiveRuns.{live_of};
 ghost use Rattle.engine_runs.specs.RunPlaces.{HasRunAt};
 ghost use Rattle.engine_runs.specs.RunsState.{no_runs, run_for, told, tokens_at, tokens_of};
@@ -31,11 +31,11 @@ use crate::run_record::RunRecord;
 use crate::started::Started;
 use bpf_accepted::Accepted;
 use bpf_machine::Machine;
+use cam_numbered_slots::NumberedSlots;
 use ccb::{CONTEXT_BYTES, Ccb, CcbId, QueueId, context};
 use freeze_ledger::FreezeToken;
 use helpers::{Answer, Request};
 use interpreter::pass;
-use cam_numbered_slots::NumberedSlots;
 use std::alloc::{AllocError, Global};
 use std::marker::Model;
 use std::mem::replace;
@@ -90,7 +90,7 @@ fn is_of_known(it: &RunRecord, known: Option<QueueId>) -> bool
 // Whether the recorded run is out with that program, in that machine. A program that is its own for sure is not compared.
 fn is_out_with(it: &RunRecord, program: &Accepted, is_its: bool, machine: &Machine) -> bool
     requires { IsTrue is_its → program.now.program ≡ (live_of it.now).program }
-    ensures { IsTrue result ↔ IsRecorded (live_of it.now) program.now.program machine.now }
+    ensures { IsTrue result ↔ IsRunRecorded (live_of it.now) program.now.program machine.now }
 {
     it.out && (is_its || is_same_program(program, &it.program)) && machine.is_same(&it.machine)
 }

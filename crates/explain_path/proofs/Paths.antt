@@ -7,8 +7,8 @@ use Rattle.bpf_insn.specs.declared.insn.Insn.{Insn}
 use Rattle.bpf_insn.specs.declared.insn.Insn.TheVariants.{Alu, InPlace, SignExtend, JumpIf, Jump, LoadImmediate, Load, Store, Call, Exit}
 use Rattle.bpf_insn.specs.declared.insn.Callee.TheVariants.{Helper, Local}
 use Rattle.bpf_insn.specs.declared.program.Slot.{Slot}
-use Rattle.call_shape.specs.StaticPath.{Standing, LeadsTo, ReturnsTo, moved}
-use Rattle.explain_path.specs.Passes.{IsPath, Leads, Passes, begins, goes_on, standing}
+use Rattle.call_shape.specs.StaticPath.{Standing, StepLeadsTo, ReturnsTo, moved}
+use Rattle.explain_path.specs.Passes.{IsPath, StandingLeads, Passes, begins, goes_on, standing}
 
 -- ---- one step
 
@@ -28,7 +28,7 @@ jumped_same at to there x y (inr p) (inl q) same = moved_same at to there y x p 
 jumped_same at to there x y (inr p) (inr q) same = moved_same at to there y y p q same
 
 -- an instruction leads to a slot in one way
-led_same : (at to there : Standing) (insn : Insn) → LeadsTo at insn to → LeadsTo at insn there → to.slot ≡ there.slot → to ≡ there
+led_same : (at to there : Standing) (insn : Insn) → StepLeadsTo at insn to → StepLeadsTo at insn there → to.slot ≡ there.slot → to ≡ there
 led_same at to there (Alu width op dst src) p q same = p ∙ sym q
 led_same at to there (InPlace op dst) p q same = p ∙ sym q
 led_same at to there (SignExtend extension dst src) p q same = p ∙ sym q
@@ -41,10 +41,10 @@ led_same at to there (Call (Helper number)) p q same = p ∙ sym q
 led_same at to there (Call (Local distance)) p q same = p ∙ sym q
 led_same at to there Exit p q same = returned_same at.returns to there p q
 
-leads_same : (program : List Slot) (at to there : Standing) → Leads program at to → Leads program at there → to.slot ≡ there.slot → to ≡ there
+leads_same : (program : List Slot) (at to there : Standing) → StandingLeads program at to → StandingLeads program at there → to.slot ≡ there.slot → to ≡ there
 leads_same program at to there one other same =
     let insn : one.0 ≡ other.0 = same_Some one.0 other.0 (sym one.1 ∙ other.1) in
-    led_same at to there other.0 (subst (λ (i : Insn). LeadsTo at i to) insn one.2) other.2 same
+    led_same at to there other.0 (subst (λ (i : Insn). StepLeadsTo at i to) insn one.2) other.2 same
 
 -- ---- paths
 
@@ -63,14 +63,14 @@ settled program slots others at there (goes_on before from to passes leads) begi
 settled program slots others at there (goes_on before from to passes leads) (goes_on before' from' to' passes' leads') e =
     let same = same_from_push before before' to.slot to'.slot e in
     let alike : from ≡ from' = settled program before before' from from' passes passes' same.0 in
-    leads_same program from to to' leads (subst (λ (s : Standing). Leads program s to') (sym alike) leads') same.1
+    leads_same program from to to' leads (subst (λ (s : Standing). StandingLeads program s to') (sym alike) leads') same.1
 
 -- a path up to one of its slots, and the step to it
 pub record Steps (program : List Slot) (slots : List ℕ) (place : ℕ) : Type 0 where
   pub from : Standing
   pub to : Standing
   pub passes : Passes program (take place slots) from
-  pub leads : Leads program from to
+  pub leads : StandingLeads program from to
   pub slot : to.slot ≡ slice_index_or slots place 0
 
 steps_at : (program : List Slot) (slots : List ℕ) (at : Standing) → Passes program slots at → (place : ℕ) → 0 < place → place < length slots → Steps program slots place
@@ -99,12 +99,12 @@ steps_at program slots at (goes_on before from to passes leads) place some withi
 
 -- where no step leads to the next slot there is no path
 pub no_path : (program : List Slot) (slots : List ℕ) (place at : ℕ) (returns : List ℕ) → Passes program (0 ∷ take place slots) (standing at returns) → place < length slots
-    → ((there : List ℕ) → Leads program (standing at returns) (standing (slice_index_or slots place 0) there) → ⊥) → IsPath program (0 ∷ slots) → ⊥
+    → ((there : List ℕ) → StandingLeads program (standing at returns) (standing (slice_index_or slots place 0) there) → ⊥) → IsPath program (0 ∷ slots) → ⊥
 no_path program slots place at returns passes within none path =
     let step = steps_at program (0 ∷ slots) path.0 path.1 (suc place) (omega arith) (omega (arith, within)) in
     let same : step.from ≡ standing at returns = settled program (0 ∷ take place slots) (0 ∷ take place slots) step.from (standing at returns) step.passes passes refl in
     let there : step.to ≡ standing (slice_index_or slots place 0) step.to.returns = ap (λ (slot : ℕ). standing slot step.to.returns) step.slot in
-    none step.to.returns (subst (λ (s : Standing). Leads program (standing at returns) s) there (subst (λ (s : Standing). Leads program s step.to) same step.leads))
+    none step.to.returns (subst (λ (s : Standing). StandingLeads program (standing at returns) s) there (subst (λ (s : Standing). StandingLeads program s step.to) same step.leads))
 
 -- a path begins at slot 0, and at no other
 pub at_first : (program : List Slot) (slots : List ℕ) (at : Standing) → Passes program slots at → (rest : List ℕ) × (slots ≡ 0 ∷ rest)

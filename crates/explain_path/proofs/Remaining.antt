@@ -20,7 +20,7 @@ use Rattle.call_shape.proofs.Paths.{LeadsOn, WaysFrom, GoesOut, leads_so, ways_o
 use Rattle.call_shape.proofs.Places.{begins_first, begins_there, there_begins}
 use Rattle.call_shape.proofs.Ways.{IsLawfulWay, lawful_way}
 use Rattle.explain_path.specs.Passes.{IsWhole, Passes, begins, goes_on, standing}
-use Rattle.explain_path.specs.Remaining.{left, IsUnderWay, GoesOn, GoesTo}
+use Rattle.explain_path.specs.Remaining.{left, IsUnderWay, StepsOn, GoesTo}
 
 -- ---- the longest path from a place
 
@@ -105,7 +105,7 @@ left_by lengths at to (Branches next other) whole (same, inr is) = omega (arith,
 left_by lengths at to (Enters callee next) whole goes =
     omega (arith, whole, ap (left lengths) goes, sum_by-cons (slice_index lengths) next at.returns)
 
-pub goes_on_by : (program : List Slot) (lengths : List ℕ) (at to : Standing) (insn : Insn) → IsUnderWay program lengths at → insn_at program at.slot ≡ Some insn → GoesTo lengths at.returns (onward at.slot insn) to → GoesOn program lengths at to
+pub goes_on_by : (program : List Slot) (lengths : List ℕ) (at to : Standing) (insn : Insn) → IsUnderWay program lengths at → insn_at program at.slot ≡ Some insn → GoesTo lengths at.returns (onward at.slot insn) to → StepsOn program lengths at to
 goes_on_by program lengths at to insn is there goes =
     let functions = is.lawful.frames.calls.functions in
     let whole = entry_by program lengths at.slot insn is.program_is functions is.longest there in
@@ -155,7 +155,7 @@ walked_first program lengths slots returns is lawful known first none =
       remaining = omega (arith, least);
     }
 
-pub walked_more : (program : List Slot) (lengths slots further : List ℕ) (at to : Standing) (count : ℕ) → GoesOn program lengths at to → further ≡ slots ++ to.slot ∷ [] → IsWalked program lengths slots at count → IsWalked program lengths further to (count + 1)
+pub walked_more : (program : List Slot) (lengths slots further : List ℕ) (at to : Standing) (count : ℕ) → StepsOn program lengths at to → further ≡ slots ++ to.slot ∷ [] → IsWalked program lengths slots at count → IsWalked program lengths further to (count + 1)
 walked_more program lengths slots further at to count goes more walked = record {
   passes = subst (λ (s : List ℕ). Passes program s to) (sym more) (goes_on slots at to walked.passes goes.leads);
   under_way = goes.under_way;

@@ -8,7 +8,7 @@ use Rattle.call_shape.specs.Shape.{IsLawful}
 use Rattle.call_shape.specs.StaticPath.{Standing}
 use Rattle.call_shape.specs.declared.onward.Onward.{Onward}
 use Rattle.call_shape.specs.declared.onward.Onward.TheVariants.{Leaves, Continues, Branches, Enters}
-use Rattle.explain_path.specs.Passes.{Leads, standing}
+use Rattle.explain_path.specs.Passes.{StandingLeads, standing}
 
 -- how many instructions are left there: to the exit of its function, and from where each open call goes on to that of its own
 abbrev pub left : List ℕ → Standing → ℕ
@@ -22,8 +22,8 @@ pub record IsUnderWay (program : List Slot) (lengths : List ℕ) (at : Standing)
   pub begun : AreBegun program (at.slot ∷ at.returns)
 
 -- it goes on there, and one instruction less is left
-pub record GoesOn (program : List Slot) (lengths : List ℕ) (at to : Standing) : Type 0 where
-  pub leads : Leads program at to
+pub record StepsOn (program : List Slot) (lengths : List ℕ) (at to : Standing) : Type 0 where
+  pub leads : StandingLeads program at to
   pub under_way : IsUnderWay program lengths to
   pub one_less : left lengths at ≡ left lengths to + 1
 

@@ -5,7 +5,7 @@ ghost use Rattle.call_shape.specs.StaticPath.{StaticPath, outermost};
 ghost use Rattle.call_shape.specs.Tables.{HasEntries};
 ghost use Rattle.call_shape.specs.declared.onward.Onward.TheVariants.{Leaves};
 ghost use Rattle.explain_path.specs.Passes.{IsWhole, standing};
-ghost use Rattle.explain_path.specs.Remaining.{left, IsUnderWay, GoesOn, IsLonger, GoesTo};
+ghost use Rattle.explain_path.specs.Remaining.{left, IsUnderWay, StepsOn, IsLonger, GoesTo};
 
 use bpf_insn::Program;
 use budget_path::lengths;
@@ -41,7 +41,7 @@ fn next_of(
 ) -> Result<usize, AllocError>
     requires under_way { IsUnderWay program.now lengths.now (standing at returns.old.items) }
     requires further { 1 < left lengths.now (standing at returns.old.items) }
-    ensures { IfOk result (λ to. GoesOn program.now lengths.now (standing at returns.old.items) (standing to returns.new.items)) }
+    ensures { IfOk result (λ to. StepsOn program.now lengths.now (standing at returns.old.items) (standing to returns.new.items)) }
 {
     let Some(insn) = program.fetch(at) else {
         unreachable!();

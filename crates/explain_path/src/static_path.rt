@@ -3,8 +3,8 @@
 ghost use Rattle.std.specs.Prelude.{◌≡◌, ◌↔◌, ◌∷◌, ℕ, List, IfOk, IsTrue, false};
 ghost use Rattle.bpf_insn.specs.declared.insn.Insn.{Insn as TheInsn};
 ghost use Rattle.call_shape.specs.Onward.{onward};
-ghost use Rattle.call_shape.specs.StaticPath.{LeadsTo};
-ghost use Rattle.explain_path.specs.Passes.{IsPath, Leads, standing};
+ghost use Rattle.call_shape.specs.StaticPath.{StepLeadsTo};
+ghost use Rattle.explain_path.specs.Passes.{IsPath, StandingLeads, standing};
 
 use bpf_insn::{MAX_SLOTS, Program};
 use call_shape::Onward;
@@ -61,8 +61,8 @@ fn leads(
     to: usize,
     returns: &mut Vec<usize>,
 ) -> Result<bool, AllocError>
-    ensures yes { IfOk result (λ yes. IsTrue yes → Leads program.now (standing from returns.old.items) (standing to returns.new.items)) }
-    ensures no { IfOk result (λ yes. yes ≡ false → (there : List ℕ) → Leads program.now (standing from returns.old.items) (standing to there) → ⊥) }
+    ensures yes { IfOk result (λ yes. IsTrue yes → StandingLeads program.now (standing from returns.old.items) (standing to returns.new.items)) }
+    ensures no { IfOk result (λ yes. yes ≡ false → (there : List ℕ) → StandingLeads program.now (standing from returns.old.items) (standing to there) → ⊥) }
 {
     match program.fetch(from) {
         Some(insn) if from < MAX_SLOTS => leads_by(Onward::of(from, insn), to, returns),
@@ -72,8 +72,8 @@ fn leads(
 
 // Whether it may lead there by where an instruction lets it go on.
 fn leads_by(way: Onward, to: usize, returns: &mut Vec<usize>) -> Result<bool, AllocError>
-    ensures yes { IfOk result (λ yes. IsTrue yes → (from : ℕ) (insn : TheInsn) → onward from insn ≡ way → LeadsTo (standing from returns.old.items) insn (standing to returns.new.items)) }
-    ensures no { IfOk result (λ yes. yes ≡ false → (from : ℕ) (insn : TheInsn) (there : List ℕ) → onward from insn ≡ way → LeadsTo (standing from returns.old.items) insn (standing to there) → ⊥) }
+    ensures yes { IfOk result (λ yes. IsTrue yes → (from : ℕ) (insn : TheInsn) → onward from insn ≡ way → StepLeadsTo (standing from returns.old.items) insn (standing to returns.new.items)) }
+    ensures no { IfOk result (λ yes. yes ≡ false → (from : ℕ) (insn : TheInsn) (there : List ℕ) → onward from insn ≡ way → StepLeadsTo (standing from returns.old.items) insn (standing to there) → ⊥) }
 {
     match way {
         Onward::Leaves => Ok(returns_to(to, returns)),

@@ -4,7 +4,7 @@ use Rattle.std.proofs.lemmas.Bool.{cases_eq}
 use Rattle.freeze_ledger.specs.declared.freeze.Freeze.{Freeze}
 use Rattle.ccb.specs.Places.{index_of}
 use Rattle.freeze_ledger.specs.Entries.{freeze_at, Changes}
-use Rattle.freeze_ledger.specs.Chained.{Leads, LeadsTo, lower, higher}
+use Rattle.freeze_ledger.specs.Chained.{LinkLeads, LinkLeadsTo, lower, higher}
 use Rattle.freeze_ledger.specs.Links.{unless, first_with}
 use Rattle.freeze_ledger.specs.Invariant.{AreApart, AreGiven}
 
@@ -55,7 +55,7 @@ same_freeze slots k j f g e e2 same =
 
 module _ (comes : ℕ → ℕ → Type 0) (order : IsOrder comes) where
   -- a link that does not lead to what went
-  leads_still : (old new : List (Option Freeze)) (key p n : ℕ) (link : Option ℕ) → Changes old new key None → link ≢ Some key → Leads comes old p n link → Leads comes new p n link
+  leads_still : (old new : List (Option Freeze)) (key p n : ℕ) (link : Option ℕ) → Changes old new key None → link ≢ Some key → LinkLeads comes old p n link → LinkLeads comes new p n link
   leads_still old new key p n None change other was = λ k f e named c. was k f (stayed old new key change k f e).1 named c
   leads_still old new key p n (Some j) change other was =
       record {
@@ -67,7 +67,7 @@ module _ (comes : ℕ → ℕ → Type 0) (order : IsOrder comes) where
       }
 
   -- a link that leads on from what went, from a number of which what went came first
-  leads_past : (old new : List (Option Freeze)) (key p n : ℕ) (f : Freeze) (link : Option ℕ) → AreApart old → Changes old new key None → freeze_at old key ≡ Some f → comes n f.number → ((o : ℕ) (b : Freeze) → freeze_at old o ≡ Some b → index_of b.place ≡ p → comes n b.number → comes b.number f.number → ⊥) → Leads comes old p f.number link → Leads comes new p n link
+  leads_past : (old new : List (Option Freeze)) (key p n : ℕ) (f : Freeze) (link : Option ℕ) → AreApart old → Changes old new key None → freeze_at old key ≡ Some f → comes n f.number → ((o : ℕ) (b : Freeze) → freeze_at old o ≡ Some b → index_of b.place ≡ p → comes n b.number → comes b.number f.number → ⊥) → LinkLeads comes old p f.number link → LinkLeads comes new p n link
   leads_past old new key p n f None apart change there behind between was = λ k g e named c.
       let s = stayed old new key change k g e in
       elim (order.one_way g.number f.number (λ same. s.0 (apart k key g f s.1 there same))) [
@@ -89,7 +89,7 @@ module _ (comes : ℕ → ℕ → Type 0) (order : IsOrder comes) where
       }
 
   -- what leads to a freeze is what that leads back to
-  leads_back : (old : List (Option Freeze)) (key k p : ℕ) (f g : Freeze) (link : Option ℕ) → AreApart old → freeze_at old key ≡ Some f → freeze_at old k ≡ Some g → index_of g.place ≡ p → index_of f.place ≡ p → LeadsTo comes old p g.number key → Leads (λ m n. comes n m) old p f.number link → link ≡ Some k
+  leads_back : (old : List (Option Freeze)) (key k p : ℕ) (f g : Freeze) (link : Option ℕ) → AreApart old → freeze_at old key ≡ Some f → freeze_at old k ≡ Some g → index_of g.place ≡ p → index_of f.place ≡ p → LinkLeadsTo comes old p g.number key → LinkLeads (λ m n. comes n m) old p f.number link → link ≡ Some k
   leads_back old key k p f g None apart there at named f_named to back =
       let it : to.freeze ≡ f = same_freeze old key key to.freeze f to.there there refl in
       absurd (back k g at named (subst (λ (x : Freeze). comes g.number x.number) it to.behind))
@@ -107,52 +107,52 @@ module _ (comes : ℕ → ℕ → Type 0) (order : IsOrder comes) where
       ]
 
   -- the link of each other entry, once one is gone
-  pub links_left : (old new : List (Option Freeze)) (key : ℕ) (f : Freeze) (next next2 : ℕ → Option ℕ) (before : Option ℕ) → AreApart old → Changes old new key None → freeze_at old key ≡ Some f → Leads (λ m n. comes n m) old (index_of f.place) f.number before → ((k : ℕ) (g : Freeze) → freeze_at old k ≡ Some g → Leads comes old (index_of g.place) g.number (next k)) → ((k : ℕ) → before ≡ Some k → next2 k ≡ next key) → ((k : ℕ) → before ≢ Some k → next2 k ≡ next k) → (k : ℕ) (g : Freeze) → freeze_at new k ≡ Some g → Leads comes new (index_of g.place) g.number (next2 k)
+  pub links_left : (old new : List (Option Freeze)) (key : ℕ) (f : Freeze) (next next2 : ℕ → Option ℕ) (before : Option ℕ) → AreApart old → Changes old new key None → freeze_at old key ≡ Some f → LinkLeads (λ m n. comes n m) old (index_of f.place) f.number before → ((k : ℕ) (g : Freeze) → freeze_at old k ≡ Some g → LinkLeads comes old (index_of g.place) g.number (next k)) → ((k : ℕ) → before ≡ Some k → next2 k ≡ next key) → ((k : ℕ) → before ≢ Some k → next2 k ≡ next k) → (k : ℕ) (g : Freeze) → freeze_at new k ≡ Some g → LinkLeads comes new (index_of g.place) g.number (next2 k)
   links_left old new key f next next2 before apart change there back each led kept k g e =
       let s = stayed old new key change k g e in
       elim (decided before k) [
         | inl yes_k ↦
-            let to : LeadsTo (λ m n. comes n m) old (index_of f.place) f.number k = subst (λ (l : Option ℕ). Leads (λ m n. comes n m) old (index_of f.place) f.number l) yes_k back in
+            let to : LinkLeadsTo (λ m n. comes n m) old (index_of f.place) f.number k = subst (λ (l : Option ℕ). LinkLeads (λ m n. comes n m) old (index_of f.place) f.number l) yes_k back in
             let it : to.freeze ≡ g = same_freeze old k k to.freeze g to.there s.1 refl in
             let named : index_of g.place ≡ index_of f.place = subst (λ (x : Freeze). index_of x.place ≡ index_of f.place) it to.named in
             let behind : comes g.number f.number = subst (λ (x : Freeze). comes x.number f.number) it to.behind in
             let between : (o : ℕ) (b : Freeze) → freeze_at old o ≡ Some b → index_of b.place ≡ index_of f.place → comes g.number b.number → comes b.number f.number → ⊥ = λ o b at b_named c d. to.first o b at b_named d (subst (λ (x : Freeze). comes x.number b.number) (sym it) c) in
             let on = leads_past old new key (index_of f.place) g.number f (next key) apart change there behind between (each key f there) in
-            subst (λ (l : Option ℕ). Leads comes new (index_of g.place) g.number l) (sym (led k yes_k)) (subst (λ (p : ℕ). Leads comes new p g.number (next key)) (sym named) on)
+            subst (λ (l : Option ℕ). LinkLeads comes new (index_of g.place) g.number l) (sym (led k yes_k)) (subst (λ (p : ℕ). LinkLeads comes new p g.number (next key)) (sym named) on)
         | inr other ↦
             let was = each k g s.1 in
             let not_it : next k ≢ Some key = λ to_key.
-            let to : LeadsTo comes old (index_of g.place) g.number key = subst (λ (l : Option ℕ). Leads comes old (index_of g.place) g.number l) to_key was in
+            let to : LinkLeadsTo comes old (index_of g.place) g.number key = subst (λ (l : Option ℕ). LinkLeads comes old (index_of g.place) g.number l) to_key was in
             let it : to.freeze ≡ f = same_freeze old key key to.freeze f to.there there refl in
             let named : index_of f.place ≡ index_of g.place = subst (λ (x : Freeze). index_of x.place ≡ index_of g.place) it to.named in
-            let back_there = subst (λ (p : ℕ). Leads (λ m n. comes n m) old p f.number before) named back in
+            let back_there = subst (λ (p : ℕ). LinkLeads (λ m n. comes n m) old p f.number before) named back in
             other (leads_back old key k (index_of g.place) f g before apart there s.1 refl named to back_there) in
-            subst (λ (l : Option ℕ). Leads comes new (index_of g.place) g.number l) (sym (kept k other)) (leads_still old new key (index_of g.place) g.number (next k) change not_it was)
+            subst (λ (l : Option ℕ). LinkLeads comes new (index_of g.place) g.number l) (sym (kept k other)) (leads_still old new key (index_of g.place) g.number (next k) change not_it was)
       ]
 
   -- and the end of a chain
-  pub end_left : (old new : List (Option Freeze)) (key n q : ℕ) (f : Freeze) (before next end end2 : Option ℕ) → AreApart old → Changes old new key None → freeze_at old key ≡ Some f → ((k : ℕ) (g : Freeze) → freeze_at old k ≡ Some g → comes n g.number) → Leads (λ m n. comes n m) old (index_of f.place) f.number before → Leads comes old (index_of f.place) f.number next → Leads comes old q n end → (q ≡ index_of f.place → end2 ≡ unless before next end) → (q ≢ index_of f.place → end2 ≡ end) → Leads comes new q n end2
+  pub end_left : (old new : List (Option Freeze)) (key n q : ℕ) (f : Freeze) (before next end end2 : Option ℕ) → AreApart old → Changes old new key None → freeze_at old key ≡ Some f → ((k : ℕ) (g : Freeze) → freeze_at old k ≡ Some g → comes n g.number) → LinkLeads (λ m n. comes n m) old (index_of f.place) f.number before → LinkLeads comes old (index_of f.place) f.number next → LinkLeads comes old q n end → (q ≡ index_of f.place → end2 ≡ unless before next end) → (q ≢ index_of f.place → end2 ≡ end) → LinkLeads comes new q n end2
   end_left old new key n q f before next end end2 apart change there all back on was here elsewhere =
       elim (cases_eq q (index_of f.place)) [
         | inl same ↦
-            subst (λ (l : Option ℕ). Leads comes new q n l) (sym (here same)) (subst (λ (p : ℕ). Leads comes new p n (unless before next end)) (sym same) (at_it before back (subst (λ (p : ℕ). Leads comes old p n end) same was)))
+            subst (λ (l : Option ℕ). LinkLeads comes new q n l) (sym (here same)) (subst (λ (p : ℕ). LinkLeads comes new p n (unless before next end)) (sym same) (at_it before back (subst (λ (p : ℕ). LinkLeads comes old p n end) same was)))
         | inr other ↦
-            subst (λ (l : Option ℕ). Leads comes new q n l) (sym (elsewhere other)) (leads_still old new key q n end change (λ to_key.
-            let to : LeadsTo comes old q n key = subst (λ (l : Option ℕ). Leads comes old q n l) to_key was in
+            subst (λ (l : Option ℕ). LinkLeads comes new q n l) (sym (elsewhere other)) (leads_still old new key q n end change (λ to_key.
+            let to : LinkLeadsTo comes old q n key = subst (λ (l : Option ℕ). LinkLeads comes old q n l) to_key was in
             let it : to.freeze ≡ f = same_freeze old key key to.freeze f to.there there refl in
             other (sym to.named ∙ ap (λ (x : Freeze). index_of x.place) it)) was)
       ]
     where
-      at_it : (before : Option ℕ) → Leads (λ m n. comes n m) old (index_of f.place) f.number before → Leads comes old (index_of f.place) n end → Leads comes new (index_of f.place) n (unless before next end)
+      at_it : (before : Option ℕ) → LinkLeads (λ m n. comes n m) old (index_of f.place) f.number before → LinkLeads comes old (index_of f.place) n end → LinkLeads comes new (index_of f.place) n (unless before next end)
       at_it None back was = leads_past old new key (index_of f.place) n f next apart change there (all key f there) (λ o b at named c d. back o b at named d) on
       at_it (Some j) back was =
           leads_still old new key (index_of f.place) n end change (λ to_key.
-          let to : LeadsTo comes old (index_of f.place) n key = subst (λ (l : Option ℕ). Leads comes old (index_of f.place) n l) to_key was in
+          let to : LinkLeadsTo comes old (index_of f.place) n key = subst (λ (l : Option ℕ). LinkLeads comes old (index_of f.place) n l) to_key was in
           let it : to.freeze ≡ f = same_freeze old key key to.freeze f to.there there refl in
           to.first j back.freeze back.there back.named (all j back.freeze back.there) (subst (λ (x : Freeze). comes back.freeze.number x.number) (sym it) back.behind)) was
 
   -- another holder changes nothing of where links lead
-  pub leads_handed : (old new : List (Option Freeze)) (key p n : ℕ) (f later : Freeze) (link : Option ℕ) → Changes old new key (Some later) → freeze_at old key ≡ Some f → later.number ≡ f.number → later.place ≡ f.place → Leads comes old p n link → Leads comes new p n link
+  pub leads_handed : (old new : List (Option Freeze)) (key p n : ℕ) (f later : Freeze) (link : Option ℕ) → Changes old new key (Some later) → freeze_at old key ≡ Some f → later.number ≡ f.number → later.place ≡ f.place → LinkLeads comes old p n link → LinkLeads comes new p n link
   leads_handed old new key p n f later None change there number place was = λ k g e named c.
       elim (cases_eq k key) [
         | inl same ↦
@@ -203,7 +203,7 @@ came_or_was old new key greatest f it k g e =
     ]
 
 -- what led up leads up, but at the place's last, which led nowhere
-up_entered : (old new : List (Option Freeze)) (key greatest p n : ℕ) (f : Freeze) (link : Option ℕ) → Enters old new key greatest f → (link ≡ None → index_of f.place ≡ p → ⊥) → Leads lower old p n link → Leads lower new p n link
+up_entered : (old new : List (Option Freeze)) (key greatest p n : ℕ) (f : Freeze) (link : Option ℕ) → Enters old new key greatest f → (link ≡ None → index_of f.place ≡ p → ⊥) → LinkLeads lower old p n link → LinkLeads lower new p n link
 up_entered old new key greatest p n f None it led was = λ k g e named c.
     elim (came_or_was old new key greatest f it k g e) [
       | inl is ↦ led refl (ap (λ (x : Freeze). index_of x.place) is ∙ named)
@@ -223,7 +223,7 @@ up_entered old new key greatest p n f (Some j) it led was =
     }
 
 -- what led down leads down
-down_entered : (old new : List (Option Freeze)) (key greatest p n : ℕ) (f : Freeze) (link : Option ℕ) → Enters old new key greatest f → n ≤ greatest + 1 → Leads higher old p n link → Leads higher new p n link
+down_entered : (old new : List (Option Freeze)) (key greatest p n : ℕ) (f : Freeze) (link : Option ℕ) → Enters old new key greatest f → n ≤ greatest + 1 → LinkLeads higher old p n link → LinkLeads higher new p n link
 down_entered old new key greatest p n f None it below was = λ k g e named c.
     elim (came_or_was old new key greatest f it k g e) [
       | inl is ↦ let g_is : f.number ≡ g.number = ap (λ (x : Freeze). x.number) is in omega (arith, g_is, c, it.number, below)
@@ -243,7 +243,7 @@ down_entered old new key greatest p n f (Some j) it below was =
     }
 
 -- at other places the last is who it was
-last_elsewhere : (old new : List (Option Freeze)) (key greatest p : ℕ) (f : Freeze) (link : Option ℕ) → Enters old new key greatest f → p ≢ index_of f.place → Leads higher old p (greatest + 1) link → Leads higher new p (greatest + 1 + 1) link
+last_elsewhere : (old new : List (Option Freeze)) (key greatest p : ℕ) (f : Freeze) (link : Option ℕ) → Enters old new key greatest f → p ≢ index_of f.place → LinkLeads higher old p (greatest + 1) link → LinkLeads higher new p (greatest + 1 + 1) link
 last_elsewhere old new key greatest p f None it other was = λ k g e named c.
     elim (came_or_was old new key greatest f it k g e) [
       | inl is ↦ other (sym named ∙ sym (ap (λ (x : Freeze). index_of x.place) is))
@@ -263,7 +263,7 @@ last_elsewhere old new key greatest p f (Some j) it other was =
     }
 
 -- the place's last leads nowhere, and no other
-is_last : (old : List (Option Freeze)) (greatest k p : ℕ) (g : Freeze) (last : Option ℕ) → AreApart old → AreGiven old greatest → freeze_at old k ≡ Some g → index_of g.place ≡ p → Leads higher old p (greatest + 1) last → Leads lower old p g.number None → last ≡ Some k
+is_last : (old : List (Option Freeze)) (greatest k p : ℕ) (g : Freeze) (last : Option ℕ) → AreApart old → AreGiven old greatest → freeze_at old k ≡ Some g → index_of g.place ≡ p → LinkLeads higher old p (greatest + 1) last → LinkLeads lower old p g.number None → last ≡ Some k
 is_last old greatest k p g None apart given at named ends none = absurd (ends k g at named (omega (arith, (given k g at).1)))
 is_last old greatest k p g (Some j) apart given at named ends none =
     elim (cases_eq j k) [
@@ -276,7 +276,7 @@ is_last old greatest k p g (Some j) apart given at named ends none =
           ]
     ]
 
-pub laters_entered : (old new : List (Option Freeze)) (key greatest : ℕ) (f : Freeze) (last : Option ℕ) (next next2 : ℕ → Option ℕ) → Enters old new key greatest f → Leads higher old (index_of f.place) (greatest + 1) last → ((k : ℕ) (g : Freeze) → freeze_at old k ≡ Some g → Leads lower old (index_of g.place) g.number (next k)) → next2 key ≡ None → ((k : ℕ) → last ≡ Some k → next2 k ≡ Some key) → ((k : ℕ) → k ≢ key → last ≢ Some k → next2 k ≡ next k) → (k : ℕ) (g : Freeze) → freeze_at new k ≡ Some g → Leads lower new (index_of g.place) g.number (next2 k)
+pub laters_entered : (old new : List (Option Freeze)) (key greatest : ℕ) (f : Freeze) (last : Option ℕ) (next next2 : ℕ → Option ℕ) → Enters old new key greatest f → LinkLeads higher old (index_of f.place) (greatest + 1) last → ((k : ℕ) (g : Freeze) → freeze_at old k ≡ Some g → LinkLeads lower old (index_of g.place) g.number (next k)) → next2 key ≡ None → ((k : ℕ) → last ≡ Some k → next2 k ≡ Some key) → ((k : ℕ) → k ≢ key → last ≢ Some k → next2 k ≡ next k) → (k : ℕ) (g : Freeze) → freeze_at new k ≡ Some g → LinkLeads lower new (index_of g.place) g.number (next2 k)
 laters_entered old new key greatest f last next next2 it ends each mine led kept k g e =
     elim (cases_eq k key) [
       | inl same ↦
@@ -284,21 +284,21 @@ laters_entered old new key greatest f last next next2 it ends each mine led kept
           let both : Some f ≡ Some g = sym it.change.changed ∙ (ap (freeze_at new) (sym same) ∙ e) in
           let is : f ≡ g = cc both in
           let g_is : f.number ≡ g.number = ap (λ (x : Freeze). x.number) is in
-          let nothing : Leads lower new (index_of g.place) g.number None = λ o h e2 named c.
+          let nothing : LinkLeads lower new (index_of g.place) g.number None = λ o h e2 named c.
           elim (came_or_was old new key greatest f it o h e2) [
             | inl is_too ↦ let h_is : f.number ≡ h.number = ap (λ (x : Freeze). x.number) is_too in omega (arith, h_is, g_is, c)
             | inr there ↦ omega (arith, (it.given o h there).1, g_is, it.number, c)
           ] in
-          subst (λ (l : Option ℕ). Leads lower new (index_of g.place) g.number l) (sym none) nothing
+          subst (λ (l : Option ℕ). LinkLeads lower new (index_of g.place) g.number l) (sym none) nothing
       | inr other ↦
           let at : freeze_at old k ≡ Some g = sym (it.change.others k other) ∙ e in
           elim (decided last k) [
             | inl yes_k ↦
-                let to : LeadsTo higher old (index_of f.place) (greatest + 1) k = subst (λ (l : Option ℕ). Leads higher old (index_of f.place) (greatest + 1) l) yes_k ends in
+                let to : LinkLeadsTo higher old (index_of f.place) (greatest + 1) k = subst (λ (l : Option ℕ). LinkLeads higher old (index_of f.place) (greatest + 1) l) yes_k ends in
                 let is : to.freeze ≡ g = same_freeze old k k to.freeze g to.there at refl in
                 let named : index_of g.place ≡ index_of f.place = subst (λ (x : Freeze). index_of x.place ≡ index_of f.place) is to.named in
                 let w_is : to.freeze.number ≡ g.number = ap (λ (x : Freeze). x.number) is in
-                let leads : LeadsTo lower new (index_of g.place) g.number key = record {
+                let leads : LinkLeadsTo lower new (index_of g.place) g.number key = record {
                   freeze = f;
                   there = it.change.changed;
                   named = sym named;
@@ -309,42 +309,42 @@ laters_entered old new key greatest f last next next2 it ends each mine led kept
                         | inr there ↦ to.first o h there (h_named ∙ named) (omega (arith, d, it.number)) (omega (arith, c, w_is))
                       ];
                 } in
-                subst (λ (l : Option ℕ). Leads lower new (index_of g.place) g.number l) (sym (led k yes_k)) leads
+                subst (λ (l : Option ℕ). LinkLeads lower new (index_of g.place) g.number l) (sym (led k yes_k)) leads
             | inr not_last ↦
                 let was = each k g at in
                 let leads = up_entered old new key greatest (index_of g.place) g.number f (next k) it (λ none named.
-                let nothing : Leads lower old (index_of g.place) g.number None = subst (λ (l : Option ℕ). Leads lower old (index_of g.place) g.number l) none was in
-                not_last (is_last old greatest k (index_of g.place) g last it.apart it.given at refl (subst (λ (p : ℕ). Leads higher old p (greatest + 1) last) named ends) nothing)) was in
-                subst (λ (l : Option ℕ). Leads lower new (index_of g.place) g.number l) (sym (kept k other not_last)) leads
+                let nothing : LinkLeads lower old (index_of g.place) g.number None = subst (λ (l : Option ℕ). LinkLeads lower old (index_of g.place) g.number l) none was in
+                not_last (is_last old greatest k (index_of g.place) g last it.apart it.given at refl (subst (λ (p : ℕ). LinkLeads higher old p (greatest + 1) last) named ends) nothing)) was in
+                subst (λ (l : Option ℕ). LinkLeads lower new (index_of g.place) g.number l) (sym (kept k other not_last)) leads
           ]
     ]
 
-pub earliers_entered : (old new : List (Option Freeze)) (key greatest : ℕ) (f : Freeze) (last : Option ℕ) (prev prev2 : ℕ → Option ℕ) → Enters old new key greatest f → Leads higher old (index_of f.place) (greatest + 1) last → ((k : ℕ) (g : Freeze) → freeze_at old k ≡ Some g → Leads higher old (index_of g.place) g.number (prev k)) → prev2 key ≡ last → ((k : ℕ) → k ≢ key → prev2 k ≡ prev k) → (k : ℕ) (g : Freeze) → freeze_at new k ≡ Some g → Leads higher new (index_of g.place) g.number (prev2 k)
+pub earliers_entered : (old new : List (Option Freeze)) (key greatest : ℕ) (f : Freeze) (last : Option ℕ) (prev prev2 : ℕ → Option ℕ) → Enters old new key greatest f → LinkLeads higher old (index_of f.place) (greatest + 1) last → ((k : ℕ) (g : Freeze) → freeze_at old k ≡ Some g → LinkLeads higher old (index_of g.place) g.number (prev k)) → prev2 key ≡ last → ((k : ℕ) → k ≢ key → prev2 k ≡ prev k) → (k : ℕ) (g : Freeze) → freeze_at new k ≡ Some g → LinkLeads higher new (index_of g.place) g.number (prev2 k)
 earliers_entered old new key greatest f last prev prev2 it ends each mine kept k g e =
     elim (cases_eq k key) [
       | inl same ↦
           let both : Some f ≡ Some g = sym it.change.changed ∙ (ap (freeze_at new) (sym same) ∙ e) in
           let is : f ≡ g = cc both in
           let down = down_entered old new key greatest (index_of f.place) (greatest + 1) f last it (omega arith) ends in
-          let by_f : Leads higher new (index_of f.place) f.number last = subst (λ (n : ℕ). Leads higher new (index_of f.place) n last) (sym it.number) down in
-          let by_g : Leads higher new (index_of g.place) g.number last = subst (λ (x : Freeze). Leads higher new (index_of x.place) x.number last) is by_f in
-          subst (λ (l : Option ℕ). Leads higher new (index_of g.place) g.number l) (sym (ap prev2 same ∙ mine)) by_g
+          let by_f : LinkLeads higher new (index_of f.place) f.number last = subst (λ (n : ℕ). LinkLeads higher new (index_of f.place) n last) (sym it.number) down in
+          let by_g : LinkLeads higher new (index_of g.place) g.number last = subst (λ (x : Freeze). LinkLeads higher new (index_of x.place) x.number last) is by_f in
+          subst (λ (l : Option ℕ). LinkLeads higher new (index_of g.place) g.number l) (sym (ap prev2 same ∙ mine)) by_g
       | inr other ↦
           let at : freeze_at old k ≡ Some g = sym (it.change.others k other) ∙ e in
           let down = down_entered old new key greatest (index_of g.place) g.number f (prev k) it (omega (arith, (it.given k g at).1)) (each k g at) in
-          subst (λ (l : Option ℕ). Leads higher new (index_of g.place) g.number l) (sym (kept k other)) down
+          subst (λ (l : Option ℕ). LinkLeads higher new (index_of g.place) g.number l) (sym (kept k other)) down
     ]
 
-pub first_entered : (old new : List (Option Freeze)) (key greatest q : ℕ) (f : Freeze) (last first first2 : Option ℕ) → Enters old new key greatest f → Leads higher old (index_of f.place) (greatest + 1) last → Leads lower old q 0 first → (q ≡ index_of f.place → first2 ≡ first_with last first key) → (q ≢ index_of f.place → first2 ≡ first) → Leads lower new q 0 first2
+pub first_entered : (old new : List (Option Freeze)) (key greatest q : ℕ) (f : Freeze) (last first first2 : Option ℕ) → Enters old new key greatest f → LinkLeads higher old (index_of f.place) (greatest + 1) last → LinkLeads lower old q 0 first → (q ≡ index_of f.place → first2 ≡ first_with last first key) → (q ≢ index_of f.place → first2 ≡ first) → LinkLeads lower new q 0 first2
 first_entered old new key greatest q f last first first2 it ends was here elsewhere =
     elim (cases_eq q (index_of f.place)) [
       | inl same ↦
-          subst (λ (l : Option ℕ). Leads lower new q 0 l) (sym (here same)) (subst (λ (p : ℕ). Leads lower new p 0 (first_with last first key)) (sym same) (at_it last first ends (subst (λ (p : ℕ). Leads lower old p 0 first) same was)))
+          subst (λ (l : Option ℕ). LinkLeads lower new q 0 l) (sym (here same)) (subst (λ (p : ℕ). LinkLeads lower new p 0 (first_with last first key)) (sym same) (at_it last first ends (subst (λ (p : ℕ). LinkLeads lower old p 0 first) same was)))
       | inr other ↦
-          subst (λ (l : Option ℕ). Leads lower new q 0 l) (sym (elsewhere other)) (up_entered old new key greatest q 0 f first it (λ none named. other (sym named)) was)
+          subst (λ (l : Option ℕ). LinkLeads lower new q 0 l) (sym (elsewhere other)) (up_entered old new key greatest q 0 f first it (λ none named. other (sym named)) was)
     ]
   where
-    at_it : (last first : Option ℕ) → Leads higher old (index_of f.place) (greatest + 1) last → Leads lower old (index_of f.place) 0 first → Leads lower new (index_of f.place) 0 (first_with last first key)
+    at_it : (last first : Option ℕ) → LinkLeads higher old (index_of f.place) (greatest + 1) last → LinkLeads lower old (index_of f.place) 0 first → LinkLeads lower new (index_of f.place) 0 (first_with last first key)
     at_it None first ends was = record {
       freeze = f;
       there = it.change.changed;
@@ -358,20 +358,20 @@ first_entered old new key greatest q f last first first2 it ends was here elsewh
     }
     at_it (Some j) first ends was =
         up_entered old new key greatest (index_of f.place) 0 f first it (λ none named.
-        let nothing : Leads lower old (index_of f.place) 0 None = subst (λ (l : Option ℕ). Leads lower old (index_of f.place) 0 l) none was in
+        let nothing : LinkLeads lower old (index_of f.place) 0 None = subst (λ (l : Option ℕ). LinkLeads lower old (index_of f.place) 0 l) none was in
         nothing j ends.freeze ends.there ends.named ((it.given j ends.freeze ends.there).0)) was
 
-pub last_entered : (old new : List (Option Freeze)) (key greatest q : ℕ) (f : Freeze) (last last2 : Option ℕ) → Enters old new key greatest f → Leads higher old q (greatest + 1) last → (q ≡ index_of f.place → last2 ≡ Some key) → (q ≢ index_of f.place → last2 ≡ last) → Leads higher new q (greatest + 1 + 1) last2
+pub last_entered : (old new : List (Option Freeze)) (key greatest q : ℕ) (f : Freeze) (last last2 : Option ℕ) → Enters old new key greatest f → LinkLeads higher old q (greatest + 1) last → (q ≡ index_of f.place → last2 ≡ Some key) → (q ≢ index_of f.place → last2 ≡ last) → LinkLeads higher new q (greatest + 1 + 1) last2
 last_entered old new key greatest q f last last2 it was here elsewhere =
     elim (cases_eq q (index_of f.place)) [
       | inl same ↦
-          let leads : LeadsTo higher new q (greatest + 1 + 1) key = record {
+          let leads : LinkLeadsTo higher new q (greatest + 1 + 1) key = record {
             freeze = f;
             there = it.change.changed;
             named = sym same;
             behind = omega (arith, it.number);
             first = λ o b e named c d. omega (arith, c, d, it.number);
           } in
-          subst (λ (l : Option ℕ). Leads higher new q (greatest + 1 + 1) l) (sym (here same)) leads
-      | inr other ↦ subst (λ (l : Option ℕ). Leads higher new q (greatest + 1 + 1) l) (sym (elsewhere other)) (last_elsewhere old new key greatest q f last it other was)
+          subst (λ (l : Option ℕ). LinkLeads higher new q (greatest + 1 + 1) l) (sym (here same)) leads
+      | inr other ↦ subst (λ (l : Option ℕ). LinkLeads higher new q (greatest + 1 + 1) l) (sym (elsewhere other)) (last_elsewhere old new key greatest q f last it other was)
     ]

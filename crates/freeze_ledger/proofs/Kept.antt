@@ -14,7 +14,7 @@ use Rattle.freeze_ledger.specs.declared.freeze.Freeze.{Freeze}
 use Rattle.freeze_ledger.specs.declared.freeze.Holder.TheVariants.{Timer}
 use Rattle.freeze_ledger.specs.Freezes.{frozen, without, handed_over}
 use Rattle.freeze_ledger.specs.Entries.{freeze_at, freezes_in, Changes}
-use Rattle.freeze_ledger.specs.Invariant.{IsKept, AreApart, AreGiven}
+use Rattle.freeze_ledger.specs.Invariant.{LedgerIsKept, AreApart, AreGiven}
 use Rattle.freeze_ledger.proofs.Numbered.{remove_at, hand_over_at}
 use Rattle.freeze_ledger.proofs.Slots.{listed, list_rises, apart_changed, each_changed, freezes_entered, freezes_removed, freezes_handed}
 
@@ -102,7 +102,7 @@ entered_apart old new key greatest f apart given number change =
     let it : f ≡ g = cc is in
     omega (arith, (given k h e).1, same, number, ap (λ (x : Freeze). x.number) it))
 
-pub kept_entered : (old new : Slab Freeze) (counts : List ℕ) (greatest key : ℕ) (f : Freeze) → IsKept old counts greatest → Updates old new key (Some f) → freeze_at old.slots key ≡ None → f.number ≡ greatest + 1 → index_of f.place < length counts → slab_len new ≡ slab_len old + 1 → slab_len old < 1024 → new.capacity ≡ old.capacity → IsKept new (set counts (index_of f.place) (get_or counts (index_of f.place) 0 + 1)) (greatest + 1)
+pub kept_entered : (old new : Slab Freeze) (counts : List ℕ) (greatest key : ℕ) (f : Freeze) → LedgerIsKept old counts greatest → Updates old new key (Some f) → freeze_at old.slots key ≡ None → f.number ≡ greatest + 1 → index_of f.place < length counts → slab_len new ≡ slab_len old + 1 → slab_len old < 1024 → new.capacity ≡ old.capacity → LedgerIsKept new (set counts (index_of f.place) (get_or counts (index_of f.place) 0 + 1)) (greatest + 1)
 kept_entered old new counts greatest key f k u vacant number known len room capacity =
     let n = length-set counts (index_of f.place) (get_or counts (index_of f.place) 0 + 1) in
     let change = changes u in
@@ -122,14 +122,14 @@ pub removed_apart : (old new : List (Option Freeze)) (key : ℕ) → AreApart ol
 removed_apart old new key apart change = apart_changed old new key None apart change (λ g is. let no_one : None ≡ Some g = is in absurd (cc no_one))
 
 -- a place with an entry has a count above 0
-pub counted_above : (slab : Slab Freeze) (counts : List ℕ) (greatest key : ℕ) (f : Freeze) → IsKept slab counts greatest → freeze_at slab.slots key ≡ Some f → (index_of f.place < length counts) × (1 ≤ get_or counts (index_of f.place) 0)
+pub counted_above : (slab : Slab Freeze) (counts : List ℕ) (greatest key : ℕ) (f : Freeze) → LedgerIsKept slab counts greatest → freeze_at slab.slots key ≡ Some f → (index_of f.place < length counts) × (1 ≤ get_or counts (index_of f.place) 0)
 counted_above slab counts greatest key f kept e =
     let known = kept.known key f e in
     let fewer = sum_without (λ (x : Freeze). cond (is_place x.place f.place) 1 0) slab.slots greatest kept.apart kept.given key f e in
     let one : cond {A = ℕ} (is_place f.place f.place) 1 0 ≡ 1 = rw (eq-eqb (index_of f.place) (index_of f.place) refl) refl in
     (known, omega (arith, kept.counted f.place known, fewer, one))
 
-pub kept_removed : (old new : Slab Freeze) (counts : List ℕ) (greatest key : ℕ) (f : Freeze) → IsKept old counts greatest → Updates old new key None → freeze_at old.slots key ≡ Some f → slab_len new + 1 ≡ slab_len old → new.capacity ≡ old.capacity → IsKept new (set counts (index_of f.place) (get_or counts (index_of f.place) 0 - 1)) greatest
+pub kept_removed : (old new : Slab Freeze) (counts : List ℕ) (greatest key : ℕ) (f : Freeze) → LedgerIsKept old counts greatest → Updates old new key None → freeze_at old.slots key ≡ Some f → slab_len new + 1 ≡ slab_len old → new.capacity ≡ old.capacity → LedgerIsKept new (set counts (index_of f.place) (get_or counts (index_of f.place) 0 - 1)) greatest
 kept_removed old new counts greatest key f k u there len capacity =
     let n = length-set counts (index_of f.place) (get_or counts (index_of f.place) 0 - 1) in
     let change = changes u in
@@ -154,7 +154,7 @@ handed_apart old new key due f apart there change =
     let number : f.number ≡ g.number = ap (λ (x : Freeze). x.number) it in
     other (apart k key h f e there (same ∙ sym number)))
 
-pub kept_handed : (old new : Slab Freeze) (counts : List ℕ) (greatest key due : ℕ) (f : Freeze) → IsKept old counts greatest → Updates old new key (Some (record f { holder = Timer due })) → freeze_at old.slots key ≡ Some f → slab_len new ≡ slab_len old → new.capacity ≡ old.capacity → IsKept new counts greatest
+pub kept_handed : (old new : Slab Freeze) (counts : List ℕ) (greatest key due : ℕ) (f : Freeze) → LedgerIsKept old counts greatest → Updates old new key (Some (record f { holder = Timer due })) → freeze_at old.slots key ≡ Some f → slab_len new ≡ slab_len old → new.capacity ≡ old.capacity → LedgerIsKept new counts greatest
 kept_handed old new counts greatest key due f k u there len capacity =
     let change = changes u in
     let apart : AreApart new.slots = handed_apart old.slots new.slots key due f k.apart there change in
@@ -186,7 +186,7 @@ same_len s key f later there =
     omega (arith, sum, was)
 
 -- and none keep it
-pub kept_empty : (s : Slab Freeze) (places : ℕ) → s.slots ≡ [] → 1024 ≤ s.capacity → IsKept s (replicate places 0) 0
+pub kept_empty : (s : Slab Freeze) (places : ℕ) → s.slots ≡ [] → 1024 ≤ s.capacity → LedgerIsKept s (replicate places 0) 0
 unfolding freezes_in
 kept_empty s places empty room =
     let none : (key : ℕ) (f : Freeze) → freeze_at s.slots key ≡ Some f → ⊥ = λ key f e. let no_one : None ≡ Some f = subst (λ (xs : List (Option Freeze)). freeze_at xs key ≡ Some f) empty e in cc no_one in

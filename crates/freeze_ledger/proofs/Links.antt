@@ -10,7 +10,7 @@ use Rattle.ccb.specs.Places.{index_of}
 use Rattle.freeze_ledger.specs.Entries.{EntriesState, freeze_at, Changes}
 use Rattle.freeze_ledger.specs.Invariant.{AreApart, AreGiven}
 use Rattle.freeze_ledger.specs.Links.{no_link, no_ends, link_at, ends_at, led_on, led_back, appended, left, ends_with, ends_without, first_with, unless, IsWithin}
-use Rattle.freeze_ledger.specs.Chained.{Leads, IsChained, lower, higher}
+use Rattle.freeze_ledger.specs.Chained.{LinkLeads, IsChained, lower, higher}
 use Rattle.freeze_ledger.proofs.Chained.{rising, falling, links_left, end_left, leads_handed, Enters, laters_entered, earliers_entered, first_entered, last_entered}
 
 length_on : (links : List Link) (from to : Option ℕ) → length (led_on links from to) ≡ length links
@@ -56,7 +56,7 @@ within_of links more None same within = tt
 within_of links more (Some k) same within = omega (arith, same, within)
 
 -- where a link leads there is one
-pub within_lead : (comes : ℕ → ℕ → Type 0) (slots : List (Option Freeze)) (links : List Link) (p n : ℕ) (link : Option ℕ) → ((key : ℕ) (f : Freeze) → freeze_at slots key ≡ Some f → key < length links) → Leads comes slots p n link → IsWithin links link
+pub within_lead : (comes : ℕ → ℕ → Type 0) (slots : List (Option Freeze)) (links : List Link) (p n : ℕ) (link : Option ℕ) → ((key : ℕ) (f : Freeze) → freeze_at slots key ≡ Some f → key < length links) → LinkLeads comes slots p n link → IsWithin links link
 within_lead comes slots links p n None within to = tt
 within_lead comes slots links p n (Some k) within to = within k to.freeze to.there
 
@@ -89,7 +89,7 @@ chained_removed old new links ends key f is apart given there known change great
       firsts = λ q l. end_left lower rising old.slots new.slots key 0 q f link.earlier link.later (ends_at ends q).first (ends_at ends2 q).first apart change there (λ k g e. (given k g e).0) back forth (is.firsts q (bound q l))
           (λ same. ap (λ (e : Ends). e.first) (ends_here ends p q (ends_without (ends_at ends p) link) p_within same) ∙ ap (λ (m : ℕ). unless link.earlier link.later (ends_at ends m).first) (sym same))
           (λ other. ap (λ (e : Ends). e.first) (ends_elsewhere ends p q (ends_without (ends_at ends p) link) other));
-      lasts = λ q l. subst (λ (m : ℕ). Leads higher new.slots q (m + 1) (ends_at ends2 q).last) (sym greatest) (end_left higher falling old.slots new.slots key (old.greatest + 1) q f link.later link.earlier (ends_at ends q).last (ends_at ends2 q).last apart change there (λ k g e. omega (arith, (given k g e).1)) forth back (is.lasts q (bound q l))
+      lasts = λ q l. subst (λ (m : ℕ). LinkLeads higher new.slots q (m + 1) (ends_at ends2 q).last) (sym greatest) (end_left higher falling old.slots new.slots key (old.greatest + 1) q f link.later link.earlier (ends_at ends q).last (ends_at ends2 q).last apart change there (λ k g e. omega (arith, (given k g e).1)) forth back (is.lasts q (bound q l))
           (λ same. ap (λ (e : Ends). e.last) (ends_here ends p q (ends_without (ends_at ends p) link) p_within same) ∙ ap (λ (m : ℕ). unless link.later link.earlier (ends_at ends m).last) (sym same))
           (λ other. ap (λ (e : Ends). e.last) (ends_elsewhere ends p q (ends_without (ends_at ends p) link) other)));
       laters = links_left lower rising old.slots new.slots key f (λ k. (link_at links k).later) (λ k. (link_at links2 k).later) link.earlier apart change there back is.laters
@@ -129,7 +129,7 @@ chained_entered old new links ends key f is it key_within known greatest places 
       firsts = λ q l. first_entered old.slots new.slots key old.greatest q f end.last (ends_at ends q).first (ends_at ends2 q).first it last (is.firsts q (bound q l))
           (λ same. ap (λ (e : Ends). e.first) (ends_here ends p q (ends_with end key) p_within same) ∙ ap (λ (m : ℕ). first_with end.last (ends_at ends m).first key) (sym same))
           (λ other. ap (λ (e : Ends). e.first) (ends_elsewhere ends p q (ends_with end key) other));
-      lasts = λ q l. subst (λ (m : ℕ). Leads higher new.slots q (m + 1) (ends_at ends2 q).last) (sym greatest) (last_entered old.slots new.slots key old.greatest q f (ends_at ends q).last (ends_at ends2 q).last it (is.lasts q (bound q l))
+      lasts = λ q l. subst (λ (m : ℕ). LinkLeads higher new.slots q (m + 1) (ends_at ends2 q).last) (sym greatest) (last_entered old.slots new.slots key old.greatest q f (ends_at ends q).last (ends_at ends2 q).last it (is.lasts q (bound q l))
           (λ same. ap (λ (e : Ends). e.last) (ends_here ends p q (ends_with end key) p_within same))
           (λ other. ap (λ (e : Ends). e.last) (ends_elsewhere ends p q (ends_with end key) other)));
       laters = laters_entered old.slots new.slots key old.greatest f end.last (λ k. (link_at links k).later) (λ k. (link_at links2 k).later) it last is.laters
@@ -148,7 +148,7 @@ chained_entered old new links ends key f is it key_within known greatest places 
       keys = omega (arith, same_length, is.keys, keys);
     }
   where
-    last_is_other : (last : Option ℕ) → Leads higher old.slots (index_of f.place) (old.greatest + 1) last → last ≢ Some key
+    last_is_other : (last : Option ℕ) → LinkLeads higher old.slots (index_of f.place) (old.greatest + 1) last → last ≢ Some key
     last_is_other None to = λ e. cc e
     last_is_other (Some j) to = λ e.
         let same : j ≡ key = cc e in
@@ -168,7 +168,7 @@ chained_handed old new links ends key due f is there change greatest places keys
     ] in
     record {
       firsts = λ q l. leads_handed lower rising old.slots new.slots key q 0 f later (ends_at ends q).first change there refl refl (is.firsts q l);
-      lasts = λ q l. subst (λ (m : ℕ). Leads higher new.slots q (m + 1) (ends_at ends q).last) (sym greatest) (leads_handed higher falling old.slots new.slots key q (old.greatest + 1) f later (ends_at ends q).last change there refl refl (is.lasts q l));
+      lasts = λ q l. subst (λ (m : ℕ). LinkLeads higher new.slots q (m + 1) (ends_at ends q).last) (sym greatest) (leads_handed higher falling old.slots new.slots key q (old.greatest + 1) f later (ends_at ends q).last change there refl refl (is.lasts q l));
       laters = λ k g e.
           let h = was k g e in
           let leads = leads_handed lower rising old.slots new.slots key (index_of h.0.place) h.0.number f later (link_at links k).later change there refl refl (is.laters k h.0 h.1) in
@@ -182,9 +182,9 @@ chained_handed old new links ends key due f is there change greatest places keys
       keys = is.keys ∙ sym keys;
     }
   where
-    moved : (comes : ℕ → ℕ → Type 0) (link : Option ℕ) (h g : Freeze) → h.number ≡ g.number → h.place ≡ g.place → Leads comes new.slots (index_of h.place) h.number link → Leads comes new.slots (index_of g.place) g.number link
+    moved : (comes : ℕ → ℕ → Type 0) (link : Option ℕ) (h g : Freeze) → h.number ≡ g.number → h.place ≡ g.place → LinkLeads comes new.slots (index_of h.place) h.number link → LinkLeads comes new.slots (index_of g.place) g.number link
     moved comes link h g number place leads =
-        subst (λ (n : ℕ). Leads comes new.slots (index_of g.place) n link) number (subst (λ (p : ℕ). Leads comes new.slots p h.number link) (ap index_of place) leads)
+        subst (λ (n : ℕ). LinkLeads comes new.slots (index_of g.place) n link) number (subst (λ (p : ℕ). LinkLeads comes new.slots p h.number link) (ap index_of place) leads)
 
 -- nothing is chained by nothing
 pub chained_empty : (entries : EntriesState) (keys : ℕ) → entries.slots ≡ [] → entries.keys ≡ keys → IsChained entries (replicate keys no_link) (replicate entries.places no_ends)
@@ -192,8 +192,8 @@ chained_empty entries keys empty same =
     let none : (key : ℕ) (f : Freeze) → freeze_at entries.slots key ≡ Some f → ⊥ = λ key f e. let no_one : None ≡ Some f = subst (λ (xs : List (Option Freeze)). freeze_at xs key ≡ Some f) empty e in cc no_one in
     let at : (q : ℕ) → q < length (replicate entries.places no_ends) → ends_at (replicate entries.places no_ends) q ≡ no_ends = λ q l. get_or-replicate entries.places q no_ends no_ends (omega (arith, l, length-replicate entries.places no_ends)) in
     record {
-      firsts = λ q l. subst (λ (e : Ends). Leads lower entries.slots q 0 e.first) (sym (at q l)) (λ k g e named c. none k g e);
-      lasts = λ q l. subst (λ (e : Ends). Leads higher entries.slots q (entries.greatest + 1) e.last) (sym (at q l)) (λ k g e named c. none k g e);
+      firsts = λ q l. subst (λ (e : Ends). LinkLeads lower entries.slots q 0 e.first) (sym (at q l)) (λ k g e named c. none k g e);
+      lasts = λ q l. subst (λ (e : Ends). LinkLeads higher entries.slots q (entries.greatest + 1) e.last) (sym (at q l)) (λ k g e named c. none k g e);
       laters = λ k g e. absurd (none k g e);
       earliers = λ k g e. absurd (none k g e);
       within = λ k g e. absurd (none k g e);

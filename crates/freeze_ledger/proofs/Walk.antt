@@ -13,7 +13,7 @@ use Rattle.freeze_ledger.specs.Freezes.{names, frozen, holders_of}
 use Rattle.freeze_ledger.specs.Entries.{EntriesState, all_of}
 use Rattle.freeze_ledger.specs.Invariant.{AreNumbered, AreApart, AreGiven}
 use Rattle.freeze_ledger.specs.Links.{link_at, ends_at, walk, told}
-use Rattle.freeze_ledger.specs.Chained.{Leads, IsChained, lower}
+use Rattle.freeze_ledger.specs.Chained.{LinkLeads, IsChained, lower}
 use Rattle.freeze_ledger.proofs.Numbered.{above}
 use Rattle.freeze_ledger.proofs.Slots.{stands, listed, list_rises}
 
@@ -108,7 +108,7 @@ named_by : (place : Place) (f : Freeze) → names place f ≡ true → index_of 
 named_by place f e = eqb-true (index_of f.place) (index_of place) e
 
 module _ (entries : EntriesState) (links : List Link) (ends : List Ends) (place : Place) where
-  along : (steps n : ℕ) (link : Option ℕ) → IsChained entries links ends → AreApart entries.slots → AreGiven entries.slots entries.greatest → Leads lower entries.slots (index_of place) n link → length (holders_of place (beyond n (all_of entries))) ≤ steps → walk steps entries.slots links link ≡ holders_of place (beyond n (all_of entries))
+  along : (steps n : ℕ) (link : Option ℕ) → IsChained entries links ends → AreApart entries.slots → AreGiven entries.slots entries.greatest → LinkLeads lower entries.slots (index_of place) n link → length (holders_of place (beyond n (all_of entries))) ≤ steps → walk steps entries.slots links link ≡ holders_of place (beyond n (all_of entries))
   along zero n link is apart given leads few = sym (empty (holders_of place (beyond n (all_of entries))) few)
     where
       empty : (xs : List (ℕ × Holder)) → length xs ≤ 0 → xs ≡ []
@@ -128,7 +128,7 @@ module _ (entries : EntriesState) (links : List Link) (ends : List Ends) (place 
         | inl before ↦ absurd (leads.first at.0 g at.1 (named_by place g g_named) up before)
         | inr le ↦ le
       ]) in
-      let on : Leads lower entries.slots (index_of place) w.number (link_at links key).later = subst (λ (p : ℕ). Leads lower entries.slots p w.number (link_at links key).later) leads.named (is.laters key w leads.there) in
+      let on : LinkLeads lower entries.slots (index_of place) w.number (link_at links key).later = subst (λ (p : ℕ). LinkLeads lower entries.slots p w.number (link_at links key).later) leads.named (is.laters key w leads.there) in
       let fewer : length (holders_of place (beyond w.number (all_of entries))) ≤ steps = omega (arith, few, ap (λ (xs : List (ℕ × Holder)). length xs) next) in
       let rest = along steps w.number (link_at links key).later is apart given on fewer in
       ap (λ (o : Option Freeze). told o (walk steps entries.slots links (link_at links key).later)) leads.there

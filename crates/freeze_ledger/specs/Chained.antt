@@ -13,7 +13,7 @@ lower one other = one < other
 abbrev pub higher : ℕ → ℕ → Type 0
 higher one other = other < one
 
-pub record LeadsTo (comes : ℕ → ℕ → Type 0) (slots : List (Option Freeze)) (place number key : ℕ) : Type 0 where
+pub record LinkLeadsTo (comes : ℕ → ℕ → Type 0) (slots : List (Option Freeze)) (place number key : ℕ) : Type 0 where
   pub freeze : Freeze
   pub there : freeze_at slots key ≡ Some freeze
   pub named : index_of freeze.place ≡ place
@@ -21,16 +21,16 @@ pub record LeadsTo (comes : ℕ → ℕ → Type 0) (slots : List (Option Freeze
   pub first : (other : ℕ) (between : Freeze) → freeze_at slots other ≡ Some between → index_of between.place ≡ place → comes number between.number → comes between.number freeze.number → ⊥
 
 -- of the place's freezes that come behind this number in that order, the key is of the first; without one there is none
-abbrev pub Leads : (ℕ → ℕ → Type 0) → List (Option Freeze) → (place number : ℕ) → Option ℕ → Type 0
-Leads comes slots place number None =
+abbrev pub LinkLeads : (ℕ → ℕ → Type 0) → List (Option Freeze) → (place number : ℕ) → Option ℕ → Type 0
+LinkLeads comes slots place number None =
     (key : ℕ) (freeze : Freeze) → freeze_at slots key ≡ Some freeze → index_of freeze.place ≡ place → comes number freeze.number → ⊥
-Leads comes slots place number (Some key) = LeadsTo comes slots place number key
+LinkLeads comes slots place number (Some key) = LinkLeadsTo comes slots place number key
 
 pub record IsChained (entries : EntriesState) (links : List Link) (ends : List Ends) : Type 0 where
-  pub firsts : (place : ℕ) → place < length ends → Leads lower entries.slots place 0 (ends_at ends place).first
-  pub lasts : (place : ℕ) → place < length ends → Leads higher entries.slots place (entries.greatest + 1) (ends_at ends place).last
-  pub laters : (key : ℕ) (freeze : Freeze) → freeze_at entries.slots key ≡ Some freeze → Leads lower entries.slots (index_of freeze.place) freeze.number (link_at links key).later
-  pub earliers : (key : ℕ) (freeze : Freeze) → freeze_at entries.slots key ≡ Some freeze → Leads higher entries.slots (index_of freeze.place) freeze.number (link_at links key).earlier
+  pub firsts : (place : ℕ) → place < length ends → LinkLeads lower entries.slots place 0 (ends_at ends place).first
+  pub lasts : (place : ℕ) → place < length ends → LinkLeads higher entries.slots place (entries.greatest + 1) (ends_at ends place).last
+  pub laters : (key : ℕ) (freeze : Freeze) → freeze_at entries.slots key ≡ Some freeze → LinkLeads lower entries.slots (index_of freeze.place) freeze.number (link_at links key).later
+  pub earliers : (key : ℕ) (freeze : Freeze) → freeze_at entries.slots key ≡ Some freeze → LinkLeads higher entries.slots (index_of freeze.place) freeze.number (link_at links key).earlier
   pub within : (key : ℕ) (freeze : Freeze) → freeze_at entries.slots key ≡ Some freeze → key < length links
   pub places : length ends ≡ entries.places
   pub keys : length links ≡ entries.keys

@@ -27,7 +27,7 @@ AreGiven slots greatest =
 abbrev pub AreKnown : List (Option Freeze) → ℕ → Type 0
 AreKnown slots places = (key : ℕ) (freeze : Freeze) → freeze_at slots key ≡ Some freeze → index_of freeze.place < places
 
-pub record IsKept (slab : Slab Freeze) (counts : List ℕ) (greatest : ℕ) : Type 0 where
+pub record LedgerIsKept (slab : Slab Freeze) (counts : List ℕ) (greatest : ℕ) : Type 0 where
   pub apart : AreApart slab.slots
   pub given : AreGiven slab.slots greatest
   pub known : AreKnown slab.slots (length counts)

@@ -33,11 +33,11 @@ impl Model for Entries {
 
     ghost Value = { EntriesState };
 
-    ghost use Rattle.freeze_ledger.specs.Invariant.{IsKept};
+    ghost use Rattle.freeze_ledger.specs.Invariant.{LedgerIsKept};
 
     ghost view = { λ e. record { places = length e.counts.items; greatest = e.greatest; keys = e.slots.capacity; slots = e.slots.slots } };
 
-    ghost invariant = { λ e. IsKept e.slots e.counts.items e.greatest };
+    ghost invariant = { λ e. LedgerIsKept e.slots e.counts.items e.greatest };
 }
 
 impl Entries {

@@ -4,4 +4,4 @@
 
 mod opening;
 
-pub use host_opening::{OpenFault, open, put_fault};
+pub use opening::{OpenFault, open, put_fault};

@@ -4,8 +4,8 @@ ghost use Rattle.std.specs.Prelude.{◌≤◌, length};
 ghost use Rattle.host_opening.specs.Opened.{Opens};
 
 use base::OrMemory;
-use host_embedding::{EngineHandle, put_front};
 use engine_core::Engine;
+use host_embedding::{EngineHandle, put_front};
 use manifest::{ManifestFault, read};
 use std::alloc::Global;
 

@@ -9,7 +9,7 @@ use Rattle.inbox.specs.declared.account.Account.{Account}
 use Rattle.inbox.specs.declared.account.Entry.{Entry}
 use Rattle.inbox.specs.declared.account.Seen.{Seen}
 use Rattle.inbox.specs.declared.account.Shape.{Shape}
-use Rattle.inbox.specs.InboxLists.{InboxLists, AreLists, Agrees, BeginWith, Held, Puts, Takes, StartsWith, by_pass, completions, entry, known_by, learned}
+use Rattle.inbox.specs.InboxLists.{InboxLists, AreLists, Agrees, BeginWith, Held, IsPut, Takes, StartsWith, by_pass, completions, entry, known_by, learned}
 use Rattle.inbox.specs.Refusals.{NoneMeansTaken, RefusedMeansUsed, TookAllKnown, UsedAllKnown, ComesOut}
 use Rattle.inbox.specs.Seats.{Knows, new_account}
 
@@ -74,7 +74,7 @@ module _ (shape : Shape) (puts : shape.puts ≡ 1) (takes : shape.takes ≡ 1) w
       let used : 0 + shape.capacity ≤ 0 = All-head (λ (seen : Seen). length seen.taken + shape.capacity ≤ 0) (record { put = []; taken = [] }) [] (lone_put_used (new_account shape 0) puts (omega arith) h) in
       omega arith
 
-  module _ (p : Account) (c : Outcome) (put_is : Puts (new_account shape 0) p c) where
+  module _ (p : Account) (c : Outcome) (put_is : IsPut (new_account shape 0) p c) where
     abbrev told : Seen
     told = record { put = p.seen_put; taken = p.seen_taken }
 

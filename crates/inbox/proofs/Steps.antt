@@ -12,7 +12,7 @@ use Rattle.inbox.specs.declared.account.Account.{Account}
 use Rattle.inbox.specs.declared.account.View.{View}
 use Rattle.inbox.specs.declared.account.Role.{Role}
 use Rattle.inbox.specs.declared.account.Role.TheVariants.{Opening, Keeper, Holder, Teller, Spent}
-use Rattle.inbox.specs.InboxLists.{InboxLists, AreLists, Agrees, Puts, Takes, entry, completions}
+use Rattle.inbox.specs.InboxLists.{InboxLists, AreLists, Agrees, IsPut, Takes, entry, completions}
 use Rattle.inbox.specs.Seats.{Whole, Kept, Knows, Fits, FitsAs, IsReturned, lists_of, holding, weight, numbers}
 use Rattle.inbox.proofs.Entries.{three, by_pass-own, completions-push, agrees_after_put, agrees_after_take, told_after_put, told_after_take, starts_itself}
 use Rattle.inbox.proofs.Seating.{below, each_set, weight-set, accounted_set, back_set, unspent}
@@ -88,7 +88,7 @@ lists_after_take shape whole items m c none from to h = record {
 
 -- a pass that took in no other, and that took out nothing
 module _ (seat : ℕ) (v : View) (plain : v ≡ holding v.account [] []) where
-  pub puts : (n : ℕ) (x : Outcome) → n ≡ v.account.shape.capacity → v.account.number < v.account.shape.puts → Pushes Kept n seat v x (λ w. (w ≡ holding w.account [] []) × Puts v.account w.account x)
+  pub puts : (n : ℕ) (x : Outcome) → n ≡ v.account.shape.capacity → v.account.number < v.account.shape.puts → Pushes Kept n seat v x (λ w. (w ≡ holding w.account [] []) × IsPut v.account w.account x)
   puts n x capacity putter items views room h at =
       let role : v.role ≡ Holder = ap (λ (u : View). u.role) plain in
       let a = v.account in

@@ -58,7 +58,7 @@ pub record Held (a : Account) (n : ℕ) : Type 0 where
   pub held : length lists.left ≡ n
 
 -- the completion joined what was put, at the end
-pub record Puts (before after : Account) (completion : Outcome) : Type 0 where
+pub record IsPut (before after : Account) (completion : Outcome) : Type 0 where
   pub lists : InboxLists
   pub are_lists : AreLists before.shape lists
   pub agrees : Agrees lists before

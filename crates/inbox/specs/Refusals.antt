@@ -3,7 +3,7 @@ use Rattle.std.specs.Prelude.{◌≡◌, ◌+◌, ◌<◌, ◌≤◌, length, Al
 use Rattle.ccb.specs.Completion.{Outcome}
 use Rattle.inbox.specs.declared.account.Account.{Account}
 use Rattle.inbox.specs.declared.account.Shape.{Shape}
-use Rattle.inbox.specs.InboxLists.{Held, Puts, Takes, StartsWith, completions, known_by, learned}
+use Rattle.inbox.specs.InboxLists.{Held, IsPut, Takes, StartsWith, completions, known_by, learned}
 use Rattle.inbox.specs.Seats.{new_account}
 
 -- the inbox was empty: all puts that the pass knows of were taken
@@ -25,5 +25,5 @@ UsedAllKnown a = All (λ seen. length seen.taken + a.shape.capacity ≤ length a
 -- With one pass of each kind, both new: the put is not refused, and once the take pass has learned of it, it takes this very completion
 abbrev pub ComesOut : Type 0
 ComesOut = (shape : Shape) → shape.puts ≡ 1 → shape.takes ≡ 1 → 0 < shape.capacity → (¬ Held (new_account shape 0) shape.capacity)
-    × ((p : Account) (c : Outcome) → Puts (new_account shape 0) p c
+    × ((p : Account) (c : Outcome) → IsPut (new_account shape 0) p c
     → (¬ Held (learned (new_account shape 1) (known_by p)) 0) × ((t : Account) (x : Outcome) → Takes (learned (new_account shape 1) (known_by p)) t x → x ≡ c))

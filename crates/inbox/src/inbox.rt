@@ -2,7 +2,7 @@
 // It relies on the rule of its queue, which each put and take keeps.
 ghost use Rattle.std.specs.Prelude.{◌≡◌, ◌≤◌, ◌<◌, ◌+◌, [], ◌∷◌, ◌++◌, All, OnOk, IfOk, IfErr, OnErr, IfNone, MatchOption, vec_len, vec_capacity};
 ghost use Rattle.crossbeam_queue.specs.Passes.{IsPassOf, ruled_capacity};
-ghost use Rattle.inbox.specs.InboxLists.{Puts, Takes, Held};
+ghost use Rattle.inbox.specs.InboxLists.{IsPut, Takes, Held};
 ghost use Rattle.inbox.specs.Refusals.{TookAllKnown, UsedAllKnown};
 ghost use Rattle.inbox.specs.Seats.{known, opening};
 ghost use Rattle.inbox.specs.Views.{InboxView, IsOf, new_passes};
@@ -73,7 +73,7 @@ impl Inbox {
         Ok(deal::<Brand>(queue, seat, put_passes, puts, take_passes, takes))
     }
 
-    /// Puts a completion behind all that were put before. It comes back, and the pass stays as it was, only where the inbox was full at some moment: as many had been put then as there is room for, and one more for each take that the pass knows of. A pass knows what it saw when it last put, and what it was told (`PutPass::learn`); a new one knows of no take.
+    /// IsPut a completion behind all that were put before. It comes back, and the pass stays as it was, only where the inbox was full at some moment: as many had been put then as there is room for, and one more for each take that the pass knows of. A pass knows what it saw when it last put, and what it was told (`PutPass::learn`); a new one knows of no take.
     ///
     /// So the only put pass is refused only once it has put that many itself. Of several each is bound by what it knows, but the others may have put the rest (`laws::refusals`).
     ///
@@ -86,7 +86,7 @@ impl Inbox {
     ) -> Result<(), Completion>
         requires { IsOf self.now pass.old }
         ensures same { IsOf self.now pass.new }
-        ensures put { OnOk result (Puts pass.old.account pass.new.account completion) }
+        ensures put { OnOk result (IsPut pass.old.account pass.new.account completion) }
         ensures refused { IfErr result (λ back. (back ≡ completion) × (pass.new ≡ pass.old) × Held pass.old.account self.now.shape.capacity) }
         ensures lone { self.now.shape.puts ≡ 1 → OnErr result (UsedAllKnown pass.old.account) }
     {

@@ -95,10 +95,10 @@ pub struct Putting;
 
 impl Outcome<Completion, View> for Putting {
     ghost use Rattle.std.specs.Prelude.{◌≡◌, []};
-    ghost use Rattle.inbox.specs.InboxLists.{Puts};
+    ghost use Rattle.inbox.specs.InboxLists.{IsPut};
     ghost use Rattle.inbox.specs.Seats.{holding};
 
-    ghost then = { λ v x w. (w ≡ holding w.account [] []) × Puts v.account w.account x };
+    ghost then = { λ v x w. (w ≡ holding w.account [] []) × IsPut v.account w.account x };
 }
 
 impl Lesson<Completion, View> for Putting {

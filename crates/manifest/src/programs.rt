@@ -11,8 +11,8 @@ ghost use Rattle.manifest_form.specs.Seen.{program_seen, IfFault};
 ghost use Rattle.manifest.specs.Seen.{read_seen, named_seen, IsReadLine, IsAcceptedLine, IsUnreadLine, IsUnacceptedLine, IsUnacceptedAmong};
 
 use crate::{ManifestError, ManifestFault};
-use bpf_accepted::Accepted;
 use base::OrMemory;
+use bpf_accepted::Accepted;
 use bpf_asm::assemble;
 use bpf_decode::decode;
 use bpf_insn::Program;

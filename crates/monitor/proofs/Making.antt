@@ -11,7 +11,7 @@ use Rattle.monitor.specs.declared.knowledge.Pair.{Pair}
 use Rattle.monitor.specs.declared.knowledge.View.{View}
 use Rattle.monitor.specs.LegalHistory.{AreLegal, unshared, StartsWith}
 use Rattle.monitor.specs.Nameless.{no_setup}
-use Rattle.monitor.specs.Seats.{nothing, opening, keeping, with_caller, new_part, HasSums, Whole, Fits, Kept}
+use Rattle.monitor.specs.Seats.{nothing, opening, keeping, with_caller, new_part, HasSums, Whole, ViewHolds, Kept}
 use Rattle.monitor.proofs.Histories.{records_unshared, unshared_by_none, none_yet, itself, from_nothing, none_told}
 use Rattle.monitor.proofs.Places.{off, each_split, fits_nothing, not_alone, moved, moved_here, moved_else}
 
@@ -19,7 +19,7 @@ use Rattle.monitor.proofs.Places.{off, each_split, fits_nothing, not_alone, move
 abbrev unnamed : Whole
 unnamed = record { setup = no_setup; log = []; totals = totals_in [] (opening_world no_setup); given = 0; keeper = 0; place = λ n. 0 }
 
-opening_fits : (words : List ℕ) → Fits words 1 unnamed 0 opening
+opening_fits : (words : List ℕ) → ViewHolds words 1 unnamed 0 opening
 opening_fits words = record {
   alone = λ e. refl;
   keeps = λ e. absurd (off e);
@@ -29,8 +29,8 @@ opening_fits words = record {
   told = none_told [];
 }
 
-begins_each : (words : List ℕ) (seat : ℕ) (v : View) → get_elem? (opening ∷ []) seat ≡ some v → Fits words 1 unnamed seat v
-begins_each words zero v at = subst (Fits words 1 unnamed 0) (some-injective opening v at) (opening_fits words)
+begins_each : (words : List ℕ) (seat : ℕ) (v : View) → get_elem? (opening ∷ []) seat ≡ some v → ViewHolds words 1 unnamed seat v
+begins_each words zero v at = subst (ViewHolds words 1 unnamed 0) (some-injective opening v at) (opening_fits words)
 begins_each words (suc seat) v at = absurd (some-ne-none v (sym at))
 
 pub begins : (words : List ℕ) → Kept words (opening ∷ [])
@@ -52,7 +52,7 @@ opens setup begun legal seat v first words views h at =
     let log : List Pair = unshared begun in
     let whole' : Whole = record { setup = setup; log = log; totals = totals_in begun legal.0; given = 0; keeper = seat; place = λ n. 0 } in
     let count' : ℕ = length (set views seat keeper ++ nothing ∷ []) in
-    let F : ℕ → View → Type 0 = Fits words count' whole' in
+    let F : ℕ → View → Type 0 = ViewHolds words count' whole' in
     let mine : F seat keeper = record {
       alone = λ e. absurd (off e);
       keeps = λ e. (refl, refl, refl, refl);
@@ -78,7 +78,7 @@ gives_out seat v keeps closed words views h at =
     let old : List View = set views seat (with_caller v) in
     let whole' : Whole = record whole { given = whole.given + 1; place = moved whole.place n (length old) } in
     let count' : ℕ = length (old ++ new_part v ∷ []) in
-    let F : ℕ → View → Type 0 = Fits words count' whole' in
+    let F : ℕ → View → Type 0 = ViewHolds words count' whole' in
     let elsewhere : (m : ℕ) → m ≤ whole.given → whole'.place m ≡ whole.place m = λ m few. moved_else whole.place n (length old) m (λ (same : m ≡ n). omega arith) in
     let mine : F seat (with_caller v) = record {
       alone = λ e. absurd (true≢false (sym e ∙ closed));

@@ -4,7 +4,7 @@ use mathlib.Core.Option.{some}
 use lib.ListN.{get_elem?}
 use Rattle.crossbeam_utils.specs.Register.{Forks, Merges}
 use Rattle.monitor.specs.declared.knowledge.View.{View}
-use Rattle.monitor.specs.Seats.{nothing, part, without_part, with_part, Whole, Fits, Kept}
+use Rattle.monitor.specs.Seats.{nothing, part, without_part, with_part, Whole, ViewHolds, Kept}
 use Rattle.monitor.proofs.Histories.{from_nothing, none_told}
 use Rattle.monitor.proofs.Places.{off, each_split, each_joined, other_was, fits_nothing, moved, moved_here, free_of, others_move}
 
@@ -16,7 +16,7 @@ goes_out seat v calls closed words views h at =
     let whole' : Whole = record whole { place = moved whole.place v.number (length old) } in
     let count' : ℕ = length (old ++ part v ∷ []) in
     let c = fit.calls calls in
-    let F : ℕ → View → Type 0 = Fits words count' whole' in
+    let F : ℕ → View → Type 0 = ViewHolds words count' whole' in
     let mine : F seat (without_part v) = record {
       alone = λ e. absurd (true≢false (sym e ∙ closed));
       keeps = fit.keeps;
@@ -50,7 +50,7 @@ comes_in seat v other w calls closed words views h at apart there =
     let c = theirs.calls calls in
     let count' : ℕ = length (set (set views seat both) other nothing) in
     let whole' : Whole = record whole { place = moved whole.place w.number seat } in
-    let F : ℕ → View → Type 0 = Fits words count' whole' in
+    let F : ℕ → View → Type 0 = ViewHolds words count' whole' in
     let mine : F seat both = record {
       alone = λ e. absurd (true≢false (sym e ∙ closed));
       keeps = λ e. let k = fit.keeps e in (k.0, c.1, k.2, k.3);

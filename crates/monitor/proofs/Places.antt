@@ -4,7 +4,7 @@ use mathlib.Core.Option.{some, some-injective, some-ne-none}
 use lib.ListN.{get_elem?}
 use Rattle.atomic_table.proofs.Lists.{at_set}
 use Rattle.monitor.specs.declared.knowledge.View.{View}
-use Rattle.monitor.specs.Seats.{nothing, Whole, Fits}
+use Rattle.monitor.specs.Seats.{nothing, Whole, ViewHolds}
 use Rattle.monitor.proofs.Histories.{from_nothing, none_told}
 
 pub off : false ≡ true → ⊥
@@ -44,7 +44,7 @@ pub other_was : (views : List View) (seat other : ℕ) (both w : View) → other
 other_was views seat other both w apart there = ⊎_elim (λ (t : (other ≡ seat) × (both ≡ w)). absurd (apart t.0)) (λ (t : (other ≢ seat) × (get_elem? views other ≡ some w)). t.1) (at_set views seat other both w there)
 
 -- a seat that knows nothing fits always
-pub fits_nothing : (words : List ℕ) (count : ℕ) (whole : Whole) (seat : ℕ) → Fits words count whole seat nothing
+pub fits_nothing : (words : List ℕ) (count : ℕ) (whole : Whole) (seat : ℕ) → ViewHolds words count whole seat nothing
 fits_nothing words count whole seat = record {
   alone = λ e. absurd (off e);
   keeps = λ e. absurd (off e);
@@ -69,11 +69,11 @@ pub moved_else : (place : ℕ → ℕ) (n to m : ℕ) → m ≢ n → moved plac
 moved_else place n to m apart = subst (λ (b : Bool). (if b then to else place m) ≡ place m) (sym (ne_eqb m n apart)) refl
 
 -- no other seat has the part of the same caller
-pub free_of : (words : List ℕ) (count : ℕ) (whole : Whole) (seat j : ℕ) (v u : View) → j ≢ seat → v.calls ≡ true → Fits words count whole seat v → Fits words count whole j u → u.calls ≡ true → u.number ≢ v.number
+pub free_of : (words : List ℕ) (count : ℕ) (whole : Whole) (seat j : ℕ) (v u : View) → j ≢ seat → v.calls ≡ true → ViewHolds words count whole seat v → ViewHolds words count whole j u → u.calls ≡ true → u.number ≢ v.number
 free_of words count whole seat j v u apart calls fit other e same = apart (sym (other.calls e).0 ∙ ap whole.place same ∙ (fit.calls calls).0)
 
 -- what another seat knows, where there may be more seats
-pub others_stay : (words : List ℕ) (views : List View) (count' : ℕ) (whole : Whole) (seat j : ℕ) (v u : View) → j ≢ seat → get_elem? views seat ≡ some v → get_elem? views j ≡ some u → Fits words (length views) whole j u → Fits words count' whole j u
+pub others_stay : (words : List ℕ) (views : List View) (count' : ℕ) (whole : Whole) (seat j : ℕ) (v u : View) → j ≢ seat → get_elem? views seat ≡ some v → get_elem? views j ≡ some u → ViewHolds words (length views) whole j u → ViewHolds words count' whole j u
 others_stay words views count' whole seat j v u apart at there fit = record {
   alone = λ e. absurd (not_alone views j seat u v apart there at (fit.alone e));
   keeps = fit.keeps;
@@ -85,7 +85,7 @@ others_stay words views count' whole seat j v u apart at there fit = record {
 
 -- and where one part moves besides
 pub others_move : (words : List ℕ) (views : List View) (count' n to : ℕ) (whole : Whole) (seat j : ℕ) (v u : View) → j ≢ seat → get_elem? views seat ≡ some v → get_elem? views j ≡ some u
-    → (u.calls ≡ true → u.number ≢ n) → Fits words (length views) whole j u → Fits words count' (record whole { place = moved whole.place n to }) j u
+    → (u.calls ≡ true → u.number ≢ n) → ViewHolds words (length views) whole j u → ViewHolds words count' (record whole { place = moved whole.place n to }) j u
 others_move words views count' n to whole seat j v u apart at there free fit = record {
   alone = λ e. absurd (not_alone views j seat u v apart there at (fit.alone e));
   keeps = fit.keeps;

@@ -9,7 +9,7 @@ use Rattle.world.specs.TotalsOf.{TotalsOf}
 use Rattle.monitor.specs.declared.knowledge.Pair.{Pair}
 use Rattle.monitor.specs.declared.knowledge.View.{View}
 use Rattle.monitor.specs.LegalHistory.{pair, records, made_by, StartsWith, LegalHistory}
-use Rattle.monitor.specs.Seats.{IsKeeper, HasSums, Say, Whole, Fits, Kept, published, AgreesWith, Extends, ShownAgain, HasLooked}
+use Rattle.monitor.specs.Seats.{IsKeeper, HasSums, Say, Whole, ViewHolds, Kept, published, AgreesWith, Extends, ShownAgain, HasLooked}
 use Rattle.monitor.proofs.Histories.{own_more, other_more, longer, itself, all_longer, none_told}
 use Rattle.monitor.proofs.Places.{each_set, not_alone, free_of, others_stay}
 
@@ -18,7 +18,7 @@ legal_of : (setup : Setup) (log : List Pair) (totals : Totals) → HasSums setup
 legal_of setup log totals h = (h.sums.0, h.sums.1)
 
 -- the history agrees with a caller's part
-agrees : (words : List ℕ) (count : ℕ) (whole : Whole) (seat : ℕ) (v : View) → v.calls ≡ true → v.log ≡ whole.log → Fits words count whole seat v → AgreesWith v.log v
+agrees : (words : List ℕ) (count : ℕ) (whole : Whole) (seat : ℕ) (v : View) → v.calls ≡ true → v.log ≡ whole.log → ViewHolds words count whole seat v → AgreesWith v.log v
 agrees words count whole seat v calls same fit = subst (λ l. AgreesWith l v) (sym same) (record { began = fit.seen; heard = fit.told; own = (fit.calls calls).3 })
 
 pub publishes : (seat : ℕ) (v : View) (made : Record) (totals : Totals) (new : List ℕ) → v.keeps ≡ true → v.calls ≡ true → v.opens ≡ false → Say new totals → HasSums v.setup (v.log ++ pair v.number made ∷ []) totals
@@ -33,7 +33,7 @@ publishes seat v made totals new keeps calls closed say sums words views h at =
     let whole' : Whole = record whole { log = whole.log ++ p ∷ []; totals = totals } in
     let w : View = published made v in
     let same' : v.log ++ p ∷ [] ≡ whole'.log = ap (λ l. l ++ p ∷ []) same in
-    let F : ℕ → View → Type 0 = Fits new (length (set views seat w)) whole' in
+    let F : ℕ → View → Type 0 = ViewHolds new (length (set views seat w)) whole' in
     let own : made_by v.number whole'.log ≡ v.mine ++ made ∷ [] = own_more v.number made whole.log v.mine c.3 in
     let mine : F seat w = record {
       alone = λ e. absurd (true≢false (sym e ∙ closed));
@@ -74,7 +74,7 @@ shows_again setup seat v log totals new keeper same say sums words views h at =
     let k = fit.keeps keeper.keeps in
     let whole' : Whole = record whole { totals = totals } in
     let w : View = record v { shown = true } in
-    let F : ℕ → View → Type 0 = Fits new (length (set views seat w)) whole' in
+    let F : ℕ → View → Type 0 = ViewHolds new (length (set views seat w)) whole' in
     let mine : F seat w = record {
       alone = λ e. absurd (true≢false (sym e ∙ closed));
       keeps = fit.keeps;
@@ -108,7 +108,7 @@ looks seat v keeps calls closed words views h at =
     let k = fit.keeps keeps in
     let w : View = record v { seen = v.log; told = [] } in
     let count' : ℕ = length (set views seat w) in
-    let F : ℕ → View → Type 0 = Fits words count' whole in
+    let F : ℕ → View → Type 0 = ViewHolds words count' whole in
     let mine : F seat w = record {
       alone = λ e. absurd (true≢false (sym e ∙ closed));
       keeps = fit.keeps;

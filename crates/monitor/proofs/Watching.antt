@@ -8,13 +8,13 @@ use Rattle.world.specs.World.{Setup}
 use Rattle.world.specs.TotalsOf.{TotalsOf}
 use Rattle.monitor.specs.declared.knowledge.View.{View}
 use Rattle.monitor.specs.LegalHistory.{records, StartsWith}
-use Rattle.monitor.specs.Seats.{nothing, watching, receipt, informed, watch_state, IsKeeper, HasSums, Whole, Fits, Kept, HasRead}
+use Rattle.monitor.specs.Seats.{nothing, watching, receipt, informed, watch_state, IsKeeper, HasSums, Whole, ViewHolds, Kept, HasRead}
 use Rattle.monitor.specs.Telling.{WatchState, Reads}
 use Rattle.monitor.proofs.Histories.{itself, from_nothing, none_told}
 use Rattle.monitor.proofs.Places.{off, each_set, each_split, each_joined, other_was, fits_nothing, others_stay}
 
 -- what a seat knows that stays as it is, where there are more seats
-stays : (words : List ℕ) (count count' : ℕ) (whole : Whole) (seat : ℕ) (v : View) → v.opens ≡ false → Fits words count whole seat v → Fits words count' whole seat v
+stays : (words : List ℕ) (count count' : ℕ) (whole : Whole) (seat : ℕ) (v : View) → v.opens ≡ false → ViewHolds words count whole seat v → ViewHolds words count' whole seat v
 stays words count count' whole seat v closed fit = record {
   alone = λ e. absurd (true≢false (sym e ∙ closed));
   keeps = fit.keeps;
@@ -31,7 +31,7 @@ keeps_watching seat v keeps shown closed words views h at =
     let k = fit.keeps keeps in
     let old : List View = set views seat v in
     let count' : ℕ = length (old ++ watching v ∷ []) in
-    let F : ℕ → View → Type 0 = Fits words count' whole in
+    let F : ℕ → View → Type 0 = ViewHolds words count' whole in
     let new : F (length old) (watching v) = record {
       alone = λ e. absurd (off e);
       keeps = λ e. absurd (off e);
@@ -59,7 +59,7 @@ reads seat v shown closed words views h at =
     let s = fit.shows shown in
     let w : View = record v { seen = whole.log; told = [] } in
     let count' : ℕ = length (set views seat w) in
-    let F : ℕ → View → Type 0 = Fits words count' whole in
+    let F : ℕ → View → Type 0 = ViewHolds words count' whole in
     let mine : F seat w = record {
       alone = λ e. absurd (true≢false (sym e ∙ closed));
       keeps = fit.keeps;
@@ -91,7 +91,7 @@ tells seat v closed words views h at =
     let fit = h.each seat v at in
     let old : List View = set views seat v in
     let count' : ℕ = length (old ++ receipt v ∷ []) in
-    let F : ℕ → View → Type 0 = Fits words count' whole in
+    let F : ℕ → View → Type 0 = ViewHolds words count' whole in
     let new : F (length old) (receipt v) = record {
       alone = λ e. absurd (off e);
       keeps = λ e. absurd (off e);
@@ -114,7 +114,7 @@ hears seat v other w closed words views h at apart there =
     let fit = h.each seat v at in
     let theirs = h.each other w (other_was views seat other both w apart there) in
     let count' : ℕ = length (set (set views seat both) other nothing) in
-    let F : ℕ → View → Type 0 = Fits words count' whole in
+    let F : ℕ → View → Type 0 = ViewHolds words count' whole in
     let mine : F seat both = record {
       alone = λ e. absurd (true≢false (sym e ∙ closed));
       keeps = fit.keeps;

@@ -101,7 +101,7 @@ pub record Whole : Type 0 where
   pub place : ℕ → ℕ
 
 -- what a seat knows is so
-pub record Fits (words : List ℕ) (count : ℕ) (whole : Whole) (seat : ℕ) (v : View) : Type 0 where
+pub record ViewHolds (words : List ℕ) (count : ℕ) (whole : Whole) (seat : ℕ) (v : View) : Type 0 where
   pub alone : v.opens ≡ true → count ≡ 1
   pub keeps : v.keeps ≡ true → (seat ≡ whole.keeper) × (v.setup ≡ whole.setup) × (v.log ≡ whole.log) × (v.given ≡ whole.given)
   pub calls : v.calls ≡ true → (whole.place v.number ≡ seat) × (v.setup ≡ whole.setup) × (v.number ≤ whole.given) × (made_by v.number whole.log ≡ v.mine)
@@ -114,7 +114,7 @@ pub record Kept (words : List ℕ) (views : List View) : Type 0 where
   pub whole : Whole
   pub sums : HasSums whole.setup whole.log whole.totals
   pub numbered : All (λ p. p.caller ≤ whole.given) whole.log
-  pub each : (seat : ℕ) (v : View) → get_elem? views seat ≡ some v → Fits words (length views) whole seat v
+  pub each : (seat : ℕ) (v : View) → get_elem? views seat ≡ some v → ViewHolds words (length views) whole seat v
 
 -- the keeper's view with a caller's part in it, once the caller's record has joined the history
 abbrev pub published : Record → View → View

@@ -14,9 +14,9 @@ use crate::origin::Origin;
 use crate::rule::{GivesOut, LetsWatch, Seat, ShowsAgain, Told};
 use crate::steps::{look_as, publish_as};
 use crate::watch::Watch;
-use world_calls::Totals;
 use std::marker::{Model, PhantomData};
 use std::sync::Wait;
+use world_calls::Totals;
 
 /// The right to publish, one for a monitor. Contracts see the whole history, each record with its caller, and how many callers'
 /// parts were given out. It takes no memory.

@@ -1,8 +1,8 @@
 // What a seat at the cell knows of the history. No value of these types is made: they stand in proofs alone, and take no memory.
 // It relies on `world_calls` for what a history is made of.
-use world_calls::Record;
 use std::collections::LinkedList;
 use std::marker::Model;
+use world_calls::Record;
 
 /// One record of the history, with the number of the caller that made it, from 1, or 0 where it stood there before the engine
 /// was shared.

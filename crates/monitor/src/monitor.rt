@@ -7,9 +7,9 @@ ghost use Rattle.monitor.specs.Telling.{Reads};
 use crate::origin::Origin;
 use crate::rule::{Cell, WatchReads};
 use crate::watch::Watch;
-use world_calls::Totals;
 use std::marker::PhantomData;
 use std::sync::Wait;
+use world_calls::Totals;
 
 /// The sums of an engine that is shared, beside its lock. It is shared by reference.
 #[derive(Drop)]

@@ -11,8 +11,8 @@ ghost use Rattle.monitor.specs.Telling.{Joins, Looks};
 use crate::monitor::words_of;
 use crate::origin::Origin;
 use crate::rule::{CallerLooks, Cell, HandsOver, Publishes, Seat, Told};
-use world_calls::Totals;
 use std::sync::Wait;
+use world_calls::Totals;
 
 // A caller's part goes from seat to seat.
 fn hand_over(cell: &Cell, from: &mut Seat, to: &mut Seat)

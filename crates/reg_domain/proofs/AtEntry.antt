@@ -5,7 +5,7 @@ use Rattle.std.proofs.lemmas.List.{length-replicate}
 use Rattle.bpf_insn.specs.declared.reg.Reg.TheVariants.{R0, R1, R2, R3, R4, R5, R6, R7, R8, R9, R10}
 use Rattle.bpf_semantics.specs.MachineState.{MachineState, context_address, entry, frame_pointer, unwritten_frame}
 use Rattle.bpf_semantics.specs.Reached.{IsEntry}
-use Rattle.stack_domain.specs.Stack.{Covers as CoversFrames}
+use Rattle.stack_domain.specs.Stack.{MarksCover as CoversFrames}
 use Rattle.check_description.specs.declared.description.Description.{Description}
 use Rattle.check_register_kinds.specs.declared.freeze_name.FreezeName.TheVariants as names
 use Rattle.check_register_kinds.specs.declared.held.HeldFreeze.{HeldFreeze}

@@ -1,7 +1,7 @@
 -- What holds of a machine on one of two paths holds where they meet.
 use Rattle.std.proofs.Common.{◌≡◌, ℕ, ◌<◌, List, Option, sym, subst, ◌∙◌}
 use Rattle.bpf_insn.specs.Reg.{number_of}
-use Rattle.stack_domain.specs.Stack.{Covers as CoversFrames}
+use Rattle.stack_domain.specs.Stack.{MarksCover as CoversFrames}
 use Rattle.check_register_kinds.specs.declared.held.HeldFreeze.{HeldFreeze}
 use Rattle.check_register_kinds.specs.Freezes.{AreHeld, FreezeNumbers}
 use Rattle.check_register_kinds.specs.Kinds.{HoldsKind}

@@ -19,9 +19,11 @@ use base::OrMemory;
 use bpf_insn::{Callee, Insn, Reg};
 use check_description::{Description, SavedRegisters};
 use check_helper_calls::call;
-use helpers::HelperLimits;
-use check_private_insns::{Way, change, compute, extend, jump_if, load, load_immediate, store_operand};
+use check_private_insns::{
+    Way, change, compute, extend, jump_if, load, load_immediate, store_operand,
+};
 use check_register_kinds::Cause;
+use helpers::HelperLimits;
 
 /// Checks an instruction where this is known, under these limits of helper calls and where these functions wait, the
 /// outermost first, and goes one way from there: then it is what is known there, and the answer is whether any machine

@@ -93,21 +93,21 @@ private_call setup before run told first second =
     let a = private_parts setup before run first.0 first.1 first.2 in
     let b = call_parts setup before run told second.0 second.1 second.2 in
     let same : b.it.run ≡ a.it.run = one_run before b.it.number a.it.number b.it.run a.it.run (its_number run b.it.number (call told) (call told) b.it.event_is ∙ sym (its_number run a.it.number private private a.it.event_is)) b.it.found a.it.found in
-    private_or_asks a.it.run.machine a.machine b.request (insn_at a.it.run.program a.it.run.machine.place) a.step (subst (λ (r : LiveRun). request_at r.program r.machine ≡ Some b.request) same b.call_is)
+    private_or_asks a.it.run.machine a.machine b.request (insn_at a.it.run.program a.it.run.machine.pc) a.step (subst (λ (r : LiveRun). request_at r.program r.machine ≡ Some b.request) same b.call_is)
 
 private_exit : (setup : Setup) (before : World) (run : ℕ) → Steps setup before run private → Steps setup before run exit → ⊥
 private_exit setup before run first second =
     let a = private_parts setup before run first.0 first.1 first.2 in
     let b = exit_parts setup before run second.0 second.1 second.2 in
     let same : b.it.run ≡ a.it.run = one_run before b.it.number a.it.number b.it.run a.it.run (its_number run b.it.number exit exit b.it.event_is ∙ sym (its_number run a.it.number private private a.it.event_is)) b.it.found a.it.found in
-    private_or_exits a.it.run.machine a.machine b.r0 (insn_at a.it.run.program a.it.run.machine.place) a.step (subst (λ (r : LiveRun). exit_at r.program r.machine ≡ Some b.r0) same b.exit_is)
+    private_or_exits a.it.run.machine a.machine b.r0 (insn_at a.it.run.program a.it.run.machine.pc) a.step (subst (λ (r : LiveRun). exit_at r.program r.machine ≡ Some b.r0) same b.exit_is)
 
 call_exit : (setup : Setup) (before : World) (run : ℕ) (told : Told) → Steps setup before run (call told) → Steps setup before run exit → ⊥
 call_exit setup before run told first second =
     let a = call_parts setup before run told first.0 first.1 first.2 in
     let b = exit_parts setup before run second.0 second.1 second.2 in
     let same : b.it.run ≡ a.it.run = one_run before b.it.number a.it.number b.it.run a.it.run (its_number run b.it.number exit exit b.it.event_is ∙ sym (its_number run a.it.number (call told) (call told) a.it.event_is)) b.it.found a.it.found in
-    asks_or_exits a.it.run.machine a.request b.r0 (insn_at a.it.run.program a.it.run.machine.place) a.call_is (subst (λ (r : LiveRun). exit_at r.program r.machine ≡ Some b.r0) same b.exit_is)
+    asks_or_exits a.it.run.machine a.request b.r0 (insn_at a.it.run.program a.it.run.machine.pc) a.call_is (subst (λ (r : LiveRun). exit_at r.program r.machine ≡ Some b.r0) same b.exit_is)
 
 call_call : (setup : Setup) (before : World) (run : ℕ) (told other : Told) → Steps setup before run (call told) → Steps setup before run (call other) → told ≡ other
 call_call setup before run told other first second =

@@ -12,7 +12,7 @@ use Rattle.world.specs.WorldRun.{WorldRun}
 use Rattle.world.specs.Flat.{events_of, flat}
 use Rattle.world.specs.TotalsOf.{TotalsOf}
 use Rattle.world_laws.proofs.Leads.{leads_split}
-use Rattle.engine_core.specs.Unrecorded.{IsHistory}
+use Rattle.engine_core.specs.ByNumber.{IsHistory}
 use Rattle.replay.specs.OneVerdict.{OneVerdict}
 use Rattle.replay.specs.Replaying.{IsFaultyAt, IsFirstFaulty, IsTraceOf}
 use Rattle.replay.specs.declared.fault.ReplayFault.{ReplayFault}

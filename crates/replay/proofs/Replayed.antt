@@ -8,10 +8,10 @@ use Rattle.world.specs.WorldRun.{WorldRun}
 use Rattle.world.specs.Flat.{flat}
 use Rattle.world.specs.TotalsOf.{TotalsOf, totals_in}
 use Rattle.world_laws.proofs.Leads.{world_after_leads}
-use Rattle.engine_core.specs.Unrecorded.{UnrecordedState, IsBehind, IsHistory, CannotFollow, sums_behind}
-use Rattle.replay.specs.Replaying.{Leads, IsFirstFaulty}
+use Rattle.engine_core.specs.ByNumber.{NumberedState, IsBehind, IsHistory, CannotFollow, sums_behind}
+use Rattle.replay.specs.Replaying.{RecordsLead, IsFirstFaulty}
 
-history_behind : (setup : Setup) (engine : UnrecordedState) (records : List Record) → engine.setup ≡ setup → IsBehind records engine → IsHistory setup records
+history_behind : (setup : Setup) (engine : NumberedState) (records : List Record) → engine.setup ≡ setup → IsBehind records engine → IsHistory setup records
 history_behind setup engine records same behind = subst (λ (s : Setup). IsHistory s records) same (behind.world, behind.leads)
 
 one_behind : (yielded rest : List Record) (told : Record) → (yielded ++ told ∷ []) ++ rest ≡ yielded ++ told ∷ rest
@@ -19,7 +19,7 @@ one_behind [] rest told = refl
 one_behind (x ∷ yielded) rest told = ap (λ (xs : List Record). x ∷ xs) (one_behind yielded rest told)
 
 -- with the next record nothing leads
-pub stops_here : (setup : Setup) (engine after : UnrecordedState) (yielded rest items : List Record) (told : Record) (count : ℕ) → IsBehind yielded engine → engine.setup ≡ setup → count ≡ length yielded → yielded ++ told ∷ rest ≡ items → CannotFollow engine told → Leads setup items count after
+pub stops_here : (setup : Setup) (engine after : NumberedState) (yielded rest items : List Record) (told : Record) (count : ℕ) → IsBehind yielded engine → engine.setup ≡ setup → count ≡ length yielded → yielded ++ told ∷ rest ≡ items → CannotFollow engine told → RecordsLead setup items count after
 stops_here setup engine after yielded rest items told count behind same counted all cannot =
     let front : take count items ≡ yielded = ap (take count) (sym all) ∙ take_at yielded (told ∷ rest) count (sym counted) in
     let longer : take (count + 1) items ≡ yielded ++ told ∷ [] =
@@ -30,7 +30,7 @@ stops_here setup engine after yielded rest items told count behind same counted 
     )
 
 -- all lead
-pub all_lead : (setup : Setup) (engine : UnrecordedState) (yielded items : List Record) (count : ℕ) → IsBehind yielded engine → engine.setup ≡ setup → count ≡ length yielded → yielded ++ [] ≡ items → Leads setup items count engine
+pub all_lead : (setup : Setup) (engine : NumberedState) (yielded items : List Record) (count : ℕ) → IsBehind yielded engine → engine.setup ≡ setup → count ≡ length yielded → yielded ++ [] ≡ items → RecordsLead setup items count engine
 all_lead setup engine yielded items count behind same counted all =
     let is : yielded ≡ items = sym (append-nil yielded) ∙ all in
     let front : take count items ≡ yielded = ap (take count) (sym all) ∙ take_at yielded [] count (sym counted) in (
@@ -40,12 +40,12 @@ all_lead setup engine yielded items count behind same counted all =
 
 -- ---- the last line
 
-sums_are : (engine : UnrecordedState) (records : List Record) (count : ℕ) → (behind : IsBehind records engine) → count ≡ length records → sums_behind count engine ≡ totals_in records behind.world
+sums_are : (engine : NumberedState) (records : List Record) (count : ℕ) → (behind : IsBehind records engine) → count ≡ length records → sums_behind count engine ≡ totals_in records behind.world
 sums_are engine records count behind counted =
     ap (λ (n : ℕ). sums_behind n engine) counted ∙ sym (ap (λ (w : World). totals_in records w) behind.is)
 
 -- a last line with others says nothing true
-pub refuses : (setup : Setup) (engine : UnrecordedState) (records : List Record) (count : ℕ) (totals : Totals) → IsBehind records engine → engine.setup ≡ setup → count ≡ length records → (sums_behind count engine ≡ totals → ⊥) → TotalsOf setup records totals → ⊥
+pub refuses : (setup : Setup) (engine : NumberedState) (records : List Record) (count : ℕ) (totals : Totals) → IsBehind records engine → engine.setup ≡ setup → count ≡ length records → (sums_behind count engine ≡ totals → ⊥) → TotalsOf setup records totals → ⊥
 refuses setup engine records count totals behind same counted differ it =
     let leads : WorldRun setup (flat records) behind.world = subst (λ (s : Setup). WorldRun s (flat records) behind.world) same behind.leads in
     let one : it.0 ≡ behind.world = sym (world_after_leads setup (opening setup) (flat records) it.0 it.1) ∙ world_after_leads setup (opening setup) (flat records) behind.world leads in
@@ -53,7 +53,7 @@ refuses setup engine records count totals behind same counted differ it =
 
 -- ---- the first line that does not follow
 
-pub last_is_faulty : (setup : Setup) (engine : UnrecordedState) (records : List Record) (count : ℕ) (totals : Totals) → Leads setup records count engine → count ≡ length records → (sums_behind count engine ≡ totals → ⊥) → IsFirstFaulty setup records totals count
+pub last_is_faulty : (setup : Setup) (engine : NumberedState) (records : List Record) (count : ℕ) (totals : Totals) → RecordsLead setup records count engine → count ≡ length records → (sums_behind count engine ≡ totals → ⊥) → IsFirstFaulty setup records totals count
 last_is_faulty setup engine records count totals leads all differ = record {
   lead = leads.0;
   stops = elim leads.1 [
@@ -62,7 +62,7 @@ last_is_faulty setup engine records count totals leads all differ = record {
   ];
 }
 
-pub one_is_faulty : (setup : Setup) (engine : UnrecordedState) (records : List Record) (count : ℕ) (totals : Totals) → Leads setup records count engine → (count ≡ length records → ⊥) → IsFirstFaulty setup records totals count
+pub one_is_faulty : (setup : Setup) (engine : NumberedState) (records : List Record) (count : ℕ) (totals : Totals) → RecordsLead setup records count engine → (count ≡ length records → ⊥) → IsFirstFaulty setup records totals count
 one_is_faulty setup engine records count totals leads some = record {
   lead = leads.0;
   stops = elim leads.1 [

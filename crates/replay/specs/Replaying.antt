@@ -8,7 +8,7 @@ use Rattle.base.specs.declared.or_memory.OrMemory.{OrMemory}
 use Rattle.base.specs.declared.or_memory.OrMemory.TheVariants.{OutOfMemory, Fault}
 use Rattle.world.specs.World.{Setup, version_of}
 use Rattle.world.specs.TotalsOf.{TotalsOf}
-use Rattle.engine_core.specs.Unrecorded.{UnrecordedState, IsBehind, IsHistory, Follows, CannotFollow}
+use Rattle.engine_core.specs.ByNumber.{NumberedState, IsBehind, IsHistory, RecordFollows, CannotFollow}
 use Rattle.replay.specs.declared.fault.ReplayFault.{ReplayFault}
 use Rattle.replay.specs.declared.fault.ReplayFault.TheVariants.{Header, Behind}
 
@@ -45,12 +45,12 @@ Replays setup trace (Err (Fault fault)) = IsFaultyAt setup trace fault
 -- ---- inside
 
 -- the record follows, and is behind the engine now, or cannot follow
-abbrev pub FollowsIf : Bool → UnrecordedState → Record → UnrecordedState → Type 0
-FollowsIf true old told new = Follows old told new
+abbrev pub FollowsIf : Bool → NumberedState → Record → NumberedState → Type 0
+FollowsIf true old told new = RecordFollows old told new
 FollowsIf false old told new = CannotFollow old told
 
 -- so many records lead, and these are all, behind the engine, or with one more nothing leads
-abbrev pub Leads : Setup → List Record → ℕ → UnrecordedState → Type 0
-Leads setup records count engine =
+abbrev pub RecordsLead : Setup → List Record → ℕ → NumberedState → Type 0
+RecordsLead setup records count engine =
     IsHistory setup (take count records)
     × (((count < length records) × (IsHistory setup (take (count + 1) records) → ⊥)) ⊎ ((count ≡ length records) × IsBehind records engine × (engine.setup ≡ setup)))

@@ -6,12 +6,12 @@ ghost use Rattle.world_calls.specs.declared.record.Record.TheVariants.{Called, A
 ghost use Rattle.replay.specs.Replaying.{FollowsIf};
 
 use crate::likeness::{is_advance_of, is_same_answer};
-use world_calls::{Call, CallAnswer, Record, StoppedAt};
-use engine_core::Unrecorded;
+use engine_core::NumberedEngine;
 use std::alloc::AllocError;
+use world_calls::{Call, CallAnswer, Record, StoppedAt};
 
 /// Whether the record follows, and then it is behind the engine too. Where it does not, the engine means nothing any more.
-pub(crate) fn follows(engine: &mut Unrecorded<'_>, told: &Record) -> Result<bool, AllocError>
+pub(crate) fn follows(engine: &mut NumberedEngine<'_>, told: &Record) -> Result<bool, AllocError>
     ensures follows { IfOk result (λ yes. FollowsIf yes engine.old told.now engine.new) }
     ensures setup { engine.new.setup ≡ engine.old.setup }
 {
@@ -27,7 +27,7 @@ pub(crate) fn follows(engine: &mut Unrecorded<'_>, told: &Record) -> Result<bool
 }
 
 fn follows_call(
-    engine: &mut Unrecorded<'_>,
+    engine: &mut NumberedEngine<'_>,
     told: CallAnswer,
     call: &Call,
 ) -> Result<bool, AllocError>
@@ -41,7 +41,7 @@ fn follows_call(
 }
 
 fn follows_advance(
-    engine: &mut Unrecorded<'_>,
+    engine: &mut NumberedEngine<'_>,
     run: u32,
     instructions: u32,
     stop: &StoppedAt,

@@ -4,8 +4,8 @@ ghost use Rattle.std.specs.Prelude.{◌≡◌, ◌↔◌, IsTrue};
 ghost use Rattle.world_calls.specs.declared.record.Record.TheVariants.{Advance};
 ghost use Rattle.world_calls.specs.declared.record.StoppedAt.TheVariants as stopped;
 
-use world_calls::{CallAnswer, Record, StoppedAt, Totals, Version};
 use helpers::Helper;
+use world_calls::{CallAnswer, Record, StoppedAt, Totals, Version};
 
 /// Whether both are the same version.
 pub(crate) fn is_same_version(told: Version, its: Version) -> bool

@@ -1,18 +1,18 @@
 // The replay of a whole trace, record by record, and of its last line. It relies on `following` for whether a record follows.
 
 ghost use Rattle.std.specs.Prelude.{◌≡◌, [], IfOk};
-ghost use Rattle.engine_core.specs.Unrecorded.{IsBehind};
-ghost use Rattle.replay.specs.Replaying.{Replays, Leads};
+ghost use Rattle.engine_core.specs.ByNumber.{IsBehind};
+ghost use Rattle.replay.specs.Replaying.{Replays, RecordsLead};
 ghost use Rattle.world.specs.World.{version_of};
 
 use crate::fault::{ReplayError, ReplayFault};
 use crate::following::follows;
 use crate::likeness::{is_same_totals, is_same_version};
 use base::OrMemory;
-use world_calls::{Notice, Notices, Record, Trace, Version};
 use base_chunked_list::ChunkedList;
-use engine_core::{Config, Unrecorded};
+use engine_core::{Config, NumberedEngine};
 use std::alloc::{AllocError, Global};
+use world_calls::{Notice, Notices, Record, Trace, Version};
 
 /// After how many records it is asked again whether it is to be told how far a replay is.
 const OFTEN: usize = 4096;
@@ -32,13 +32,13 @@ pub fn replay<N: Notices>(
     if !is_same_version(trace.version, Version::of(config.helpers())) {
         return Err(OrMemory::Fault(ReplayFault::Header));
     }
-    let mut engine = Unrecorded::open(alloc, config)?;
+    let mut engine = NumberedEngine::open(alloc, config)?;
     replay_on(&mut engine, trace, notices)
 }
 
 // The same on an engine behind which there is nothing yet.
 fn replay_on<N: Notices>(
-    engine: &mut Unrecorded<'_>,
+    engine: &mut NumberedEngine<'_>,
     trace: &Trace,
     notices: &N,
 ) -> Result<(), ReplayError>
@@ -58,12 +58,12 @@ fn replay_on<N: Notices>(
 
 // How many records follow from the opening, one behind the other, before the first that does not.
 fn followed<N: Notices>(
-    engine: &mut Unrecorded<'_>,
+    engine: &mut NumberedEngine<'_>,
     records: &ChunkedList<Record>,
     notices: &N,
 ) -> Result<usize, AllocError>
     requires { IsBehind [] engine.old }
-    ensures { IfOk result (λ count. Leads engine.old.setup records.now.items count engine.new) }
+    ensures { IfOk result (λ count. RecordsLead engine.old.setup records.now.items count engine.new) }
 {
     let all = records.len();
     let mut count = 0usize;

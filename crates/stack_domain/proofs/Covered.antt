@@ -6,7 +6,7 @@ use Rattle.std.proofs.lemmas.List.{get_or_append_left, get_or_at, get_or_past, g
 use Rattle.bpf_stack_frame.specs.ByteSet.{Has, with_all}
 use Rattle.bpf_stack_frame.proofs.Sets.{with_all_below, with_all_inside, with_all_above}
 use Rattle.stack_domain.specs.Sets.{AreSets}
-use Rattle.stack_domain.specs.Stack.{Marked, IsWritten, Covers, AreWritten, Knows}
+use Rattle.stack_domain.specs.Stack.{Marked, IsWritten, MarksCover, AreWritten, Knows}
 
 -- a byte that is marked is one of a live frame
 pub marked_live : (stack : List (List Bool)) (k offset : ℕ) → Marked stack k offset → k < length stack
@@ -49,8 +49,8 @@ module _ (frames : List (List (Option ℕ))) (frame : List (Option ℕ)) where
 
 -- the last frame's set is of bytes that are written
 module _ (stack : List (List Bool)) (bytes : List Bool) (frames : List (List (Option ℕ))) (frame : List (Option ℕ)) where
-  pub covers_more : Covers stack frames → length frame ≡ 512 → ((offset : ℕ) → Has bytes offset → is_some (slice_index_or frame offset None) ≡ true)
-      → Covers (stack ++ bytes ∷ []) (frames ++ frame ∷ [])
+  pub covers_more : MarksCover stack frames → length frame ≡ 512 → ((offset : ℕ) → Has bytes offset → is_some (slice_index_or frame offset None) ≡ true)
+      → MarksCover (stack ++ bytes ∷ []) (frames ++ frame ∷ [])
   covers_more covers last marked = record {
     depth = omega (arith, length-append frames (frame ∷ []), length-append stack (bytes ∷ []), covers.depth);
     whole = whole_more frames frame covers.whole last;
@@ -70,7 +70,7 @@ module _ (stack : List (List Bool)) (bytes : List Bool) (frames : List (List (Op
             )
       ]
 
-  pub covers_less : Covers (stack ++ bytes ∷ []) (frames ++ frame ∷ []) → Covers stack frames
+  pub covers_less : MarksCover (stack ++ bytes ∷ []) (frames ++ frame ∷ []) → MarksCover stack frames
   covers_less covers =
       let same : length frames ≡ length stack = omega (arith, length-append frames (frame ∷ []), length-append stack (bytes ∷ []), covers.depth) in
       record {
@@ -82,7 +82,7 @@ module _ (stack : List (List Bool)) (bytes : List Bool) (frames : List (List (Op
             (covers.written k offset (ap (λ (s : List Bool). slice_index_or s offset false) (get_or_append_left stack (bytes ∷ []) [] k live) ∙ has));
       }
 
-  pub last_whole : Covers (stack ++ bytes ∷ []) (frames ++ frame ∷ []) → length frame ≡ 512
+  pub last_whole : MarksCover (stack ++ bytes ∷ []) (frames ++ frame ∷ []) → length frame ≡ 512
   last_whole covers =
       ap length (sym (get_or_at frames frame [] [] (length frames) refl)) ∙ covers.whole (length frames) (omega (arith, length-append frames (frame ∷ [])))
 
@@ -118,7 +118,7 @@ module _ (stack : List (List Bool)) (are : AreSets stack) where
   is_some-stack k offset =
       ap (λ (f : List (Option ℕ)). is_some (slice_index_or f offset None)) (at_just_written stack k) ∙ is_some-just_written (slice_index_or stack k []) offset
 
-  covers_just : Covers stack (map just_written stack)
+  covers_just : MarksCover stack (map just_written stack)
   unfolding just_written
   covers_just = record {
     depth = length-map stack just_written;
@@ -167,7 +167,7 @@ module _ (stack : List (List Bool)) (frame offset count : ℕ) (live : frame < l
     ])
   ]
 
-  pub covers_before : (frames : List (List (Option ℕ))) → Covers (with_marks stack frame offset count) frames → Covers stack frames × AreWritten frames frame offset (offset + count)
+  pub covers_before : (frames : List (List (Option ℕ))) → MarksCover (with_marks stack frame offset count) frames → MarksCover stack frames × AreWritten frames frame offset (offset + count)
   covers_before frames covers = (
     record {
       depth = covers.depth ∙ length-set stack frame (with_all (slice_index_or stack frame []) offset count);
@@ -177,7 +177,7 @@ module _ (stack : List (List Bool)) (frame offset count : ℕ) (live : frame < l
     λ i from to. covers.written frame i (here i ∙ with_all_inside (slice_index_or stack frame []) offset count inside i from to),
   )
 
-  pub covers_after : (frames : List (List (Option ℕ))) → Covers stack frames → AreWritten frames frame offset (offset + count) → Covers (with_marks stack frame offset count) frames
+  pub covers_after : (frames : List (List (Option ℕ))) → MarksCover stack frames → AreWritten frames frame offset (offset + count) → MarksCover (with_marks stack frame offset count) frames
   covers_after frames covers are = record {
     depth = covers.depth ∙ sym (length-set stack frame (with_all (slice_index_or stack frame []) offset count));
     whole = covers.whole;
@@ -202,10 +202,10 @@ module _ (stack : List (List Bool)) (frame offset count : ℕ) (live : frame < l
 -- ---- a look at a range
 
 module _ (stack : List (List Bool)) (are : AreSets stack) (frame from end : ℕ) where
-  pub all_known : ((i : ℕ) → from ≤ i → i < end → Marked stack frame i) → (frames : List (List (Option ℕ))) → Covers stack frames → AreWritten frames frame from end
+  pub all_known : ((i : ℕ) → from ≤ i → i < end → Marked stack frame i) → (frames : List (List (Option ℕ))) → MarksCover stack frames → AreWritten frames frame from end
   all_known all frames covers i low high = covers.written frame i (all i low high)
 
-  pub all_marked : ((frames : List (List (Option ℕ))) → Covers stack frames → AreWritten frames frame from end) → (i : ℕ) → from ≤ i → i < end → Marked stack frame i
+  pub all_marked : ((frames : List (List (Option ℕ))) → MarksCover stack frames → AreWritten frames frame from end) → (i : ℕ) → from ≤ i → i < end → Marked stack frame i
   all_marked all i low high = known_marked stack are frame i (λ frames covers. all frames covers i low high)
 
 -- ---- what two both know
@@ -219,5 +219,5 @@ knows_both xs ys both are are_too is k offset first second frames covers =
     covers.written k offset (is k offset (marked_live xs k offset a) ∙ ap (λ (t : Bool). t && slice_index_or (slice_index_or ys k []) offset false) a ∙ b)
 
 -- no frame
-pub covers_none : Covers [] []
+pub covers_none : MarksCover [] []
 covers_none = record { depth = refl; whole = λ k less. absurd (omega arith); written = λ k offset has. absurd (cc) }

@@ -4,7 +4,7 @@ use Rattle.std.specs.Prelude.{slice_index_or, ◌&&◌}
 use Rattle.std.proofs.lemmas.Bool.{cases_eq}
 use Rattle.bpf_stack_frame.specs.ByteSet.{Has}
 use Rattle.stack_domain.specs.Sets.{AreSets}
-use Rattle.stack_domain.specs.Stack.{Marked, Covers, Knows}
+use Rattle.stack_domain.specs.Stack.{Marked, MarksCover, Knows}
 use Rattle.stack_domain.proofs.Covered.{known_marked, has_inside, marked_live}
 
 and_both : (a b c : Bool) → a ≡ (b && c) → b ≡ true → c ≡ true → a ≡ true
@@ -33,7 +33,7 @@ module _ (stack : List (List Bool)) (are : AreSets stack) (frame : ℕ) (live : 
     | inr apart ↦ sym (there k i apart) ∙ has
   ]
 
-  pub still_covers : (frames : List (List (Option ℕ))) → Covers stack frames → Covers (set stack frame left) frames
+  pub still_covers : (frames : List (List (Option ℕ))) → MarksCover stack frames → MarksCover (set stack frame left) frames
   still_covers frames covers = record {
     depth = covers.depth ∙ sym (length-set stack frame left);
     whole = covers.whole;

@@ -5,7 +5,7 @@ use Rattle.std.proofs.lemmas.Bool.{cases_lt, cases_eq}
 use Rattle.std.proofs.lemmas.List.{get_or_append_left, get_or-append_right, get_or-take, get_or-drop, get_or-map, get_or-set_same, get_or-set_other, length-set, length-map, length-take-le}
 use Rattle.bpf_stack_frame.specs.Frame.{written_at}
 use Rattle.stack_domain.specs.Stores.{stored}
-use Rattle.stack_domain.specs.Stack.{Marked, Covers, AreWritten}
+use Rattle.stack_domain.specs.Stack.{Marked, MarksCover, AreWritten}
 
 module _ (frame : List (Option ℕ)) (offset : ℕ) (bytes : List ℕ) (inside : offset + length bytes ≤ length frame) where
   front : length (take offset frame) ≡ offset
@@ -48,7 +48,7 @@ module _ (frame : List (Option ℕ)) (offset : ℕ) (bytes : List ℕ) (inside :
     ]
   ]
 
-module _ (stack : List (List Bool)) (frames : List (List (Option ℕ))) (covers : Covers stack frames) (k offset : ℕ) (bytes : List ℕ) (live : k < length frames) (inside : offset + length bytes ≤ 512) where
+module _ (stack : List (List Bool)) (frames : List (List (Option ℕ))) (covers : MarksCover stack frames) (k offset : ℕ) (bytes : List ℕ) (live : k < length frames) (inside : offset + length bytes ≤ 512) where
   fits : offset + length bytes ≤ length (slice_index_or frames k [])
   fits = omega (arith, covers.whole k live)
 
@@ -58,7 +58,7 @@ module _ (stack : List (List Bool)) (frames : List (List (Option ℕ))) (covers 
   other : (j : ℕ) → j ≢ k → slice_index_or (stored frames k offset bytes) j [] ≡ slice_index_or frames j []
   other j apart = get_or-set_other frames k j (written_at offset bytes (slice_index_or frames k [])) [] apart
 
-  pub covers_stored : Covers stack (stored frames k offset bytes)
+  pub covers_stored : MarksCover stack (stored frames k offset bytes)
   covers_stored = record {
     depth = length-set frames k (written_at offset bytes (slice_index_or frames k [])) ∙ covers.depth;
     whole = λ j less. elim (cases_eq j k) [

@@ -12,7 +12,7 @@ abbrev pub IsWritten : List (List (Option ℕ)) → ℕ → ℕ → Type 0
 IsWritten frames k offset = is_some (slice_index_or (slice_index_or frames k []) offset None) ≡ true
 
 -- as many frames, of 512 bytes each, and each byte that is marked is written
-pub record Covers (stack : List (List Bool)) (frames : List (List (Option ℕ))) : Type 0 where
+pub record MarksCover (stack : List (List Bool)) (frames : List (List (Option ℕ))) : Type 0 where
   pub depth : length frames ≡ length stack
   pub whole : (k : ℕ) → k < length frames → length (slice_index_or frames k []) ≡ 512
   pub written : (k offset : ℕ) → Marked stack k offset → IsWritten frames k offset
@@ -23,4 +23,4 @@ AreWritten frames k from end = (offset : ℕ) → from ≤ offset → offset < e
 
 -- a byte of frame k is written in all stacks that are covered
 abbrev pub Knows : List (List Bool) → ℕ → ℕ → Type 0
-Knows stack k offset = (frames : List (List (Option ℕ))) → Covers stack frames → IsWritten frames k offset
+Knows stack k offset = (frames : List (List (Option ℕ))) → MarksCover stack frames → IsWritten frames k offset

@@ -5,7 +5,7 @@
 ghost use Rattle.std.specs.Prelude.{◌≡◌, ◌<◌, ◌≤◌, ◌+◌, ◌-◌, ◌*◌, ◌↔◌, ◌⊎◌, ◌&&◌, false, ℕ, List, [], ◌∷◌, ◌++◌, Option, IsTrue, length, slice_index_or};
 ghost use Rattle.bpf_stack_frame.specs.ByteSet.{Has};
 ghost use Rattle.bpf_stack_frame.specs.declared.byte_set.TheConstants.{MOST_BYTES};
-ghost use Rattle.stack_domain.specs.Stack.{Covers, Knows, AreWritten};
+ghost use Rattle.stack_domain.specs.Stack.{MarksCover, Knows, AreWritten};
 ghost use Rattle.stack_domain.specs.Stores.{stored};
 
 use base::PaddedList;
@@ -35,7 +35,7 @@ impl Stack {
     /// The outermost frame, of which no byte is known to be written.
     pub fn outermost() -> Self
         ensures depth { length result ≡ 1 }
-        ensures covers { (frame : List (Option ℕ)) → length frame ≡ 512 → Covers result (frame ∷ []) }
+        ensures covers { (frame : List (Option ℕ)) → length frame ≡ 512 → MarksCover result (frame ∷ []) }
     {
         let mut sets = PaddedList::none();
         sets.push_blank();
@@ -55,7 +55,7 @@ impl Stack {
     pub fn opened(&self) -> Self
         requires { length self.now < MAX_FRAMES }
         ensures depth { length result ≡ length self.now + 1 }
-        ensures covers { (frames : List (List (Option ℕ))) (frame : List (Option ℕ)) → (Covers result (frames ++ frame ∷ []) ↔ (Covers self.now frames × (length frame ≡ 512))) }
+        ensures covers { (frames : List (List (Option ℕ))) (frame : List (Option ℕ)) → (MarksCover result (frames ++ frame ∷ []) ↔ (MarksCover self.now frames × (length frame ≡ 512))) }
     {
         let mut sets = self.sets;
         sets.push_blank();
@@ -66,7 +66,7 @@ impl Stack {
     pub fn closed(&self) -> Self
         requires { 1 < length self.now }
         ensures depth { length result + 1 ≡ length self.now }
-        ensures covers { (frames : List (List (Option ℕ))) (frame : List (Option ℕ)) → Covers self.now (frames ++ frame ∷ []) → Covers result frames }
+        ensures covers { (frames : List (List (Option ℕ))) (frame : List (Option ℕ)) → MarksCover self.now (frames ++ frame ∷ []) → MarksCover result frames }
         ensures knows { (k offset : ℕ) → k < length result → Knows self.now k offset → Knows result k offset }
     {
         let mut sets = self.sets;
@@ -80,8 +80,8 @@ impl Stack {
         requires inside { offset + count ≤ 512 }
         requires few { count ≤ MOST_BYTES }
         ensures depth { length self.new ≡ length self.old }
-        ensures stored { (frames : List (List (Option ℕ))) (bytes : List ℕ) → Covers self.old frames → length bytes ≡ count → Covers self.new (stored frames frame offset bytes) }
-        ensures covers { (frames : List (List (Option ℕ))) → (Covers self.new frames ↔ (Covers self.old frames × AreWritten frames frame offset (offset + count))) }
+        ensures stored { (frames : List (List (Option ℕ))) (bytes : List ℕ) → MarksCover self.old frames → length bytes ≡ count → MarksCover self.new (stored frames frame offset bytes) }
+        ensures covers { (frames : List (List (Option ℕ))) → (MarksCover self.new frames ↔ (MarksCover self.old frames × AreWritten frames frame offset (offset + count))) }
     {
         let mut set = *self.sets.at(frame);
         set.insert_all(offset, count);
@@ -94,7 +94,7 @@ impl Stack {
         requires live { frame < length self.now }
         requires order { least ≤ most }
         requires inside { most + count ≤ 512 }
-        ensures { IsTrue result ↔ ((frames : List (List (Option ℕ))) → Covers self.now frames → AreWritten frames frame least (most + count)) }
+        ensures { IsTrue result ↔ ((frames : List (List (Option ℕ))) → MarksCover self.now frames → AreWritten frames frame least (most + count)) }
     {
         self.sets
             .at(frame)
@@ -106,7 +106,7 @@ impl Stack {
         requires live { frame < length self.old }
         requires inside { word < 64 }
         ensures depth { length self.new ≡ length self.old }
-        ensures covers { (frames : List (List (Option ℕ))) → Covers self.old frames → Covers self.new frames }
+        ensures covers { (frames : List (List (Option ℕ))) → MarksCover self.old frames → MarksCover self.new frames }
         ensures knows { (k offset : ℕ) → (k ≡ frame → (offset < 8 * word) ⊎ (8 * word + 8 ≤ offset)) → Knows self.old k offset → Knows self.new k offset }
         ensures forgets { (offset : ℕ) → 8 * word ≤ offset → offset < 8 * word + 8 → Knows self.new frame offset → ⊥ }
     {
@@ -119,8 +119,8 @@ impl Stack {
     pub fn join(&mut self, other: &Self)
         requires { length self.old ≡ length other.now }
         ensures depth { length self.new ≡ length self.old }
-        ensures first { (frames : List (List (Option ℕ))) → Covers self.old frames → Covers self.new frames }
-        ensures second { (frames : List (List (Option ℕ))) → Covers other.now frames → Covers self.new frames }
+        ensures first { (frames : List (List (Option ℕ))) → MarksCover self.old frames → MarksCover self.new frames }
+        ensures second { (frames : List (List (Option ℕ))) → MarksCover other.now frames → MarksCover self.new frames }
         ensures knows { (k offset : ℕ) → Knows self.old k offset → Knows other.now k offset → Knows self.new k offset }
     {
         intersect(&mut self.sets, &other.sets);

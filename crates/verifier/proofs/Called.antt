@@ -83,37 +83,37 @@ same_front (a ∷ xs) (b ∷ ys) x y e =
 same_call : (a b : OpenCall) (xs ys : List OpenCall) → a ∷ xs ≡ b ∷ ys → (a ≡ b) × (xs ≡ ys)
 same_call a b xs ys e = (cc, cc)
 
-left_back : (callers : List SavedRegisters) (saved : SavedRegisters) (left : Option Description) (place : ℕ) (call : OpenCall) (calls entered : List OpenCall) → call.return_place ≡ place → entered ≡ call ∷ calls → (m : MachineState) → IsLeft (callers ++ saved ∷ []) left entered m → IsBack callers left place calls m
+left_back : (callers : List SavedRegisters) (saved : SavedRegisters) (left : Option Description) (place : ℕ) (call : OpenCall) (calls entered : List OpenCall) → call.return_pc ≡ place → entered ≡ call ∷ calls → (m : MachineState) → IsLeft (callers ++ saved ∷ []) left entered m → IsBack callers left place calls m
 left_back callers saved left place call calls entered returns opened m is =
     let same = same_call call is.call calls is.rest (sym opened ∙ is.calls_were) in
     let outer : callers ≡ is.outer = same_front callers is.outer saved is.saved is.callers_were in
     record {
       description = is.description;
       known = is.known;
-      behind_call = is.place ∙ (ap (λ (c : OpenCall). c.return_place) (sym same.0) ∙ returns);
+      behind_call = is.place ∙ (ap (λ (c : OpenCall). c.return_pc) (sym same.0) ∙ returns);
       calls_are = is.calls_are ∙ sym same.1;
       holds = subst (λ (cs : List SavedRegisters). Describes cs is.description m) (sym outer) is.holds;
     }
 
 -- as seen from the function that calls
-checked_under : (limits : HelperLimits) (program : List Slot) (checks : List Standing) (return : ℕ) (call : OpenCall) (calls entered : List OpenCall) → call.return_place ≡ return → entered ≡ call ∷ calls → (m : MachineState) → IsChecked limits program checks entered m → IsChecked limits program (all_under return checks) calls m
+checked_under : (limits : HelperLimits) (program : List Slot) (checks : List Standing) (return : ℕ) (call : OpenCall) (calls entered : List OpenCall) → call.return_pc ≡ return → entered ≡ call ∷ calls → (m : MachineState) → IsChecked limits program checks entered m → IsChecked limits program (all_under return checks) calls m
 checked_under limits program checks return call calls entered returns opened m is =
     let inner = is.inner ++ call ∷ [] in
     let inside : m.open_calls ≡ is.inner ++ (call ∷ calls) = is.opened ∙ ap (λ (cs : List OpenCall). is.inner ++ cs) opened in
-    let there = under_there return checks (record { slot = m.place; returns = returns_of is.inner }) is.checked in
+    let there = under_there return checks (record { slot = m.pc; returns = returns_of is.inner }) is.checked in
     record {
       unstuck = is.unstuck;
       inner = inner;
       opened = inside ∙ opened_inside is.inner call calls;
-      checked = subst (λ (rs : List ℕ). Contains (all_under return checks) (record { slot = m.place; returns = rs })) (sym (under_returns is.inner call return returns)) there;
+      checked = subst (λ (rs : List ℕ). Contains (all_under return checks) (record { slot = m.pc; returns = rs })) (sym (under_returns is.inner call return returns)) there;
     }
 
 -- a machine that is let into what is called is well until it comes back
-call_sound : (limits : HelperLimits) (program : List Slot) (callers : List SavedRegisters) (saved : SavedRegisters) (d entry : Description) (place callee : ℕ) (left : Option Description) (checks : List Standing) → ((callers : List SavedRegisters) (distance : ℤ) (m m' : MachineState) → Describes callers d m → does m (Call (Local distance)) ≡ Some m' → Describes (callers ++ saved ∷ []) entry m') → FunctionIsSound limits program (callers ++ saved ∷ []) entry callee left checks → (distance : ℤ) (m m' : MachineState) → Describes callers d m → m.place ≡ place → target place distance ≡ callee → StepsBy m (Call (Local distance)) m' → (n : ℕ) → StaysWell program (IsChecked limits program (all_under (place + 1) checks) m.open_calls) (IsBack callers left (place + 1) m.open_calls) n m'
+call_sound : (limits : HelperLimits) (program : List Slot) (callers : List SavedRegisters) (saved : SavedRegisters) (d entry : Description) (place callee : ℕ) (left : Option Description) (checks : List Standing) → ((callers : List SavedRegisters) (distance : ℤ) (m m' : MachineState) → Describes callers d m → does m (Call (Local distance)) ≡ Some m' → Describes (callers ++ saved ∷ []) entry m') → FunctionIsSound limits program (callers ++ saved ∷ []) entry callee left checks → (distance : ℤ) (m m' : MachineState) → Describes callers d m → m.pc ≡ place → target place distance ≡ callee → StepsBy m (Call (Local distance)) m' → (n : ℕ) → StaysWell program (IsChecked limits program (all_under (place + 1) checks) m.open_calls) (IsBack callers left (place + 1) m.open_calls) n m'
 call_sound limits program callers saved d entry place callee left checks known sound distance m m' holds at leads step n =
     let in_callee = enters m m' distance step in
-    let start : m'.place ≡ callee = in_callee.place ∙ (ap (λ (k : ℕ). target k distance) at ∙ leads) in
-    let returns : in_callee.call.return_place ≡ place + 1 = in_callee.behind_call ∙ ap (λ (k : ℕ). k + 1) at in
+    let start : m'.pc ≡ callee = in_callee.place ∙ (ap (λ (k : ℕ). target k distance) at ∙ leads) in
+    let returns : in_callee.call.return_pc ≡ place + 1 = in_callee.behind_call ∙ ap (λ (k : ℕ). k + 1) at in
     well_so program (IsChecked limits program checks m'.open_calls) (IsChecked limits program (all_under (place + 1) checks) m.open_calls) (IsLeft (callers ++ saved ∷ []) left m'.open_calls) (IsBack callers left (place + 1) m.open_calls)
     (checked_under limits program checks (place + 1) in_callee.call m.open_calls m'.open_calls returns in_callee.calls)
     (left_back callers saved left (place + 1) in_callee.call m.open_calls m'.open_calls returns in_callee.calls)
@@ -182,7 +182,7 @@ pub behind_alone : (before : Table) (at : ℕ) (back : Option Description) (afte
 behind_alone before at back after come k le = come.others k (λ same. omega (arith, same, le))
 
 -- a place where a function is called is done with
-pub visited_call : (limits : HelperLimits) (program : List Slot) (callers : List SavedRegisters) (start : ℕ) (all : Table) (left : Option Description) (at : ℕ) (insn : Insn) (callee : ℕ) (d : Description) (back : Option Description) (before after : Table) (checks more : List Standing) → IsLawfulProgram program → insn_at program (start + at) ≡ Some insn → callee_in (start + at) insn ≡ Some callee → described all at ≡ Some d → AreDone limits program callers start all left checks at → IsTaken all at before → ((limits : HelperLimits) (distance : ℤ) → NeverStuck limits callers (Call (Local distance)) d) → ((distance : ℤ) (m m' : MachineState) → Describes callers d m → m.place ≡ start + at → target (start + at) distance ≡ callee → StepsBy m (Call (Local distance)) m' → (n : ℕ) → StaysWell program (IsChecked limits program more m.open_calls) (IsBack callers back (start + at + 1) m.open_calls) n m') → ((there : Description) → back ≡ Some there → length there.stack ≡ length callers + 1) → HasComeBack before (at + 1) back after → HasVisited limits program callers start all left at insn (carried at all after) left (checks ++ (outermost (start + at) ∷ more))
+pub visited_call : (limits : HelperLimits) (program : List Slot) (callers : List SavedRegisters) (start : ℕ) (all : Table) (left : Option Description) (at : ℕ) (insn : Insn) (callee : ℕ) (d : Description) (back : Option Description) (before after : Table) (checks more : List Standing) → IsLawfulProgram program → insn_at program (start + at) ≡ Some insn → callee_in (start + at) insn ≡ Some callee → described all at ≡ Some d → AreDone limits program callers start all left checks at → IsTaken all at before → ((limits : HelperLimits) (distance : ℤ) → NeverStuck limits callers (Call (Local distance)) d) → ((distance : ℤ) (m m' : MachineState) → Describes callers d m → m.pc ≡ start + at → target (start + at) distance ≡ callee → StepsBy m (Call (Local distance)) m' → (n : ℕ) → StaysWell program (IsChecked limits program more m.open_calls) (IsBack callers back (start + at + 1) m.open_calls) n m') → ((there : Description) → back ≡ Some there → length there.stack ≡ length callers + 1) → HasComeBack before (at + 1) back after → HasVisited limits program callers start all left at insn (carried at all after) left (checks ++ (outermost (start + at) ∷ more))
 visited_call limits program callers start all left at insn callee d back before after checks more lawful here leads there are taken unstuck sound frames come =
     let call = local_call (start + at) callee insn leads in
     let call_here : insn_at program (start + at) ≡ Some (Call (Local call.0)) = here ∙ ap Some call.1 in

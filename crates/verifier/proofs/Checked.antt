@@ -79,7 +79,7 @@ target_is : (x y : ℕ) (o : Option ℕ) → o ≡ Some x → o ≡ Some y → x
 target_is x y o e f = cc
 
 -- behind an instruction
-lands_behind : (limits : HelperLimits) (program : List Slot) (callers : List SavedRegisters) (start : ℕ) (d : Description) (before after : Table) (at to : ℕ) (insn : Insn) (m m' : MachineState) → to ≡ at + length (slots_of insn) → insn_at program (start + at) ≡ Some insn → at < length before → IsEnd program start (start + length before) → HasLed limits callers d before insn FallThrough to after → m.place ≡ start + at → Describes callers d m → StepsBy m insn m' → goes_on_behind insn ≡ true → m'.place ≡ behind m.place insn → m'.open_calls ≡ m.open_calls → GoesBy m insn FallThrough → Stands callers m.open_calls start after m'
+lands_behind : (limits : HelperLimits) (program : List Slot) (callers : List SavedRegisters) (start : ℕ) (d : Description) (before after : Table) (at to : ℕ) (insn : Insn) (m m' : MachineState) → to ≡ at + length (slots_of insn) → insn_at program (start + at) ≡ Some insn → at < length before → IsEnd program start (start + length before) → HasLed limits callers d before insn FallThrough to after → m.pc ≡ start + at → Describes callers d m → StepsBy m insn m' → goes_on_behind insn ≡ true → m'.pc ≡ behind m.pc insn → m'.open_calls ≡ m.open_calls → GoesBy m insn FallThrough → Stands callers m.open_calls start after m'
 lands_behind limits program callers start d before after at to insn m m' slot here inside end led at_place holds step goes_on place calls way =
     let lt = (end.closed (start + at) insn (omega arith) (omega (arith, inside)) here).goes_on goes_on in
     record {
@@ -102,7 +102,7 @@ checked_straight limits program callers start d before after at to insn slot her
         let on = onward m m' insn within step in
         elim on.goes [
           | inl next ↦ lands_behind limits program callers start d before after at to insn m m' slot here inside end led at_place holds step next.2 next.1 on.calls next.0
-          | inr taken ↦ absurd (let bad : None ≡ Some m'.place = sym none ∙ (sym (ap (λ (k : ℕ). target_in k insn) at_place) ∙ taken.1) in cc)
+          | inr taken ↦ absurd (let bad : None ≡ Some m'.pc = sym none ∙ (sym (ap (λ (k : ℕ). target_in k insn) at_place) ∙ taken.1) in cc)
         ]
   ];
 }
@@ -127,7 +127,7 @@ checked_jump limits program callers start d before between after at to target in
                   let stands = lands_behind limits program callers start d before between at to insn m m' slot here inside end led at_place holds step next.2 next.1 on.calls next.0 in
                   record { at = stands.at; place = stands.place; known = jumped.grows callers stands.at m' stands.known; calls_are = stands.calls_are }
               | inr taken ↦
-                  let is : target ≡ m'.place = target_is target m'.place (target_in (start + at) insn) leads (sym (ap (λ (k : ℕ). target_in k insn) at_place) ∙ taken.1) in
+                  let is : target ≡ m'.pc = target_is target m'.pc (target_in (start + at) insn) leads (sym (ap (λ (k : ℕ). target_in k insn) at_place) ∙ taken.1) in
                   let lt = (end.closed (start + at) insn (omega arith) (omega (arith, inside)) here).jumps target leads in
                   record {
                     at = target - start;

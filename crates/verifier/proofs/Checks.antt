@@ -76,9 +76,9 @@ under_once return (check ∷ checks) once = (
   under_once return checks once.1,
 )
 
-pub under_returns : (inner : List OpenCall) (call : OpenCall) (return : ℕ) → call.return_place ≡ return → returns_of (inner ++ call ∷ []) ≡ returns_of inner ++ return ∷ []
+pub under_returns : (inner : List OpenCall) (call : OpenCall) (return : ℕ) → call.return_pc ≡ return → returns_of (inner ++ call ∷ []) ≡ returns_of inner ++ return ∷ []
 under_returns [] call return is = ap (λ (r : ℕ). r ∷ []) is
-under_returns (first ∷ inner) call return is = ap (λ (rs : List ℕ). first.return_place ∷ rs) (under_returns inner call return is)
+under_returns (first ∷ inner) call return is = ap (λ (rs : List ℕ). first.return_pc ∷ rs) (under_returns inner call return is)
 
 pub opened_inside : (inner : List OpenCall) (call : OpenCall) (calls : List OpenCall) → inner ++ (call ∷ calls) ≡ (inner ++ call ∷ []) ++ calls
 opened_inside [] call calls = refl

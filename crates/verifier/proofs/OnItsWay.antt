@@ -8,7 +8,7 @@ use Rattle.bpf_insn.specs.Program.{insn_at}
 use Rattle.bpf_insn.specs.Target.{target}
 use Rattle.call_shape.specs.Calls.{begins, callee_in, function_of}
 use Rattle.call_shape.specs.Shape.{behind, goes_on_behind, target_in}
-use Rattle.call_shape.specs.StaticPath.{Standing, outermost, called, moved, LeadsTo, PathLeads, goes_on}
+use Rattle.call_shape.specs.StaticPath.{Standing, outermost, called, moved, StepLeadsTo, PathLeads, goes_on}
 use Rattle.call_shape.proofs.Contained.{callee_there}
 use Rattle.call_shape.proofs.Lawful.{calls_lawfully, goes_on_lawfully}
 use Rattle.call_shape.proofs.Leading.{leads_back}
@@ -25,7 +25,7 @@ pub chain_first : (program : List Slot) → IsChain program 0 0
 chain_first program = record { returns = []; count = refl; begun = tt; on = begins_on_the_way program }
 
 -- behind an instruction by which control stays in its function
-leads_behind : (callers : List SavedRegisters) (at : Standing) (insn : Insn) → Stays callers insn → goes_on_behind insn ≡ true → LeadsTo at insn (moved at (behind at.slot insn))
+leads_behind : (callers : List SavedRegisters) (at : Standing) (insn : Insn) → Stays callers insn → goes_on_behind insn ≡ true → StepLeadsTo at insn (moved at (behind at.slot insn))
 leads_behind callers at (Alu width op dst src) stays goes = refl
 leads_behind callers at (InPlace op dst) stays goes = refl
 leads_behind callers at (SignExtend extension dst src) stays goes = refl
@@ -44,7 +44,7 @@ some_is x y e = cc
 no_target : (to : ℕ) → None ≡ Some to → ⊥
 no_target to e = absurd cc
 
-leads_there : (at : Standing) (insn : Insn) (to : ℕ) → target_in at.slot insn ≡ Some to → LeadsTo at insn (moved at to)
+leads_there : (at : Standing) (insn : Insn) (to : ℕ) → target_in at.slot insn ≡ Some to → StepLeadsTo at insn (moved at to)
 leads_there at (JumpIf width condition dst src offset) to leads = inr (ap (moved at) (sym (some_is _ to leads)))
 leads_there at (Jump distance) to leads = ap (moved at) (sym (some_is _ to leads))
 leads_there at (Alu width op dst src) to leads = absurd (no_target to leads)

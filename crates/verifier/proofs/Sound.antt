@@ -24,7 +24,7 @@ use Rattle.verifier.specs.Goes.{FunctionIsSound, IsChecked, IsLeft, StaysWell}
 use Rattle.verifier.specs.Table.{Table, described, IsKnown}
 
 -- one step, by the instruction at which the machine stands
-pub step_by : (program : List Slot) (m m' : MachineState) (insn : Insn) → insn_at program m.place ≡ Some insn → Steps program m m' → StepsBy m insn m'
+pub step_by : (program : List Slot) (m m' : MachineState) (insn : Insn) → insn_at program m.pc ≡ Some insn → Steps program m m' → StepsBy m insn m'
 step_by program m m' insn at (inl step) = inl (sym (ap (option_and_then (does m)) at) ∙ step)
 step_by program m m' insn at (inr (request, answer, made, allowed)) = inr (request, answer, sym (ap (option_and_then (request_in m)) at) ∙ made, allowed)
 
@@ -75,7 +75,7 @@ known_well limits program callers calls start table left checks are zero (suc k)
 known_well limits program callers calls start table left checks are (suc n) (suc k) le m stands =
     let own = are.own stands.at stands.known.description stands.known.there in
     let insn = begins_there program (start + stands.at) own.begun in
-    let at : insn_at program m.place ≡ Some insn.0 = ap (insn_at program) stands.place ∙ insn.1 in
+    let at : insn_at program m.pc ≡ Some insn.0 = ap (insn_at program) stands.place ∙ insn.1 in
     let done = are.done stands.at insn.0 (inside_table table stands.at stands.known.description stands.known.there) insn.1 in (
       known_checked limits program callers calls start table left checks are m stands (ap (is_stuck_at limits m) at ∙ done.unstuck m stands.known),
       λ m' step.
@@ -104,7 +104,7 @@ none_left left calls m is = omega (arith, ap length is.callers_were, length-appe
 
 reached_well : (limits : HelperLimits) (program : List Slot) (entry : Description) (left : Option Description) (checks : List Standing) → DescribesEntries entry → FunctionIsSound limits program [] entry 0 left checks → (n : ℕ) (m : MachineState) → Reached program n m → (k : ℕ) → StaysWell program (IsChecked limits program checks []) (λ (m : MachineState). ⊥) k m
 reached_well limits program entry left checks entries sound zero m is k =
-    let at : m.place ≡ 0 = ap (λ (x : MachineState). x.place) is.is in
+    let at : m.pc ≡ 0 = ap (λ (x : MachineState). x.pc) is.is in
     let calls : m.open_calls ≡ [] = ap (λ (x : MachineState). x.open_calls) is.is in
     well_so program (IsChecked limits program checks m.open_calls) (IsChecked limits program checks []) (IsLeft [] left m.open_calls) (λ (m : MachineState). ⊥)
     (λ x. subst (λ (cs : List OpenCall). IsChecked limits program checks cs x) calls) (none_left left m.open_calls) k m (sound m at (entries m is) k)
@@ -125,4 +125,4 @@ pub outermost_checked : (limits : HelperLimits) (program : List Slot) (entry : D
 outermost_checked limits program entry left checks entries sound n m reached =
     let is = reached_checked limits program entry left checks entries sound n m reached in
     let same : is.inner ≡ m.open_calls = sym (is.opened ∙ append-nil is.inner) in
-    subst (λ (calls : List OpenCall). Contains checks (record { slot = m.place; returns = returns_of calls })) same is.checked
+    subst (λ (calls : List OpenCall). Contains checks (record { slot = m.pc; returns = returns_of calls })) same is.checked

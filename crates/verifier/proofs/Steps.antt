@@ -24,23 +24,23 @@ use Rattle.bpf_semantics.specs.Memory.{address_of, load_width, loaded, word_from
 use Rattle.bpf_semantics.specs.Step.{Allowed, after_call, calls as local_call, changed_by, compute, compute_one, does, entered, first_operand, has_frame_left, jump_if, operand, request_in, returned, store}
 use Rattle.bpf_words.specs.Words.{holds_of, in_place, sign_extended}
 use Rattle.call_shape.specs.Shape.{behind, goes_on_behind, target_in}
-use Rattle.call_shape.specs.StaticPath.{Standing, moved, LeadsTo, ReturnsTo}
+use Rattle.call_shape.specs.StaticPath.{Standing, moved, StepLeadsTo, ReturnsTo}
 use Rattle.check_private_insns.specs.declared.way.Way.TheVariants.{FallThrough, Taken}
 use Rattle.check_private_insns.specs.Follows.{GoesBy, StepsBy, jumps_if}
 
 -- one of the two ways, the first only where something may go on behind the instruction
-abbrev pub GoesOn : MachineState → Insn → MachineState → Type 0
-GoesOn m insn m' =
-    (GoesBy m insn FallThrough × (m'.place ≡ behind m.place insn) × (goes_on_behind insn ≡ true))
-    ⊎ (GoesBy m insn Taken × (target_in m.place insn ≡ Some m'.place))
+abbrev pub GoesPrivately : MachineState → Insn → MachineState → Type 0
+GoesPrivately m insn m' =
+    (GoesBy m insn FallThrough × (m'.pc ≡ behind m.pc insn) × (goes_on_behind insn ≡ true))
+    ⊎ (GoesBy m insn Taken × (target_in m.pc insn ≡ Some m'.pc))
 
 -- where the calls that are open go on, the innermost first
 abbrev pub returns_of : MachineState → List ℕ
-returns_of m = map (λ (call : OpenCall). call.return_place) m.open_calls
+returns_of m = map (λ (call : OpenCall). call.return_pc) m.open_calls
 
 -- where a machine stands on a static path
 abbrev pub standing_of : MachineState → Standing
-standing_of m = record { slot = m.place; returns = returns_of m }
+standing_of m = record { slot = m.pc; returns = returns_of m }
 
 -- neither a local call nor an exit
 abbrev pub is_inside : Insn → Bool
@@ -59,17 +59,17 @@ is_inside (Store size dst src offset) = true
 -- a step within a function
 pub record IsOnward (m : MachineState) (insn : Insn) (m' : MachineState) : Type 0 where
   pub calls : m'.open_calls ≡ m.open_calls
-  pub goes : GoesOn m insn m'
-  pub leads : LeadsTo (standing_of m) insn (standing_of m')
+  pub goes : GoesPrivately m insn m'
+  pub leads : StepLeadsTo (standing_of m) insn (standing_of m')
 
 -- into a function that is called
 pub record HasEntered (m : MachineState) (distance : ℤ) (m' : MachineState) : Type 0 where
   pub step : does m (Call (Local distance)) ≡ Some m'
   pub call : OpenCall
-  pub behind_call : call.return_place ≡ m.place + 1
+  pub behind_call : call.return_pc ≡ m.pc + 1
   pub calls : m'.open_calls ≡ call ∷ m.open_calls
-  pub place : m'.place ≡ target m.place distance
-  pub leads : LeadsTo (standing_of m) (Call (Local distance)) (standing_of m')
+  pub place : m'.pc ≡ target m.pc distance
+  pub leads : StepLeadsTo (standing_of m) (Call (Local distance)) (standing_of m')
 
 -- out of one, behind its call
 pub record HasLeft (m m' : MachineState) : Type 0 where
@@ -78,8 +78,8 @@ pub record HasLeft (m m' : MachineState) : Type 0 where
   pub outer : List OpenCall
   pub before : m.open_calls ≡ call ∷ outer
   pub calls : m'.open_calls ≡ outer
-  pub place : m'.place ≡ call.return_place
-  pub leads : LeadsTo (standing_of m) Exit (standing_of m')
+  pub place : m'.pc ≡ call.return_pc
+  pub leads : StepLeadsTo (standing_of m) Exit (standing_of m')
 
 some_is : (x y : MachineState) → Some x ≡ Some y → x ≡ y
 some_is x y e = cc
@@ -90,7 +90,7 @@ none_is x e = absurd cc
 -- behind the instruction, and what else it changes is no call
 record IsNext (m : MachineState) (slots : ℕ) (m' : MachineState) : Type 0 where
   calls : m'.open_calls ≡ m.open_calls
-  place : m'.place ≡ m.place + slots
+  place : m'.pc ≡ m.pc + slots
 
 next_as : (m x m' : MachineState) (slots : ℕ) → IsNext m slots x → Some x ≡ Some m' → IsNext m slots m'
 next_as m x m' slots is e = subst (IsNext m slots) (some_is x m' e) is
@@ -104,11 +104,11 @@ one_next : (m m' : MachineState) (dst : Reg) (f : ℕ → ℕ) (word : Option �
 one_next m m' dst f (Some word) e = next_as m _ m' 1 (record { calls = refl; place = refl }) e
 one_next m m' dst f None e = absurd (none_is m' e)
 
-loaded_next : (m m' : MachineState) (form : LoadForm) (dst : Reg) (word : Option ℕ) → option_map (λ word. moved_to (with_register m dst (loaded form word)) (m.place + 1)) word ≡ Some m' → IsNext m 1 m'
+loaded_next : (m m' : MachineState) (form : LoadForm) (dst : Reg) (word : Option ℕ) → option_map (λ word. moved_to (with_register m dst (loaded form word)) (m.pc + 1)) word ≡ Some m' → IsNext m 1 m'
 loaded_next m m' form dst (Some word) e = next_as m _ m' 1 (record { calls = refl; place = refl }) e
 loaded_next m m' form dst None e = absurd (none_is m' e)
 
-written_next : (m m' : MachineState) (frames : Option (List (List (Option ℕ)))) → option_map (λ next. moved_to next (m.place + 1)) (option_map (λ frames. record m { frames = frames }) frames) ≡ Some m' → IsNext m 1 m'
+written_next : (m m' : MachineState) (frames : Option (List (List (Option ℕ)))) → option_map (λ next. moved_to next (m.pc + 1)) (option_map (λ frames. record m { frames = frames }) frames) ≡ Some m' → IsNext m 1 m'
 written_next m m' (Some frames) e = next_as m _ m' 1 (record { calls = refl; place = refl }) e
 written_next m m' None e = absurd (none_is m' e)
 
@@ -120,27 +120,27 @@ store_next m m' size None word e = absurd (none_is m' e)
 -- which way a conditional jump goes
 record IsJump (m : MachineState) (jumps : Bool) (offset : ℤ) (m' : MachineState) : Type 0 where
   calls : m'.open_calls ≡ m.open_calls
-  goes : ((jumps ≡ false) × (m'.place ≡ m.place + 1)) ⊎ ((jumps ≡ true) × (m'.place ≡ target m.place offset))
+  goes : ((jumps ≡ false) × (m'.pc ≡ m.pc + 1)) ⊎ ((jumps ≡ true) × (m'.pc ≡ target m.pc offset))
 
 jump_goes : (m m' : MachineState) (width : Width) (condition : Condition) (offset : ℤ) (a b : Option ℕ) → jump_if m width condition offset a b ≡ Some m' → IsJump m (jumps_if width condition a b) offset m'
 jump_goes m m' width condition offset (Some a) (Some b) e =
-    let is : moved_to m (cond (holds_of width condition a b) (target m.place offset) (m.place + 1)) ≡ m' = some_is _ m' e in
+    let is : moved_to m (cond (holds_of width condition a b) (target m.pc offset) (m.pc + 1)) ≡ m' = some_is _ m' e in
     record {
       calls = sym (ap (λ (x : MachineState). x.open_calls) is);
       goes = elim (cases_Bool (holds_of width condition a b)) [
-        | inl holds ↦ inr (holds, sym (ap (λ (x : MachineState). x.place) is) ∙ cond-true (holds_of width condition a b) _ _ holds)
-        | inr apart ↦ inl (apart, sym (ap (λ (x : MachineState). x.place) is) ∙ cond-false (holds_of width condition a b) _ _ apart)
+        | inl holds ↦ inr (holds, sym (ap (λ (x : MachineState). x.pc) is) ∙ cond-true (holds_of width condition a b) _ _ holds)
+        | inr apart ↦ inl (apart, sym (ap (λ (x : MachineState). x.pc) is) ∙ cond-false (holds_of width condition a b) _ _ apart)
       ];
     }
 jump_goes m m' width condition offset (Some a) None e = absurd (none_is m' e)
 jump_goes m m' width condition offset None b e = absurd (none_is m' e)
 
 -- at another slot, with the same calls open
-moved_on : (m m' : MachineState) (place : ℕ) → m'.open_calls ≡ m.open_calls → m'.place ≡ place → standing_of m' ≡ moved (standing_of m) place
-moved_on m m' place calls at = λ i. record { slot = at i; returns = map (λ (call : OpenCall). call.return_place) (calls i) }
+moved_on : (m m' : MachineState) (place : ℕ) → m'.open_calls ≡ m.open_calls → m'.pc ≡ place → standing_of m' ≡ moved (standing_of m) place
+moved_on m m' place calls at = λ i. record { slot = at i; returns = map (λ (call : OpenCall). call.return_pc) (calls i) }
 
 -- behind the instruction
-next_onward : (m m' : MachineState) (insn : Insn) (slots : ℕ) → IsNext m slots m' → behind m.place insn ≡ m.place + slots → goes_on_behind insn ≡ true → GoesBy m insn FallThrough → LeadsTo (standing_of m) insn (standing_of m') → IsOnward m insn m'
+next_onward : (m m' : MachineState) (insn : Insn) (slots : ℕ) → IsNext m slots m' → behind m.pc insn ≡ m.pc + slots → goes_on_behind insn ≡ true → GoesBy m insn FallThrough → StepLeadsTo (standing_of m) insn (standing_of m') → IsOnward m insn m'
 next_onward m m' insn slots is slot on goes leads = record { calls = is.calls; goes = inl (goes, is.place ∙ sym slot, on); leads = leads }
 
 private_onward : (m m' : MachineState) (insn : Insn) → is_inside insn ≡ true → does m insn ≡ Some m' → IsOnward m insn m'
@@ -161,8 +161,8 @@ private_onward m m' (JumpIf width condition dst src offset) inside e =
       leads = elim is.goes [ inl next ↦ inl (moved_on m m' _ is.calls next.1) | inr taken ↦ inr (moved_on m m' _ is.calls taken.1) ];
     }
 private_onward m m' (Jump distance) inside e =
-    let is : moved_to m (target m.place (distance_of distance)) ≡ m' = some_is _ m' e in
-    let place : target m.place (distance_of distance) ≡ m'.place = ap (λ (x : MachineState). x.place) is in
+    let is : moved_to m (target m.pc (distance_of distance)) ≡ m' = some_is _ m' e in
+    let place : target m.pc (distance_of distance) ≡ m'.pc = ap (λ (x : MachineState). x.pc) is in
     let calls : m'.open_calls ≡ m.open_calls = sym (ap (λ (x : MachineState). x.open_calls) is) in
     record { calls = calls; goes = inr (refl, ap Some place); leads = moved_on m m' _ calls (sym place) }
 private_onward m m' (LoadImmediate dst value) inside e =
@@ -223,7 +223,7 @@ enters m m' distance (inl step) =
       call = _;
       behind_call = refl;
       calls = sym (ap (λ (x : MachineState). x.open_calls) is);
-      place = sym (ap (λ (x : MachineState). x.place) is);
+      place = sym (ap (λ (x : MachineState). x.pc) is);
       leads = sym (ap standing_of is);
     }
 enters m m' distance (inr (request, answer, made, allowed)) = absurd (no_request request made)
@@ -232,7 +232,7 @@ left_so : (m m' : MachineState) (calls : List OpenCall) → m.open_calls ≡ cal
 left_so m m' [] before step e = absurd (none_is m' e)
 left_so m m' (call ∷ calls) before step e =
     let is = some_is _ m' e in
-    let place : m'.place ≡ call.return_place = sym (ap (λ (x : MachineState). x.place) is) in
+    let place : m'.pc ≡ call.return_pc = sym (ap (λ (x : MachineState). x.pc) is) in
     let left : m'.open_calls ≡ calls = sym (ap (λ (x : MachineState). x.open_calls) is) in
     record {
       step = step;
@@ -241,8 +241,8 @@ left_so m m' (call ∷ calls) before step e =
       before = before;
       calls = left;
       place = place;
-      leads = subst (λ (l : List OpenCall). ReturnsTo (map (λ (c : OpenCall). c.return_place) l) (standing_of m')) (sym before)
-          (λ i. record { slot = place i; returns = map (λ (c : OpenCall). c.return_place) (left i) });
+      leads = subst (λ (l : List OpenCall). ReturnsTo (map (λ (c : OpenCall). c.return_pc) l) (standing_of m')) (sym before)
+          (λ i. record { slot = place i; returns = map (λ (c : OpenCall). c.return_pc) (left i) });
     }
 
 pub leaves : (m m' : MachineState) → StepsBy m Exit m' → HasLeft m m'
@@ -250,7 +250,7 @@ leaves m m' (inl step) = left_so m m' m.open_calls refl step step
 leaves m m' (inr (request, answer, made, allowed)) = absurd (no_request request made)
 
 -- whatever the instruction is, it leads as static paths do
-pub leads_on : (m m' : MachineState) (insn : Insn) → StepsBy m insn m' → LeadsTo (standing_of m) insn (standing_of m')
+pub leads_on : (m m' : MachineState) (insn : Insn) → StepsBy m insn m' → StepLeadsTo (standing_of m) insn (standing_of m')
 leads_on m m' (Call (Local distance)) step = (enters m m' distance step).leads
 leads_on m m' Exit step = (leaves m m' step).leads
 leads_on m m' (Call (Helper number)) step = (onward m m' (Call (Helper number)) refl step).leads

@@ -59,7 +59,7 @@ checked_among limits program checks more calls among m is = record {
   unstuck = is.unstuck;
   inner = is.inner;
   opened = is.opened;
-  checked = among (record { slot = m.place; returns = returns_of is.inner }) is.checked;
+  checked = among (record { slot = m.pc; returns = returns_of is.inner }) is.checked;
 }
 
 lands_on : (limits : HelperLimits) (program : List Slot) (callers : List SavedRegisters) (calls : List OpenCall) (start : ℕ) (before after : Table) (left wider : Option Description) (checks more : List Standing) (m : MachineState) → Grows before after → Widens left wider → Lands limits program callers calls start before left checks m → Lands limits program callers calls start after wider (checks ++ more) m

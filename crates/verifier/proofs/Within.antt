@@ -24,8 +24,8 @@ not_stuck limits m (Some insn) e = (insn, refl)
 not_stuck limits m None e = absurd (let bad : true ≡ false = e in cc)
 
 -- a machine that is reached stands at an instruction
-stands_at : (limits : HelperLimits) (program : List Slot) → Safe program limits → (n : ℕ) (m : MachineState) → Reached program n m → (insn : Insn) × (insn_at program m.place ≡ Some insn)
-stands_at limits program safe n m reached = not_stuck limits m (insn_at program m.place) (safe n m reached)
+stands_at : (limits : HelperLimits) (program : List Slot) → Safe program limits → (n : ℕ) (m : MachineState) → Reached program n m → (insn : Insn) × (insn_at program m.pc ≡ Some insn)
+stands_at limits program safe n m reached = not_stuck limits m (insn_at program m.pc) (safe n m reached)
 
 -- the instructions behind a run are the first of a static path
 path_through : (limits : HelperLimits) (program : List Slot) → Safe program limits → (n : ℕ) (m : MachineState) → Reached program n m → (k : ℕ) → StaticPath program (standing_of m) k → StaticPath program (outermost 0) (n + k)
@@ -41,18 +41,18 @@ path_through limits program safe (suc n) m (before, reached, step) k path =
     subst (StaticPath program (outermost 0)) same all
 
 same_begun : (program : List Slot) (m m' : MachineState) → m'.open_calls ≡ m.open_calls → AreBegun program (returns_of m) → AreBegun program (returns_of m')
-same_begun program m m' calls begun = subst (λ (l : List OpenCall). AreBegun program (map (λ (call : OpenCall). call.return_place) l)) (sym calls) begun
+same_begun program m m' calls begun = subst (λ (l : List OpenCall). AreBegun program (map (λ (call : OpenCall). call.return_pc) l)) (sym calls) begun
 
 -- an instruction begins behind each call that is open
-begun_on : (program : List Slot) (m m' : MachineState) (insn : Insn) → IsProgram program → IsLawful program → insn_at program m.place ≡ Some insn → StepsBy m insn m' → AreBegun program (returns_of m) → AreBegun program (returns_of m')
+begun_on : (program : List Slot) (m m' : MachineState) (insn : Insn) → IsProgram program → IsLawful program → insn_at program m.pc ≡ Some insn → StepsBy m insn m' → AreBegun program (returns_of m) → AreBegun program (returns_of m')
 begun_on program m m' (Call (Local distance)) is lawful at step begun =
     let in_callee = enters m m' distance step in
-    subst (λ (l : List OpenCall). AreBegun program (map (λ (call : OpenCall). call.return_place) l)) (sym in_callee.calls)
-    (rw in_callee.behind_call (goes_on_lawfully program m.place (Call (Local distance)) is lawful at refl), begun)
+    subst (λ (l : List OpenCall). AreBegun program (map (λ (call : OpenCall). call.return_pc) l)) (sym in_callee.calls)
+    (rw in_callee.behind_call (goes_on_lawfully program m.pc (Call (Local distance)) is lawful at refl), begun)
 begun_on program m m' Exit is lawful at step begun =
     let back = leaves m m' step in
-    subst (λ (l : List OpenCall). AreBegun program (map (λ (call : OpenCall). call.return_place) l)) (sym back.calls)
-    (subst (λ (l : List OpenCall). AreBegun program (map (λ (call : OpenCall). call.return_place) l)) back.before begun).1
+    subst (λ (l : List OpenCall). AreBegun program (map (λ (call : OpenCall). call.return_pc) l)) (sym back.calls)
+    (subst (λ (l : List OpenCall). AreBegun program (map (λ (call : OpenCall). call.return_pc) l)) back.before begun).1
 begun_on program m m' (Call (Helper number)) is lawful at step begun = same_begun program m m' (onward m m' (Call (Helper number)) refl step).calls begun
 begun_on program m m' (Alu width op dst src) is lawful at step begun = same_begun program m m' (onward m m' (Alu width op dst src) refl step).calls begun
 begun_on program m m' (InPlace op dst) is lawful at step begun = same_begun program m m' (onward m m' (InPlace op dst) refl step).calls begun
@@ -72,7 +72,7 @@ begun_there limits program is lawful safe (suc n) m (before, reached, step) =
 pub safe_within : (limits : HelperLimits) (program : List Slot) (budget : ℕ) → IsProgram program → IsLawful program → Safe program limits → ((n : ℕ) → StaticPath program (outermost 0) n → n ≤ budget) → Within program budget
 safe_within limits program budget is lawful safe longest n m reached =
     let insn = stands_at limits program safe n m reached in
-    let out = way_out program m.place (returns_of m) is lawful.frames.calls (there_begins program m.place insn.0 insn.1) (begun_there limits program is lawful safe n m reached) in
+    let out = way_out program m.pc (returns_of m) is lawful.frames.calls (there_begins program m.pc insn.0 insn.1) (begun_there limits program is lawful safe n m reached) in
     let all : n + out.long ≤ budget = longest (n + out.long) (path_through limits program safe n m reached out.long out.path.0) in
     let some : 1 ≤ out.long = at_least_one program (standing_of m) out.long out.path.0 in
     (omega (arith, all), λ at_exit. omega (arith, all, some))

@@ -9,11 +9,11 @@ use Rattle.call_shape.specs.StaticPath.{Standing, outermost, PathLeads}
 
 -- where open calls go on, the innermost first
 abbrev pub returns_of : List OpenCall → List ℕ
-returns_of calls = map (λ call. call.return_place) calls
+returns_of calls = map (λ call. call.return_pc) calls
 
 -- where a machine stands: at a slot, under the chain of calls that are open
 abbrev pub standing_of : MachineState → Standing
-standing_of m = record { slot = m.place; returns = returns_of m.open_calls }
+standing_of m = record { slot = m.pc; returns = returns_of m.open_calls }
 
 -- none of them twice
 abbrev pub AreOnce : List Standing → Type 0

@@ -46,7 +46,7 @@ pub record IsOwn (program : List Slot) (callers : List SavedRegisters) (start pl
 -- the table describes the machine where it stands
 pub record Stands (callers : List SavedRegisters) (calls : List OpenCall) (start : ℕ) (table : Table) (m : MachineState) : Type 0 where
   pub at : ℕ
-  pub place : m.place ≡ start + at
+  pub place : m.pc ≡ start + at
   pub known : IsKnown callers table at m
   pub calls_are : m.open_calls ≡ calls
 
@@ -60,7 +60,7 @@ Lands limits program callers calls start table left checks m =
 -- A place that is done with: no machine that is known there is stuck, and what its instruction makes of one lands well.
 pub record IsDone (limits : HelperLimits) (program : List Slot) (callers : List SavedRegisters) (start : ℕ) (table : Table) (left : Option Description) (checks : List Standing) (at : ℕ) (insn : Insn) : Type 0 where
   pub unstuck : (m : MachineState) → IsKnown callers table at m → insn_is_stuck limits m insn ≡ false
-  pub follows : (m m' : MachineState) → m.place ≡ start + at → IsKnown callers table at m → StepsBy m insn m' → Lands limits program callers m.open_calls start table left checks m'
+  pub follows : (m m' : MachineState) → m.pc ≡ start + at → IsKnown callers table at m → StepsBy m insn m' → Lands limits program callers m.open_calls start table left checks m'
 
 -- The places before this one are done with, by these checks.
 pub record AreDone (limits : HelperLimits) (program : List Slot) (callers : List SavedRegisters) (start : ℕ) (table : Table) (left : Option Description) (checks : List Standing) (at : ℕ) : Type 0 where
@@ -86,7 +86,7 @@ pub record HasChecked (limits : HelperLimits) (callers : List SavedRegisters) (s
   pub grows : Grows before after
   pub frames : (frames : ℕ) → length d.stack ≡ frames → AllHave frames before → AllHave frames after
   pub unstuck : NeverStuck limits callers insn d
-  pub follows : (m m' : MachineState) → m.place ≡ start + at → Describes callers d m → StepsBy m insn m' → Stands callers m.open_calls start after m'
+  pub follows : (m m' : MachineState) → m.pc ≡ start + at → Describes callers d m → StepsBy m insn m' → Stands callers m.open_calls start after m'
 
 -- The places before this one were visited, from what is known at the function's start. What was known at them is kept no more;
 -- what is known at the others is in the table.

@@ -30,7 +30,7 @@ pub record IsChecked (limits : HelperLimits) (program : List Slot) (checks : Lis
   pub unstuck : is_stuck program limits m ≡ false
   pub inner : List OpenCall
   pub opened : m.open_calls ≡ inner ++ calls
-  pub checked : Contains checks (record { slot = m.place; returns = returns_of inner })
+  pub checked : Contains checks (record { slot = m.pc; returns = returns_of inner })
 
 -- Back in the caller, of which that is known, where these calls were open.
 pub record IsLeft (callers : List SavedRegisters) (left : Option Description) (calls : List OpenCall) (m : MachineState) : Type 0 where
@@ -42,14 +42,14 @@ pub record IsLeft (callers : List SavedRegisters) (left : Option Description) (c
   pub callers_were : callers ≡ outer ++ saved ∷ []
   pub description : Description
   pub known : left ≡ Some description
-  pub place : m.place ≡ call.return_place
+  pub place : m.pc ≡ call.return_pc
   pub calls_are : m.open_calls ≡ rest
   pub holds : Describes outer description m
 
 -- from where a function starts that is entered where that is known, with these checks
 abbrev pub FunctionIsSound : HelperLimits → List Slot → List SavedRegisters → Description → ℕ → Option Description → List Standing → Type 0
 FunctionIsSound limits program callers entry start left checks =
-    (m : MachineState) → m.place ≡ start → Describes callers entry m → (n : ℕ) →
+    (m : MachineState) → m.pc ≡ start → Describes callers entry m → (n : ℕ) →
     StaysWell program (IsChecked limits program checks m.open_calls) (IsLeft callers left m.open_calls) n m
 
 -- The checks of a visit of a function, none twice and each where a static path leads from its start, with which it is sound:
@@ -65,7 +65,7 @@ pub record IsVisited (limits : HelperLimits) (program : List Slot) (callers : Li
 pub record IsBack (callers : List SavedRegisters) (left : Option Description) (place : ℕ) (calls : List OpenCall) (m : MachineState) : Type 0 where
   pub description : Description
   pub known : left ≡ Some description
-  pub behind_call : m.place ≡ place
+  pub behind_call : m.pc ≡ place
   pub calls_are : m.open_calls ≡ calls
   pub holds : Describes callers description m
 
@@ -77,5 +77,5 @@ pub record IsCallVisited (limits : HelperLimits) (program : List Slot) (callers 
   pub once : AreOnce checks
   pub on_paths : (check : Standing) → Contains checks check → IsOnPath program (outermost place) check
   pub inside : (check : Standing) → Contains checks check → (inner : List ℕ) × (check.returns ≡ inner ++ (place + 1) ∷ [])
-  pub sound : (distance : ℤ) (m m' : MachineState) → Describes callers d m → m.place ≡ place → target place distance ≡ callee → StepsBy m (Call (Local distance)) m' → (n : ℕ) →
+  pub sound : (distance : ℤ) (m m' : MachineState) → Describes callers d m → m.pc ≡ place → target place distance ≡ callee → StepsBy m (Call (Local distance)) m' → (n : ℕ) →
       StaysWell program (IsChecked limits program checks m.open_calls) (IsBack callers left (place + 1) m.open_calls) n m'

@@ -20,7 +20,7 @@ use Rattle.bpf_insn.specs.Program.{insn_at, layout}
 use Rattle.bpf_insn.specs.Target.{target}
 use Rattle.bpf_semantics.specs.Memory.{address_at, load_width, store_width}
 use Rattle.bpf_words.specs.Words.{reads_dst}
-use Rattle.call_shape.specs.StaticPath.{outermost, LeadsTo}
+use Rattle.call_shape.specs.StaticPath.{outermost, StepLeadsTo}
 
 -- jeq r2, 0, +2; mov64 r1, r2; call 2
 abbrev pub releases : List Insn
@@ -111,7 +111,7 @@ abbrev pub ComesUnwritten : (Insn → Bool) → List Slot → ℕ → ℕ → Ty
 ComesUnwritten writes program zero slot = slot ≡ 0
 ComesUnwritten writes program (suc n) slot =
     (from : ℕ) × (insn : Insn) × ComesUnwritten writes program n from × (insn_at program from ≡ Some insn)
-    × LeadsTo (outermost from) insn (outermost slot) × (writes insn ≡ false)
+    × StepLeadsTo (outermost from) insn (outermost slot) × (writes insn ≡ false)
 
 -- with 0 or 1 retries used up, and any result
 pub record IsPlain (program : List Slot) : Type 0 where

@@ -14,7 +14,7 @@ mod verification;
 mod ways;
 mod witness;
 
-pub use refusal::{Refusal, VerifyError};
 pub use check_register_kinds::Cause;
+pub use refusal::{Refusal, VerifyError};
 pub use verification::{verify, verify_before};
 pub use witness::{Nobody, Witness};

@@ -30,9 +30,9 @@ use crate::witness::{Along, Witness};
 use bpf_insn::Program;
 use call_shape::Shape;
 use check_description::SavedRegisters;
-use helpers::HelperLimits;
 use check_local_calls::enter;
 use check_private_insns::Way;
+use helpers::HelperLimits;
 use reg_domain::entry;
 use std::alloc::Global;
 

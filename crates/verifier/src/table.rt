@@ -20,10 +20,10 @@ use crate::witness::{Along, Witness};
 use base::OrMemory;
 use bpf_insn::Insn;
 use check_description::SavedRegisters;
-use helpers::HelperLimits;
 use check_private_insns::Way;
-use reg_domain::{follow, join};
 use check_register_kinds::Cause;
+use helpers::HelperLimits;
+use reg_domain::{follow, join};
 use std::alloc::AllocError;
 
 /// One check of an instruction.

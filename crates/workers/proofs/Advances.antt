@@ -4,11 +4,11 @@ use Rattle.std.proofs.lemmas.List.Elements.{All-nil, All-cons, All-append}
 use Rattle.world.specs.World.{Setup, World}
 use Rattle.engine_core.specs.RunState.{RunState, StoppedState, before_stop}
 use Rattle.engine_core.specs.declared.event.Event.TheVariants.{Advance}
-use Rattle.engine_core.specs.declared.reply.Back.{Back}
-use Rattle.engine_core.specs.declared.reply.Back.TheVariants as back
+use Rattle.engine_core.specs.declared.reply.Returned.{Returned}
+use Rattle.engine_core.specs.declared.reply.Returned.TheVariants as back
 use Rattle.engine_core.specs.declared.reply.Reply.{Reply}
-use Rattle.engine_core.specs.declared.reply.Given.{Given as WhatIsGiven}
-use Rattle.engine_core.specs.declared.reply.Given.TheVariants.{Goes}
+use Rattle.engine_core.specs.declared.reply.Success.{Success as WhatIsGiven}
+use Rattle.engine_core.specs.declared.reply.Success.TheVariants.{Goes}
 use Rattle.engine_core.specs.Replies.{IsGiven}
 use Rattle.monitor.specs.Telling.{CallerState}
 use Rattle.engine_lock.specs.Sharing.{Section}
@@ -19,9 +19,9 @@ use Rattle.workers.specs.Serving.{AreCarriedOut, Drives, Ends, GoUntil, HasLeft,
 use Rattle.workers.proofs.Made.{each_append, made_one}
 
 pub run_back : (r s : RunState) → back.Run r ≡ back.Run s → r ≡ s
-run_back r s same = ap (λ (b : Back). the_run b r) same
+run_back r s same = ap (λ (b : Returned). the_run b r) same
   where
-    the_run : Back → RunState → RunState
+    the_run : Returned → RunState → RunState
     the_run (back.Run run) other = run
     the_run (back.Token token) other = other
     the_run back.Nothing other = other
@@ -97,7 +97,7 @@ module _ (setup : Setup) where
     }
 
     -- it came back, where that advance was not carried out
-    pub comes_back : (why : Why) (reply : Reply) (came : Back) (left : RunState) → Section setup (Advance stopped) reply b c → ended_by (Advance stopped) reply ≡ [] → HasLeft why run.program.budget (so_far.drives.calls ++ record { event = Advance stopped; reply = reply } ∷ []) → came ≡ back.Run (before_stop stopped) → came ≡ back.Run left → Leaves setup run left why a c
+    pub comes_back : (why : Why) (reply : Reply) (came : Returned) (left : RunState) → Section setup (Advance stopped) reply b c → ended_by (Advance stopped) reply ≡ [] → HasLeft why run.program.budget (so_far.drives.calls ++ record { event = Advance stopped; reply = reply } ∷ []) → came ≡ back.Run (before_stop stopped) → came ≡ back.Run left → Leaves setup run left why a c
     comes_back why reply came left section is has_left owned back_is =
         let same = run_back left (before_stop stopped) (sym back_is ∙ owned) in record {
           number = ap (λ (it : RunState). it.number) same ∙ so_far.number;

@@ -6,9 +6,9 @@ use Rattle.inbox.specs.Views.{InboxView, PassView, IsOf}
 use Rattle.world.specs.World.{Setup}
 use Rattle.engine_core.specs.RunState.{RunState}
 use Rattle.engine_core.specs.declared.event.Event.TheVariants.{Park}
-use Rattle.engine_core.specs.declared.reply.Back.TheVariants.{Run}
-use Rattle.engine_core.specs.declared.reply.Given.TheVariants.{Parked}
-use Rattle.engine_core.specs.declared.reply.Reply.TheVariants.{Given, Unfit}
+use Rattle.engine_core.specs.declared.reply.Returned.TheVariants.{Run}
+use Rattle.engine_core.specs.declared.reply.Success.TheVariants.{Parked}
+use Rattle.engine_core.specs.declared.reply.Reply.TheVariants.{Success, NotAdmitted}
 use Rattle.monitor.specs.Telling.{CallerState}
 use Rattle.engine_lock.specs.Sharing.{Section}
 use Rattle.workers.specs.Serving.{SeatState}
@@ -41,12 +41,12 @@ module _ (setup : Setup) where
   }
 
   -- one more was tried
-  parks_more : (a b c : CallerState) (done left : List RunState) (run : RunState) → AreSettled setup a done left b → Section setup (Park run) (Given Parked) b c → AreSettled setup a (done ++ run ∷ []) left c
+  parks_more : (a b c : CallerState) (done left : List RunState) (run : RunState) → AreSettled setup a done left b → Section setup (Park run) (Success Parked) b c → AreSettled setup a (done ++ run ∷ []) left c
   parks_more a b c done left run (nothing caller) is = parks caller c c run [] [] is (nothing c)
   parks_more a b c done left run (parks before between after first runs rest was more) is = parks before between c first (runs ++ run ∷ []) rest was (parks_more between after c runs rest run more is)
   parks_more a b c done left run (leaves before between after first runs rest was more) is = leaves before between c first (runs ++ run ∷ []) rest was (parks_more between after c runs rest run more is)
 
-  leaves_more : (a b c : CallerState) (done left : List RunState) (run : RunState) → AreSettled setup a done left b → Section setup (Park run) (Unfit (Run run)) b c → AreSettled setup a (done ++ run ∷ []) (left ++ run ∷ []) c
+  leaves_more : (a b c : CallerState) (done left : List RunState) (run : RunState) → AreSettled setup a done left b → Section setup (Park run) (NotAdmitted (Run run)) b c → AreSettled setup a (done ++ run ∷ []) (left ++ run ∷ []) c
   leaves_more a b c done left run (nothing caller) is = leaves caller c c run [] [] is (nothing c)
   leaves_more a b c done left run (parks before between after first runs rest was more) is = parks before between c first (runs ++ run ∷ []) (rest ++ run ∷ []) was (leaves_more between after c runs rest run more is)
   leaves_more a b c done left run (leaves before between after first runs rest was more) is = leaves before between c first (runs ++ run ∷ []) (rest ++ run ∷ []) was (leaves_more between after c runs rest run more is)
@@ -71,7 +71,7 @@ module _ (setup : Setup) where
       now_then : drop 1 now ≡ drop 1 t.ahead ++ t.left
       now_then = ap (drop 1) (t.now_is ∙ ap (λ (xs : List RunState). xs ++ t.left) there)
 
-      pub turns_parked : (next : List RunState) → next ≡ drop 1 now → Section setup (Park run) (Given Parked) after next_caller → Turn before next_caller all next (turn + 1)
+      pub turns_parked : (next : List RunState) → next ≡ drop 1 now → Section setup (Park run) (Success Parked) after next_caller → Turn before next_caller all next (turn + 1)
       turns_parked next next_is parked = record {
         done = t.done ++ run ∷ [];
         ahead = drop 1 t.ahead;
@@ -82,7 +82,7 @@ module _ (setup : Setup) where
         settled = parks_more before after next_caller t.done t.left run t.settled parked;
       }
 
-      pub turns_left : (next : List RunState) → next ≡ drop 1 now ++ run ∷ [] → Section setup (Park run) (Unfit (Run run)) after next_caller → Turn before next_caller all next (turn + 1)
+      pub turns_left : (next : List RunState) → next ≡ drop 1 now ++ run ∷ [] → Section setup (Park run) (NotAdmitted (Run run)) after next_caller → Turn before next_caller all next (turn + 1)
       turns_left next next_is left = record {
         done = t.done ++ run ∷ [];
         ahead = drop 1 t.ahead;

@@ -6,14 +6,14 @@ use Rattle.world_calls.specs.declared.record.Record.{Record}
 use Rattle.ccb.specs.Completion.{Outcome}
 use Rattle.world.specs.World.{Setup}
 use Rattle.engine_core.specs.declared.event.Event.{Event}
-use Rattle.engine_core.specs.declared.event.Event.TheVariants.{Submit, Dispatch, Complete, Advance, Clock, GuestFreeze, GuestRelease, Park, Resume}
+use Rattle.engine_core.specs.declared.event.Event.TheVariants.{Complete, Advance}
 use Rattle.engine_core.specs.declared.reply.Reply.{Reply}
-use Rattle.engine_core.specs.declared.reply.Reply.TheVariants.{Given, Refused, Unfit, OutOfMemory}
+use Rattle.engine_core.specs.declared.reply.Reply.TheVariants.{Success, Refused, NotAdmitted, OutOfMemory}
 use Rattle.monitor.specs.declared.knowledge.Pair.{Pair}
 use Rattle.monitor.specs.Telling.{CallerState, Joins}
 use Rattle.engine_lock.specs.Sharing.{Tells}
 use Rattle.workers.specs.Calls.{AreMade, CallMade, made_none, made_more}
-use Rattle.workers.specs.Recorded.{AreRecorded, IsRecorded, completion_in, completions_of}
+use Rattle.workers.specs.Recorded.{AreRecorded, IsSeatRecorded, completion_in, completions_of}
 use Rattle.workers.specs.Serving.{AreServed, HasDone, SeatState, ServedState, Serves, WorkerState, all_of, asked, asked_by, at_rest, completions_in, is_answered, nothing_served, unanswered, unless, with_worker}
 use Rattle.workers.proofs.Turns.{seat_of, seats_back}
 
@@ -48,21 +48,15 @@ module _ (setup : Setup) where
   }
 
   of_call : (history : List Pair) (before after : CallerState) (event : Event) (reply : Reply) → Tells setup history event reply before after → Serves event → unless (is_answered reply) (asked_by event) ≡ [] → Since before after (asked_by event)
-  of_call history before after (Complete completion) (Given given) tells serves none = by_record history before after _ tells
+  of_call history before after (Complete completion) (Success given) tells serves none = by_record history before after _ tells
   of_call history before after (Complete completion) (Refused refusal) tells serves none = by_record history before after _ tells
-  of_call history before after (Complete completion) (Unfit back) tells serves none = absurd (omega (arith, ap length none))
+  of_call history before after (Complete completion) (NotAdmitted back) tells serves none = absurd (omega (arith, ap length none))
   of_call history before after (Complete completion) (OutOfMemory back) tells serves none = absurd (omega (arith, ap length none))
-  of_call history before after (Advance run) (Given given) tells serves none = by_record history before after _ tells
+  of_call history before after (Advance run) (Success given) tells serves none = by_record history before after _ tells
   of_call history before after (Advance run) (Refused refusal) tells serves none = by_none before after (ap (λ (c : CallerState). c.number) tells) (ap (λ (c : CallerState). c.mine) tells)
-  of_call history before after (Advance run) (Unfit back) tells serves none = by_none before after (ap (λ (c : CallerState). c.number) tells.after_is) (ap (λ (c : CallerState). c.mine) tells.after_is)
+  of_call history before after (Advance run) (NotAdmitted back) tells serves none = by_none before after (ap (λ (c : CallerState). c.number) tells.after_is) (ap (λ (c : CallerState). c.mine) tells.after_is)
   of_call history before after (Advance run) (OutOfMemory back) tells serves none = by_none before after (ap (λ (c : CallerState). c.number) tells) (ap (λ (c : CallerState). c.mine) tells)
-  of_call history before after (Submit queue priority retries) reply tells serves none = absurd serves
-  of_call history before after (Dispatch queue) reply tells serves none = absurd serves
-  of_call history before after (Clock reading) reply tells serves none = absurd serves
-  of_call history before after (GuestFreeze place guest) reply tells serves none = absurd serves
-  of_call history before after (GuestRelease token) reply tells serves none = absurd serves
-  of_call history before after (Park run) reply tells serves none = absurd serves
-  of_call history before after (Resume run) reply tells serves none = absurd serves
+  of_call history before after event reply tells serves none = absurd serves
 
   of_calls : (a c : CallerState) (calls : List CallMade) → AreMade setup a calls c → All (λ (call : CallMade). Serves call.event) calls → unanswered calls ≡ [] → Since a c (asked calls)
   of_calls a c [] (made_none caller) serves none = by_none caller caller refl refl
@@ -78,7 +72,7 @@ module _ (setup : Setup) where
       }
 
   -- a worker that keeps no completion
-  of_worker : (seat : SeatState) (worker : WorkerState) → HasDone setup (at_rest seat) worker → completions_in worker.kept ≡ [] → IsRecorded seat (seat_of worker)
+  of_worker : (seat : SeatState) (worker : WorkerState) → HasDone setup (at_rest seat) worker → completions_in worker.kept ≡ [] → IsSeatRecorded seat (seat_of worker)
   of_worker seat worker did none =
       let since = of_calls seat.caller worker.caller did.calls did.made did.serves (sym did.keeps ∙ none) in record {
         taken = did.taken;

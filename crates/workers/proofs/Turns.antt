@@ -12,11 +12,11 @@ use Rattle.world.specs.World.{Setup}
 use Rattle.engine_core.specs.RunState.{RunState}
 use Rattle.std.specs.Borrow.{Bor}
 use Rattle.engine_core.specs.declared.event.Event.{Event}
-use Rattle.engine_core.specs.declared.event.Event.TheVariants.{Submit, Dispatch, Complete, Advance, Clock, GuestFreeze, GuestRelease, Park, Resume}
-use Rattle.engine_core.specs.declared.reply.Given.{Given}
-use Rattle.engine_core.specs.declared.reply.Given.TheVariants.{Ccb, Done, Started, Goes, Ended, Freeze, Left, Removed, Parked, Resumed}
+use Rattle.engine_core.specs.declared.event.Event.TheVariants.{Complete, Advance}
+use Rattle.engine_core.specs.declared.reply.Success.{Success}
+use Rattle.engine_core.specs.declared.reply.Success.TheVariants.{Started}
 use Rattle.engine_core.specs.declared.reply.Reply.{Reply}
-use Rattle.engine_core.specs.declared.reply.Reply.TheVariants.{Given as Gives, Refused, Unfit, OutOfMemory}
+use Rattle.engine_core.specs.declared.reply.Reply.TheVariants.{Success as Gives, Refused, NotAdmitted, OutOfMemory}
 use Rattle.monitor.specs.Telling.{CallerState}
 use Rattle.engine_lock.specs.Sharing.{Section, is_unfit}
 use Rattle.workers.specs.Calls.{CallMade, made_none, made_more}
@@ -66,15 +66,8 @@ unless_none true = refl
 unless_none false = refl
 
 of_advance : (number : ℕ) (event : Event) (reply : Reply) → IsAdvanceOf number event → OfAdvance event reply
-of_advance number (Submit queue priority retries) reply is = absurd is
-of_advance number (Dispatch queue) reply is = absurd is
-of_advance number (Complete completion) reply is = absurd is
 of_advance number (Advance run) reply is = record { serves = tt; asks = refl; answered = unless_none (is_answered reply); starts = refl }
-of_advance number (Clock reading) reply is = absurd is
-of_advance number (GuestFreeze place guest) reply is = absurd is
-of_advance number (GuestRelease token) reply is = absurd is
-of_advance number (Park run) reply is = absurd is
-of_advance number (Resume run) reply is = absurd is
+of_advance number event reply is = absurd is
 
 pub quiet : (number : ℕ) (calls : List CallMade) → All (λ (call : CallMade). IsAdvanceOf number call.event) calls → IsQuiet calls
 quiet number [] all = record { serves = All-nil (λ (call : CallMade). Serves call.event); asks = refl; answered = refl; starts = refl }
@@ -100,13 +93,13 @@ lacks_append (x ∷ xs) ys = lacks_or (is_memory x.reply) (lacks_memory (xs ++ y
 given_none : (reply : Reply) → is_given reply ≡ true → is_memory reply ≡ false
 given_none (Gives given) is = refl
 given_none (Refused refusal) is = refl
-given_none (Unfit back) is = refl
+given_none (NotAdmitted back) is = refl
 given_none (OutOfMemory back) is = absurd (let bad : false ≡ true = is in cc)
 
 unfit_none : (reply : Reply) → is_unfit reply ≡ true → is_memory reply ≡ false
 unfit_none (Gives given) is = refl
 unfit_none (Refused refusal) is = refl
-unfit_none (Unfit back) is = refl
+unfit_none (NotAdmitted back) is = refl
 unfit_none (OutOfMemory back) is = absurd (let bad : false ≡ true = is in cc)
 
 pub went_none : (calls : List CallMade) → AreCarriedOut calls → lacks_memory calls ≡ false
@@ -132,7 +125,7 @@ or_false false = refl
 answered_none : (reply : Reply) → is_answered reply ≡ true → is_memory reply ≡ false
 answered_none (Gives given) is = refl
 answered_none (Refused refusal) is = refl
-answered_none (Unfit back) is = refl
+answered_none (NotAdmitted back) is = refl
 answered_none (OutOfMemory back) is = absurd (let bad : false ≡ true = is in cc)
 
 -- the numbers of what is kept
@@ -140,20 +133,12 @@ abbrev numbers : Kept → List ℕ
 numbers kept = map (λ (run : RunState). run.number) (runs_in kept)
 
 -- what else may be given starts no run
-pub none_started : (given : Given) → StartsNone given → (completion : Bor Outcome) → started_by (Complete completion) (Gives given) ≡ []
-none_started (Ccb ccb) none completion = refl
-none_started Done none completion = refl
+pub none_started : (given : Success) → StartsNone given → (completion : Bor Outcome) → started_by (Complete completion) (Gives given) ≡ []
 none_started (Started run freeze) none completion = absurd none
-none_started (Goes run r0) none completion = refl
-none_started (Ended r0) none completion = refl
-none_started (Freeze token) none completion = refl
-none_started (Left count) none completion = refl
-none_started (Removed count) none completion = refl
-none_started Parked none completion = refl
-none_started (Resumed run) none completion = refl
+none_started given none completion = refl
 
-pub one_started : (given : Given) (run : RunState) → (freeze : ℕ) × (given ≡ Started run freeze) → (completion : Bor Outcome) → started_by (Complete completion) (Gives given) ≡ run.number ∷ []
-one_started given run is completion = ap (λ (it : Given). started_by (Complete completion) (Gives it)) is.1
+pub one_started : (given : Success) (run : RunState) → (freeze : ℕ) × (given ≡ Started run freeze) → (completion : Bor Outcome) → started_by (Complete completion) (Gives given) ≡ run.number ∷ []
+one_started given run is completion = ap (λ (it : Success). started_by (Complete completion) (Gives it)) is.1
 
 -- what keeps nothing, or a completion, keeps no run
 keeps_none : (kept : Kept) (run : RunState) → runs_in kept ≡ [] → kept ≡ Run run → ⊥

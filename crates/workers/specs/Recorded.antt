@@ -18,7 +18,7 @@ completions_of [] = []
 completions_of (made ∷ rest) = completion_in made ++ completions_of rest
 
 -- The same seat, whose pass took these since, and whose caller recorded just these completions since.
-pub record IsRecorded (before after : SeatState) : Type 0 where
+pub record IsSeatRecorded (before after : SeatState) : Type 0 where
   pub taken : List Outcome
   pub pass : Took before.pass after.pass taken
   pub number : after.caller.number ≡ before.caller.number
@@ -26,4 +26,4 @@ pub record IsRecorded (before after : SeatState) : Type 0 where
 
 -- each of the seats did
 abbrev pub AreRecorded : List SeatState → List SeatState → Type 0
-AreRecorded before after = AllZip IsRecorded before after
+AreRecorded before after = AllZip IsSeatRecorded before after

@@ -5,15 +5,15 @@ use Rattle.std.specs.List.{AllZip}
 use Rattle.ccb.specs.Completion.{Outcome}
 use Rattle.inbox.specs.InboxLists.{Held}
 use Rattle.inbox.specs.Views.{InboxView, PassView, IsOf}
-use Rattle.world_calls.specs.declared.call_refusal.CallRefusal.TheVariants.{Unknown, NotActive}
+use Rattle.ccb.specs.declared.call_refusal.CallRefusal.TheVariants.{Unknown, NotActive}
 use Rattle.world.specs.World.{Setup}
 use Rattle.engine_core.specs.RunState.{RunState}
 use Rattle.engine_core.specs.declared.event.Event.{Event}
 use Rattle.engine_core.specs.declared.event.Event.TheVariants.{Complete, Advance}
 use Rattle.engine_core.specs.declared.reply.Reply.{Reply}
-use Rattle.engine_core.specs.declared.reply.Reply.TheVariants.{Given, Refused, OutOfMemory}
-use Rattle.engine_core.specs.declared.reply.Given.{Given as WhatIsGiven}
-use Rattle.engine_core.specs.declared.reply.Given.TheVariants.{Started, Ended}
+use Rattle.engine_core.specs.declared.reply.Reply.TheVariants.{Success, Refused, OutOfMemory}
+use Rattle.engine_core.specs.declared.reply.Success.{Success as WhatIsGiven}
+use Rattle.engine_core.specs.declared.reply.Success.TheVariants.{Started, Ended}
 use Rattle.engine_lock.specs.Sharing.{is_unfit}
 use Rattle.monitor.specs.Telling.{CallerState}
 use Rattle.workers.specs.Calls.{AreMade, CallMade, each}
@@ -74,7 +74,7 @@ asked_by event = []
 
 -- it was carried out, or refused with C1 or C3: there is no such CCB, or it is not active
 abbrev pub is_answered : Reply → Bool
-is_answered (Given given) = true
+is_answered (Success given) = true
 is_answered (Refused Unknown) = true
 is_answered (Refused NotActive) = true
 is_answered reply = false
@@ -85,7 +85,7 @@ unless false completions = completions
 
 -- the number of the run that it started
 abbrev pub started_by : Event → Reply → List ℕ
-started_by (Complete completion) (Given (Started run freeze)) = run.number ∷ []
+started_by (Complete completion) (Success (Started run freeze)) = run.number ∷ []
 started_by event reply = []
 
 -- no run was started
@@ -95,12 +95,12 @@ StartsNone given = Unit {0}
 
 -- the number of the run that came to its exit
 abbrev pub ended_by : Event → Reply → List ℕ
-ended_by (Advance run) (Given (Ended r0)) = run.number ∷ []
+ended_by (Advance run) (Success (Ended r0)) = run.number ∷ []
 ended_by event reply = []
 
 -- it was carried out, or memory was refused
 abbrev pub is_given : Reply → Bool
-is_given (Given given) = true
+is_given (Success given) = true
 is_given reply = false
 
 abbrev pub is_memory : Reply → Bool

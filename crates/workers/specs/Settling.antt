@@ -4,9 +4,9 @@ use Rattle.ccb.specs.Completion.{Outcome}
 use Rattle.world.specs.World.{Setup}
 use Rattle.engine_core.specs.RunState.{RunState}
 use Rattle.engine_core.specs.declared.event.Event.TheVariants.{Park}
-use Rattle.engine_core.specs.declared.reply.Back.TheVariants.{Run}
-use Rattle.engine_core.specs.declared.reply.Given.TheVariants.{Parked}
-use Rattle.engine_core.specs.declared.reply.Reply.TheVariants.{Given, Unfit}
+use Rattle.engine_core.specs.declared.reply.Returned.TheVariants.{Run}
+use Rattle.engine_core.specs.declared.reply.Success.TheVariants.{Parked}
+use Rattle.engine_core.specs.declared.reply.Reply.TheVariants.{Success, NotAdmitted}
 use Rattle.monitor.specs.Telling.{CallerState}
 use Rattle.engine_lock.specs.Sharing.{Section}
 use Rattle.workers.specs.Serving.{SeatState, ServedState}
@@ -15,9 +15,9 @@ use Rattle.workers.specs.Serving.{SeatState, ServedState}
 pub data AreSettled (setup : Setup) : CallerState → List RunState → List RunState → CallerState → Type 0 where
   nothing : (caller : CallerState) → AreSettled setup caller [] [] caller
   parks : (before between after : CallerState) (run : RunState) (runs left : List RunState) →
-      Section setup (Park run) (Given Parked) before between → AreSettled setup between runs left after → AreSettled setup before (run ∷ runs) left after
+      Section setup (Park run) (Success Parked) before between → AreSettled setup between runs left after → AreSettled setup before (run ∷ runs) left after
   leaves : (before between after : CallerState) (run : RunState) (runs left : List RunState) →
-      Section setup (Park run) (Unfit (Run run)) before between → AreSettled setup between runs left after → AreSettled setup before (run ∷ runs) (run ∷ left) after
+      Section setup (Park run) (NotAdmitted (Run run)) before between → AreSettled setup between runs left after → AreSettled setup before (run ∷ runs) (run ∷ left) after
 
 -- the first seat's caller did so; where there is no seat, none was parked
 abbrev pub AreSettledBy : Setup → List SeatState → List RunState → List RunState → List SeatState → Type 0

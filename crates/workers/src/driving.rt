@@ -3,14 +3,14 @@
 
 ghost use Rattle.std.specs.Prelude.{◌≡◌, ℕ, true, false, IfErr, IfSome, IfNone, OnOk};
 ghost use Rattle.engine_core.specs.Replies.{IsRunBack};
-ghost use Rattle.engine_core.specs.declared.reply.Back.TheVariants as its;
-ghost use Rattle.engine_core.specs.declared.reply.Given.TheVariants.{Started};
+ghost use Rattle.engine_core.specs.declared.reply.Returned.TheVariants as its;
+ghost use Rattle.engine_core.specs.declared.reply.Success.TheVariants.{Started};
 ghost use Rattle.engine_core.specs.declared.reply.Reply.TheVariants.{Refused};
 ghost use Rattle.workers.specs.Serving.{Ends, HasServed, HasStopped, IsReady, Leaves, StartsNone, is_answered, is_for_memory};
 
 use crate::gate::Gate;
 use crate::worker::{Kept, Worker};
-use engine_core::{Back, CallRefusal, Event, Given, Reply, Run};
+use engine_core::{CallRefusal, Event, Reply, Returned, Run, Success};
 use engine_lock::{Caller, Object, Shared};
 use inbox::Inbox;
 use std::sync::Wait;
@@ -78,7 +78,7 @@ fn serve_next<B: Object, G: Gate, R: Wait>(
         completion: &completion,
     };
     match shared.call(rt, &mut worker.caller, event) {
-        Reply::Given(given) => {
+        Reply::Success(given) => {
             let Some(run) = started_by(given) else {
                 return true;
             };
@@ -106,7 +106,7 @@ fn serve_next<B: Object, G: Gate, R: Wait>(
             worker.keep(Kept::Completion(completion), true);
             false
         }
-        Reply::Unfit(back) => {
+        Reply::NotAdmitted(back) => {
             back.forfeit();
             unreachable!()
         }
@@ -128,12 +128,12 @@ fn is_for_memory(why: Why) -> bool
 }
 
 // The run that was started, if one was.
-fn started_by(given: Given) -> Option<Run>
+fn started_by(given: Success) -> Option<Run>
     ensures started { IfSome result (λ run. (freeze : ℕ) × (given ≡ Started run freeze)) }
     ensures none { IfNone result (StartsNone given) }
 {
     match given {
-        Given::Started(run, _) => Some(run),
+        Success::Started(run, _) => Some(run),
         other => {
             other.forfeit();
             None
@@ -159,9 +159,9 @@ pub fn drive<B: Object, G: Gate, R: Wait>(
     for turn in 0..budget {
         gate.before(rt, stopped.number(), turn + 1);
         match shared.call(rt, caller, Event::Advance { run: stopped }) {
-            Reply::Given(Given::Goes(run, _)) => stopped = run.to_stop(),
-            Reply::Given(Given::Ended(_)) => return Ok(()),
-            Reply::Unfit(back) => {
+            Reply::Success(Success::Goes(run, _)) => stopped = run.to_stop(),
+            Reply::Success(Success::Ended(_)) => return Ok(()),
+            Reply::NotAdmitted(back) => {
                 return Err(Undriven {
                     run: run_of(back),
                     why: Why::NotOut,
@@ -173,7 +173,7 @@ pub fn drive<B: Object, G: Gate, R: Wait>(
                     why: Why::OutOfMemory,
                 });
             }
-            Reply::Given(given) => {
+            Reply::Success(given) => {
                 given.forfeit();
                 unreachable!()
             }
@@ -187,12 +187,12 @@ pub fn drive<B: Object, G: Gate, R: Wait>(
 }
 
 /// The run that came back.
-pub(crate) fn run_of(back: Back) -> Run
+pub(crate) fn run_of(back: Returned) -> Run
     requires { IsRunBack back }
     ensures { back ≡ its.Run result }
 {
     match back {
-        Back::Run(run) => run,
+        Returned::Run(run) => run,
         other => {
             other.forfeit();
             unreachable!()

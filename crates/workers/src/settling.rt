@@ -4,8 +4,8 @@
 ghost use Rattle.std.specs.Prelude.{◌≡◌, All, length, IfOk, IfErr, IfSome, IfNone, MatchResult};
 ghost use Rattle.inbox.specs.Views.{InboxView, IsOf};
 ghost use Rattle.engine_core.specs.declared.event.Event.TheVariants.{Park};
-ghost use Rattle.engine_core.specs.declared.reply.Back.TheVariants as its;
-ghost use Rattle.engine_core.specs.declared.reply.Given.TheVariants.{Parked};
+ghost use Rattle.engine_core.specs.declared.reply.Returned.TheVariants as its;
+ghost use Rattle.engine_core.specs.declared.reply.Success.TheVariants.{Parked};
 ghost use Rattle.engine_core.specs.declared.reply.Reply.TheVariants as replied;
 ghost use Rattle.engine_lock.specs.Sharing.{Section};
 ghost use Rattle.workers.specs.Settling.{AreSettled, AreSettledBy, IsSettled, IsUnsettled};
@@ -14,7 +14,7 @@ use crate::driving::run_of;
 use crate::seat::Seat;
 use crate::serving::Served;
 use ccb::Completion;
-use engine_core::{Event, Given, Reply, Run};
+use engine_core::{Event, Reply, Run, Success};
 use engine_lock::{Caller, Object, Shared};
 use std::marker::Model;
 use std::sync::Wait;
@@ -123,14 +123,14 @@ fn park<B: Object, R: Wait>(
     caller: &mut Caller<B>,
     run: Run,
 ) -> Option<Run>
-    ensures parked { IfNone result (Section B.setup (Park run) (replied.Given Parked) caller.old caller.new) }
-    ensures back { IfSome result (λ back. (back ≡ run) × Section B.setup (Park run) (replied.Unfit (its.Run run)) caller.old caller.new) }
+    ensures parked { IfNone result (Section B.setup (Park run) (replied.Success Parked) caller.old caller.new) }
+    ensures back { IfSome result (λ back. (back ≡ run) × Section B.setup (Park run) (replied.NotAdmitted (its.Run run)) caller.old caller.new) }
 {
     let reply = shared.call(rt, caller, Event::Park { run });
     match reply {
-        Reply::Given(Given::Parked) => None,
-        Reply::Unfit(back) => Some(run_of(back)),
-        Reply::Given(given) => {
+        Reply::Success(Success::Parked) => None,
+        Reply::NotAdmitted(back) => Some(run_of(back)),
+        Reply::Success(given) => {
             given.forfeit();
             unreachable!()
         }

@@ -3,7 +3,7 @@ use Rattle.std.specs.Prelude.{ℕ, ◌==◌, Option, Some, None, if◌then◌els
 use Rattle.world_calls.specs.declared.call.Call.{Call}
 use Rattle.world_calls.specs.declared.call_answer.CallAnswer.{CallAnswer}
 use Rattle.world_calls.specs.declared.call_answer.CallAnswer.TheVariants as answers
-use Rattle.world_calls.specs.declared.call_refusal.CallRefusal.{CallRefusal}
+use Rattle.ccb.specs.declared.call_refusal.CallRefusal.{CallRefusal}
 use Rattle.world.specs.Told.{Told}
 
 -- what one instruction of a run is: private to the run, a call of a helper with what is told of it, or the outermost exit

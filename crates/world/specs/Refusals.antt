@@ -6,8 +6,8 @@ use Rattle.ccb.specs.declared.place.Place.TheVariants.{Controller, Device}
 use Rattle.freeze_ledger.specs.Freezes.{frozen, meets_limit}
 use Rattle.world_calls.specs.declared.call.Call.{Call}
 use Rattle.world_calls.specs.declared.call.Call.TheVariants.{Submit, Dispatch, Complete, GuestFreeze, GuestRelease, Clock, Park, Resume}
-use Rattle.world_calls.specs.declared.call_refusal.CallRefusal.{CallRefusal}
-use Rattle.world_calls.specs.declared.call_refusal.CallRefusal.TheVariants.{Unknown, Limit, NotActive, GoesBack, Frozen, NoOpening, NothingWaits, ControllerFrozen}
+use Rattle.ccb.specs.declared.call_refusal.CallRefusal.{CallRefusal}
+use Rattle.ccb.specs.declared.call_refusal.CallRefusal.TheVariants.{Unknown, Limit, NotActive, GoesBack, Frozen, NoOpening, NothingWaits, ControllerFrozen}
 use Rattle.world.specs.Capacities.{last_reading}
 use Rattle.world.specs.World.{Setup, queue_count, queue_setup, LiveCcb, LiveRun, World}
 use Rattle.world.specs.Lookups.{is_active, active_count, ccb_of, next_waiting, run_of}

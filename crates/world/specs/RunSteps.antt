@@ -10,8 +10,8 @@ use Rattle.ccb.specs.declared.place.Place.TheVariants.{Controller}
 use Rattle.ccb.specs.Places.{device}
 use Rattle.freeze_ledger.specs.Freezes.{entry_of, frozen, meets_limit}
 use Rattle.helpers.specs.declared.limits.HelperLimits.{HelperLimits}
-use Rattle.helpers.specs.declared.table.Deed.{Deed}
-use Rattle.helpers.specs.declared.table.Deed.TheVariants as deeds
+use Rattle.helpers.specs.declared.table.HelperEffect.{HelperEffect}
+use Rattle.helpers.specs.declared.table.HelperEffect.TheVariants as effects
 use Rattle.helpers.specs.declared.request.Request.{Request}
 use Rattle.helpers.specs.declared.request.Answer.{Answer}
 use Rattle.helpers.specs.Table.{row_of, answer_number}
@@ -123,24 +123,24 @@ info_answer world run address =
     record { r0 = 0; written = Some (record { address = address; bytes = info_bytes (queue_info world run.queue) }) }
 
 -- what a call does, by its deed
-abbrev pub by_deed : Deed → World → LiveRun → Request → Option (Reply × World)
-by_deed deeds.Nothing world run request = Some (answers world run request (answer_number 0))
-by_deed deeds.Freeze world run request = Some (takes world run request (device request.arguments.first))
-by_deed deeds.GiveBack world run request = releases world run request (entry_of request.arguments.first world.transport.freezes)
-by_deed deeds.HandOver world run request = hands_over world run request (entry_of request.arguments.first world.transport.freezes)
-by_deed deeds.Requeue world run request = requeues world run request (ccb_of run.ccb world.transport.live)
-by_deed deeds.Finish world run request = finishes world run request (ccb_of run.ccb world.transport.live)
-by_deed deeds.GetWord world run request = Some (gets world run request)
-by_deed deeds.PutWord world run request = Some (puts world run request)
-by_deed deeds.AddWord world run request = Some (adds world run request)
-by_deed deeds.TellQueue world run request = Some (answers world run request (info_answer world run request.arguments.first))
-by_deed deeds.TellClock world run request = Some (answers world run request (answer_number world.transport.clock))
-by_deed deeds.SetOpenings world run request = Some (opens world run request)
-by_deed deeds.FreezeController world run request = Some (takes world run request (Controller run.controller))
-by_deed deeds.TellController world run request = Some (answers world run request (answer_number (frozen (Controller run.controller) world.transport.freezes)))
+abbrev pub by_effect : HelperEffect → World → LiveRun → Request → Option (Reply × World)
+by_effect effects.Nothing world run request = Some (answers world run request (answer_number 0))
+by_effect effects.Freeze world run request = Some (takes world run request (device request.arguments.first))
+by_effect effects.GiveBack world run request = releases world run request (entry_of request.arguments.first world.transport.freezes)
+by_effect effects.HandOver world run request = hands_over world run request (entry_of request.arguments.first world.transport.freezes)
+by_effect effects.Requeue world run request = requeues world run request (ccb_of run.ccb world.transport.live)
+by_effect effects.Finish world run request = finishes world run request (ccb_of run.ccb world.transport.live)
+by_effect effects.GetWord world run request = Some (gets world run request)
+by_effect effects.PutWord world run request = Some (puts world run request)
+by_effect effects.AddWord world run request = Some (adds world run request)
+by_effect effects.TellQueue world run request = Some (answers world run request (info_answer world run request.arguments.first))
+by_effect effects.TellClock world run request = Some (answers world run request (answer_number world.transport.clock))
+by_effect effects.SetOpenings world run request = Some (opens world run request)
+by_effect effects.FreezeController world run request = Some (takes world run request (Controller run.controller))
+by_effect effects.TellController world run request = Some (answers world run request (answer_number (frozen (Controller run.controller) world.transport.freezes)))
 
 abbrev pub step_request : World → LiveRun → Request → Option (Reply × World)
-step_request world run request = by_deed (row_of request.helper).deed world run request
+step_request world run request = by_effect (row_of request.helper).effect world run request
 
 -- it is the very call that is told, by the helper's rule
 abbrev pub may_call : HelperLimits → LiveRun → Told → Request → Bool

@@ -2,8 +2,8 @@
 use Rattle.std.proofs.Common.{◌≡◌, ℕ, ◌++◌, [], ◌∷◌, Bool, true, false, cond, eqb, Option, Some, None, inl, inr, refl, ap, sym, subst, ◌∙◌}
 use Rattle.std.proofs.lemmas.Bool.{cases_Bool, eqb-true}
 use Rattle.ccb.specs.Ccb.{requeued}
-use Rattle.helpers.specs.declared.table.Deed.{Deed}
-use Rattle.helpers.specs.declared.table.Deed.TheVariants as deeds
+use Rattle.helpers.specs.declared.table.HelperEffect.{HelperEffect}
+use Rattle.helpers.specs.declared.table.HelperEffect.TheVariants as effects
 use Rattle.helpers.specs.declared.request.Request.{Request}
 use Rattle.helpers.specs.Table.{row_of}
 use Rattle.world.specs.declared.ccb_state.CcbState.TheVariants.{Waiting}
@@ -13,7 +13,7 @@ use Rattle.world.specs.Told.{Told, told_of}
 use Rattle.world.specs.Event.{Instruction, private, call, exit, Event, called, executes, Reply}
 use Rattle.world.specs.CcbSteps.{ended_with}
 use Rattle.world.specs.Step.{WorldStep}
-use Rattle.world.specs.Laws.Headline.{is_disposing, is_disposal, is_disposal_of, InRecoveryBy, IsRequeued, IsFinished, DisposesByDeed, DisposesBy, DisposesOfIt}
+use Rattle.world.specs.Laws.Headline.{is_disposing, is_disposal, is_disposal_of, InRecoveryBy, IsRequeued, IsFinished, DisposesByEffect, DisposesBy, DisposesOfIt}
 use Rattle.world.proofs.Lists.Found.{found_key, put_same, put_other, leave_same, leave_other}
 use Rattle.world_laws.proofs.Steps.Does.{CcbDeed, leaves_ccbs, requeues_one, ends_one}
 use Rattle.world_laws.proofs.Steps.Calls.{Asks, asks_of}
@@ -85,51 +85,51 @@ one_live number run_number run before its recovery found =
     let both : Some its ≡ Some recovery.live = sym found ∙ recovery.found in cc
 
 -- what a call's deed makes of the CCB
-by_its_deed : (deed : Deed) (told : Told) (request : Request) (ccb : ℕ) (was : LiveCcb) (before after : World) → (row_of request.helper).deed ≡ deed → DisposesByDeed deed request told ccb was before after → DisposesByDeed (row_of request.helper).deed request told ccb was before after
-by_its_deed deed told request ccb was before after is does = subst (λ (d : Deed). DisposesByDeed d request told ccb was before after) (sym is) does
+by_its_deed : (effect : HelperEffect) (told : Told) (request : Request) (ccb : ℕ) (was : LiveCcb) (before after : World) → (row_of request.helper).effect ≡ effect → DisposesByEffect effect request told ccb was before after → DisposesByEffect (row_of request.helper).effect request told ccb was before after
+by_its_deed effect told request ccb was before after is does = subst (λ (d : HelperEffect). DisposesByEffect d request told ccb was before after) (sym is) does
 
 -- A call by which a run disposes of its CCB.
 call_disposes : (setup : Setup) (before : World) (event : Event) (reply : Reply) (after : World) → Recovering before → (it : Asks setup before event reply after) → is_disposing (told_of it.request) ≡ true → CcbDeed before it.it.run it.request it.given it.between → DisposesOfIt it.it.number it.it.run.ccb before event after
-call_disposes setup before event reply after recovering it disposing (leaves_ccbs deed) = absurd (let bad : false ≡ true = sym deed.calm ∙ disposing in cc)
-call_disposes setup before event reply after recovering it disposing (requeues_one deed) =
+call_disposes setup before event reply after recovering it disposing (leaves_ccbs effect) = absurd (let bad : false ≡ true = sym effect.calm ∙ disposing in cc)
+call_disposes setup before event reply after recovering it disposing (requeues_one effect) =
     let number : ℕ = it.it.number in
     let used : ℕ = it.request.arguments.first in
     let ccb : ℕ = it.it.run.ccb in
-    let recovery = in_recovery_by number it.it.run before recovering it.it.found deed.its.fresh in
-    let same : deed.its.live ≡ recovery.live = one_live ccb number it.it.run before deed.its.live recovery deed.its.found in
+    let recovery = in_recovery_by number it.it.run before recovering it.it.found effect.its.fresh in
+    let same : effect.its.live ≡ recovery.live = one_live ccb number it.it.run before effect.its.live recovery effect.its.found in
     let live_is : after.transport.live ≡ with_ccb (again recovery.live used) before.transport.live =
-    ap (λ (x : Reply × World). x.1.transport.live) it.answer ∙ (deed.live_is ∙ ap (λ (c : LiveCcb). with_ccb (again c used) before.transport.live) same) in
+    ap (λ (x : Reply × World). x.1.transport.live) it.answer ∙ (effect.live_is ∙ ap (λ (c : LiveCcb). with_ccb (again c used) before.transport.live) same) in
     let instruction_is = its_instruction before event (call (told_of it.request)) it.it in
     record {
       recovery = recovery;
       disposes = subst (λ (o : Option Instruction). DisposesBy o number ccb recovery.live before after) (sym instruction_is) (record {
         request = it.request;
         calls = (it.it.run, it.it.found, it.call_is);
-        does = by_its_deed deeds.Requeue (told_of it.request) it.request ccb recovery.live before after deed.deed_is (
-          deed.told_is,
-          requeued_now ccb used recovery.live before after recovery.found live_is (ap (λ (x : Reply × World). x.1.ended) it.answer ∙ deed.ended_is),
+        does = by_its_deed effects.Requeue (told_of it.request) it.request ccb recovery.live before after effect.deed_is (
+          effect.told_is,
+          requeued_now ccb used recovery.live before after recovery.found live_is (ap (λ (x : Reply × World). x.1.ended) it.answer ∙ effect.ended_is),
         );
       });
       others = requeued_alone ccb used recovery.live before after recovery.found live_is;
     }
-call_disposes setup before event reply after recovering it disposing (ends_one deed) =
+call_disposes setup before event reply after recovering it disposing (ends_one effect) =
     let number : ℕ = it.it.number in
     let code : ℕ = it.request.arguments.first in
     let ccb : ℕ = it.it.run.ccb in
-    let recovery = in_recovery_by number it.it.run before recovering it.it.found deed.its.fresh in
-    let same : deed.its.live ≡ recovery.live = one_live ccb number it.it.run before deed.its.live recovery deed.its.found in
+    let recovery = in_recovery_by number it.it.run before recovering it.it.found effect.its.fresh in
+    let same : effect.its.live ≡ recovery.live = one_live ccb number it.it.run before effect.its.live recovery effect.its.found in
     let live_is : after.transport.live ≡ (ended_with before recovery.live.ccb code).transport.live =
-    ap (λ (x : Reply × World). x.1.transport.live) it.answer ∙ (deed.live_is ∙ ap (λ (c : LiveCcb). (ended_with before c.ccb code).transport.live) same) in
+    ap (λ (x : Reply × World). x.1.transport.live) it.answer ∙ (effect.live_is ∙ ap (λ (c : LiveCcb). (ended_with before c.ccb code).transport.live) same) in
     let ended_is : after.ended ≡ (ended_with before recovery.live.ccb code).ended =
-    ap (λ (x : Reply × World). x.1.ended) it.answer ∙ (deed.ended_is ∙ ap (λ (c : LiveCcb). (ended_with before c.ccb code).ended) same) in
+    ap (λ (x : Reply × World). x.1.ended) it.answer ∙ (effect.ended_is ∙ ap (λ (c : LiveCcb). (ended_with before c.ccb code).ended) same) in
     let instruction_is = its_instruction before event (call (told_of it.request)) it.it in
     record {
       recovery = recovery;
       disposes = subst (λ (o : Option Instruction). DisposesBy o number ccb recovery.live before after) (sym instruction_is) (record {
         request = it.request;
         calls = (it.it.run, it.it.found, it.call_is);
-        does = by_its_deed deeds.Finish (told_of it.request) it.request ccb recovery.live before after deed.deed_is (
-          deed.told_is,
+        does = by_its_deed effects.Finish (told_of it.request) it.request ccb recovery.live before after effect.deed_is (
+          effect.told_is,
           finished_now ccb code recovery.live before after recovery.found live_is ended_is,
         );
       });

@@ -19,8 +19,8 @@ use Rattle.bpf_semantics.specs.Step.{private_step, request_at, exit_at}
 use Rattle.world_calls.specs.declared.call.Call.{Call}
 use Rattle.world_calls.specs.declared.call.Call.TheVariants.{Submit, Dispatch, Complete, GuestFreeze, GuestRelease, Clock, Park, Resume}
 use Rattle.world_calls.specs.declared.call_answer.CallAnswer.TheVariants as answers
-use Rattle.world_calls.specs.declared.call_refusal.CallRefusal.{CallRefusal}
-use Rattle.world_calls.specs.declared.call_refusal.CallRefusal.TheVariants.{Unknown, Limit, NotActive}
+use Rattle.ccb.specs.declared.call_refusal.CallRefusal.{CallRefusal}
+use Rattle.ccb.specs.declared.call_refusal.CallRefusal.TheVariants.{Unknown, Limit, NotActive}
 use Rattle.world.specs.Capacities.{most_runs, last_number}
 use Rattle.world.specs.World.{Setup, LiveCcb, LiveRun, World}
 use Rattle.world.specs.Lookups.{ccb_of, next_waiting, run_of}

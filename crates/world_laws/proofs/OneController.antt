@@ -12,8 +12,8 @@ use Rattle.std.specs.Prelude.{is_none}
 use Rattle.freeze_ledger.specs.declared.freeze.Holder.TheVariants.{Run}
 use Rattle.freeze_ledger.specs.Freezes.{frozen, meets_limit}
 use Rattle.ccb.specs.declared.place.Place.TheVariants.{Controller, Device}
-use Rattle.helpers.specs.declared.columns.Asked.{Asked}
-use Rattle.helpers.specs.declared.columns.Asked.TheVariants.{Queue, HeldFreeze, Within, Table, Index, Word, Room, Bytes}
+use Rattle.helpers.specs.declared.columns.ArgKind.{ArgKind}
+use Rattle.helpers.specs.declared.columns.ArgKind.TheVariants.{Queue, HeldFreeze, Within, Table, Index, Word, Room, Bytes}
 use Rattle.helpers.specs.declared.limits.HelperLimits.{HelperLimits}
 use Rattle.helpers.specs.declared.limits.HelperSet.{HelperSet}
 use Rattle.helpers.specs.declared.limits.HelperSet.TheVariants.{Controllers, Queues}
@@ -28,7 +28,7 @@ use Rattle.table_store.specs.Tables.{zero_table}
 use Rattle.world_calls.specs.declared.call.Call.{Call}
 use Rattle.world_calls.specs.declared.call.Call.TheVariants as calls
 use Rattle.world_calls.specs.declared.call_answer.CallAnswer.TheVariants as answers
-use Rattle.world_calls.specs.declared.call_refusal.CallRefusal.TheVariants.{Unknown, Limit, Frozen, NoOpening, NothingWaits, ControllerFrozen}
+use Rattle.ccb.specs.declared.call_refusal.CallRefusal.TheVariants.{Unknown, Limit, Frozen, NoOpening, NothingWaits, ControllerFrozen}
 use Rattle.world.specs.declared.ccb_state.CcbState.TheVariants.{InRecovery}
 use Rattle.world.specs.World.{QueueSetup, Setup, no_queue, queue_count, queue_setup, LiveCcb, LiveRun, World, opening}
 use Rattle.world.specs.Lookups.{active_count, ccb_of, next_waiting, run_of, with_ccb}
@@ -132,10 +132,7 @@ module _ (setup other : Setup) (its : IsUnderOne setup other) where
   calls_so world (calls.GuestFreeze (Device queue) guest) not_one = λ i.
       unless_refused ((leb (count_is i) queue.0, Unknown) ∷ (meets_limit (Device queue) world.transport.freezes world.transport.greatest_freeze, Limit) ∷ []) world (Some (guest_freezes world (Device queue) guest))
   calls_so world (calls.GuestFreeze (Controller controller) guest) not_one = absurd (let bad : true ≡ false = not_one in cc)
-  calls_so world (calls.GuestRelease freeze) not_one = refl
-  calls_so world (calls.Clock reading) not_one = refl
-  calls_so world (calls.Park run) not_one = refl
-  calls_so world (calls.Resume run) not_one = refl
+  calls_so world rest not_one = refl
 
   -- the limits of the one and of the other, but for the helpers that there are
   abbrev with_helpers : HelperSet → HelperLimits
@@ -148,7 +145,7 @@ module _ (setup other : Setup) (its : IsUnderOne setup other) where
   others_are = λ i. record { helpers = its.controllers_too i; queues = its.named i; table_lengths = its.tables i }
 
   -- what is asked of arguments does not depend on these
-  asked_so : (m : MachineState) (arguments : Arguments) (o : Option Asked) (value : ℕ) → meets (with_helpers Queues) m arguments o value ≡ meets (with_helpers Controllers) m arguments o value
+  asked_so : (m : MachineState) (arguments : Arguments) (o : Option ArgKind) (value : ℕ) → meets (with_helpers Queues) m arguments o value ≡ meets (with_helpers Controllers) m arguments o value
   asked_so m arguments None value = refl
   asked_so m arguments (Some Queue) value = refl
   asked_so m arguments (Some HeldFreeze) value = refl

@@ -6,7 +6,7 @@ use Rattle.bpf_insn.specs.declared.program.Slot.{Slot}
 use Rattle.bpf_insn.specs.declared.program.TheConstants.{MAX_SLOTS}
 use Rattle.call_shape.specs.Calls.{begins, callee_at, function_of, CallsThrough, IsOnCycle, StandsBefore}
 use Rattle.call_shape.specs.Postorder.{IsPostorder, StandOnce}
-use Rattle.call_shape.specs.Walk.{is_marked, marked, ComesTo, with_entered, with_settled, IsWalk, OpenComeTo, LaterSettled, GoesOn}
+use Rattle.call_shape.specs.Walk.{is_marked, marked, ComesTo, with_entered, with_settled, IsWalk, OpenComeTo, LaterSettled, WalkContinues}
 use Rattle.call_shape.specs.declared.walk.Walk.{Walk}
 use Rattle.call_shape.proofs.Places.{begins_inside}
 use Rattle.call_shape.proofs.Marks.{marked_more, marked_rises, marked_room, marks_there, marks_other, stays_set}
@@ -113,7 +113,7 @@ keeps_settling program walk place is lt there fresh own laters callees =
     }
 
 -- one part of a walk and then another
-pub then_on : (program : List Slot) (excepted also : ℕ → Type 0) (first next last : Walk) → ((place : ℕ) → also place → excepted place) → GoesOn program excepted first next → GoesOn program also next last → GoesOn program excepted first last
+pub then_on : (program : List Slot) (excepted also : ℕ → Type 0) (first next last : Walk) → ((place : ℕ) → also place → excepted place) → WalkContinues program excepted first next → WalkContinues program also next last → WalkContinues program excepted first last
 then_on program excepted also first next last covered before after = record {
   still_settled = λ place e. after.still_settled place (before.still_settled place e);
   still_entered = λ function e. after.still_entered function (before.still_entered function e);
@@ -125,7 +125,7 @@ then_on program excepted also first next last covered before after = record {
   ];
 }
 
-pub nothing_yet : (program : List Slot) (excepted : ℕ → Type 0) (walk : Walk) → GoesOn program excepted walk walk
+pub nothing_yet : (program : List Slot) (excepted : ℕ → Type 0) (walk : Walk) → WalkContinues program excepted walk walk
 nothing_yet program excepted walk = record {
   still_settled = λ place e. e;
   still_entered = λ function e. e;
@@ -134,7 +134,7 @@ nothing_yet program excepted walk = record {
 }
 
 -- a place that is settled leaves all others
-pub settling_on : (program : List Slot) (walk : Walk) (place : ℕ) → place < length walk.settled → GoesOn program (λ other. other ≡ place) walk (with_settled walk place)
+pub settling_on : (program : List Slot) (walk : Walk) (place : ℕ) → place < length walk.settled → WalkContinues program (λ other. other ≡ place) walk (with_settled walk place)
 settling_on program walk place lt = record {
   still_settled = stays_set walk.settled place lt;
   still_entered = λ function e. e;
@@ -143,7 +143,7 @@ settling_on program walk place lt = record {
 }
 
 -- a function's visit as a whole
-pub visited_on : (program : List Slot) (before after : Walk) (function : ℕ) → function < length before.entered → is_marked before.entered function ≡ false → is_marked after.settled function ≡ true → GoesOn program (λ place. function_of program place ≡ function) (with_entered before function) after → GoesOn program (λ place. ⊥) before after
+pub visited_on : (program : List Slot) (before after : Walk) (function : ℕ) → function < length before.entered → is_marked before.entered function ≡ false → is_marked after.settled function ≡ true → WalkContinues program (λ place. function_of program place ≡ function) (with_entered before function) after → WalkContinues program (λ place. ⊥) before after
 visited_on program before after function lt fresh settled on = record {
   still_settled = on.still_settled;
   still_entered = λ other e. on.still_entered other (stays_set before.entered function lt other e);
@@ -159,7 +159,7 @@ visited_on program before after function lt fresh settled on = record {
 }
 
 -- during a function's visit all that is open comes to it
-pub open_still : (program : List Slot) (before now : Walk) (function : ℕ) → OpenComeTo program before function → GoesOn program (λ place. function_of program place ≡ function) (with_entered before function) now → OpenComeTo program now function
+pub open_still : (program : List Slot) (before now : Walk) (function : ℕ) → OpenComeTo program before function → WalkContinues program (λ place. function_of program place ≡ function) (with_entered before function) now → OpenComeTo program now function
 open_still program before now function comes on other e unsettled = elim (cases_eq other function) [
   | inl same ↦ (0, same)
   | inr different ↦ elim (on.entered_settled other e) [
@@ -203,7 +203,7 @@ pub record IsVisiting (program : List Slot) (function : ℕ) (start now : Walk) 
   pub walk : IsWalk program now
   pub done : (k : ℕ) → place ≤ k → begins program k ≡ true → function_of program k ≡ function → is_marked now.settled k ≡ true
   pub left : (k : ℕ) → k < place → function_of program k ≡ function → is_marked now.settled k ≡ false
-  pub goes_on : GoesOn program (λ k. function_of program k ≡ function) (with_entered start function) now
+  pub goes_on : WalkContinues program (λ k. function_of program k ≡ function) (with_entered start function) now
 
 pub visiting_first : (program : List Slot) (function stop : ℕ) (start : Walk) → IsWalk program start → function < MAX_SLOTS → is_marked start.entered function ≡ false → ((k : ℕ) → k < length program → function_of program k ≡ function → k < stop) → IsVisiting program function start (with_entered start function) stop
 visiting_first program function stop start is lt fresh others = record {
@@ -214,12 +214,12 @@ visiting_first program function stop start is lt fresh others = record {
 }
 
 -- after a visit to what a place calls it is not settled yet
-pub still_left : (program : List Slot) (function top : ℕ) (start now after : Walk) → IsVisiting program function start now top → function < length start.entered → 0 < top → function_of program (top - 1) ≡ function → GoesOn program (λ k. ⊥) now after → is_marked after.settled (top - 1) ≡ false
+pub still_left : (program : List Slot) (function top : ℕ) (start now after : Walk) → IsVisiting program function start now top → function < length start.entered → 0 < top → function_of program (top - 1) ≡ function → WalkContinues program (λ k. ⊥) now after → is_marked after.settled (top - 1) ≡ false
 still_left program function top start now after is lt some of on =
     let entered = is.goes_on.still_entered function (marks_there start.entered function lt) in
     on.others_stay (top - 1) (λ none. none) (ap (is_marked now.entered) of ∙ entered) ∙ is.left (top - 1) (omega arith) of
 
-pub visiting_more : (program : List Slot) (function top : ℕ) (start now after : Walk) → IsVisiting program function start now top → IsWalk program start → function < MAX_SLOTS → 0 < top → top ≤ MAX_SLOTS → begins program (top - 1) ≡ true → function_of program (top - 1) ≡ function → IsWalk program after → GoesOn program (λ k. ⊥) now after → ((callee : ℕ) → callee_at program (top - 1) ≡ Some callee → is_marked after.settled callee ≡ true) → IsVisiting program function start (with_settled after (top - 1)) (top - 1)
+pub visiting_more : (program : List Slot) (function top : ℕ) (start now after : Walk) → IsVisiting program function start now top → IsWalk program start → function < MAX_SLOTS → 0 < top → top ≤ MAX_SLOTS → begins program (top - 1) ≡ true → function_of program (top - 1) ≡ function → IsWalk program after → WalkContinues program (λ k. ⊥) now after → ((callee : ℕ) → callee_at program (top - 1) ≡ Some callee → is_marked after.settled callee ≡ true) → IsVisiting program function start (with_settled after (top - 1)) (top - 1)
 visiting_more program function top start now after is first inside some high there of walk on callees =
     let entered = is.goes_on.still_entered function (marks_there start.entered function (omega (arith, inside, first.entered_whole))) in
     let fresh = still_left program function top start now after is (omega (arith, inside, first.entered_whole)) some of on in

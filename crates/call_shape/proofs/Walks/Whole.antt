@@ -6,7 +6,7 @@ use Rattle.bpf_insn.specs.declared.program.Slot.{Slot}
 use Rattle.bpf_insn.specs.declared.program.TheConstants.{MAX_SLOTS}
 use Rattle.call_shape.specs.Calls.{begins, is_start, function_of, StandsBefore}
 use Rattle.call_shape.specs.Postorder.{IsPostorder, StandOnce}
-use Rattle.call_shape.specs.Walk.{is_marked, marked, IsWalk, IsOrderOf, OpenComeTo, GoesOn}
+use Rattle.call_shape.specs.Walk.{is_marked, marked, IsWalk, IsOrderOf, OpenComeTo, WalkContinues}
 use Rattle.call_shape.specs.declared.walk.Walk.{Walk}
 use Rattle.call_shape.proofs.Places.{begins_inside}
 use Rattle.call_shape.proofs.SlotFunctions.{function_before, function_starts, own_function, start_test}
@@ -53,7 +53,7 @@ settling_first program walk entered settled places empty = record {
 pub none_open : (program : List Slot) (walk : Walk) (n function : ℕ) → IsSettling program walk n → OpenComeTo program walk function
 none_open program walk n function is other e unsettled = absurd (false≢true (sym unsettled ∙ is.closed other e))
 
-pub settling_more : (program : List Slot) (before after : Walk) (function : ℕ) → IsSettling program before function → IsWalk program after → is_marked after.settled function ≡ true → GoesOn program (λ place. ⊥) before after → IsSettling program after (function + 1)
+pub settling_more : (program : List Slot) (before after : Walk) (function : ℕ) → IsSettling program before function → IsWalk program after → is_marked after.settled function ≡ true → WalkContinues program (λ place. ⊥) before after → IsSettling program after (function + 1)
 settling_more program before after function is walk settled on = record {
   kept = walk;
   closed = λ other e. elim (on.entered_settled other e) [

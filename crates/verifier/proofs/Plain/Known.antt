@@ -11,7 +11,7 @@ use Rattle.bpf_insn.specs.declared.reg.Reg.TheVariants.{R0, R1, R2, R3, R4, R5, 
 use Rattle.bpf_insn.specs.declared.program.Slot.{Slot}
 use Rattle.bpf_insn.specs.Program.{insn_at}
 use Rattle.bpf_insn.specs.Reg.{number_of}
-use Rattle.call_shape.specs.StaticPath.{outermost, LeadsTo}
+use Rattle.call_shape.specs.StaticPath.{outermost, StepLeadsTo}
 use Rattle.check_description.specs.declared.description.Description.{Description}
 use Rattle.check_register_kinds.specs.declared.freeze_name.FreezeName.{FreezeName}
 use Rattle.check_register_kinds.specs.declared.kind.Kind.{Kind}
@@ -48,7 +48,7 @@ pub record IsCommon (program : List Slot) (place : ℕ) (d : Description) : Type
 -- an instruction of the program leads there
 pub record IsStep (program : List Slot) (place : ℕ) (insn : Insn) (to : ℕ) : Type 0 where
   pub at : insn_at program place ≡ Some insn
-  pub leads : LeadsTo (outermost place) insn (outermost to)
+  pub leads : StepLeadsTo (outermost place) insn (outermost to)
 
 pub comes_on : (writes : Insn → Bool) (program : List Slot) (place to : ℕ) (insn : Insn) → IsStep program place insn to → writes insn ≡ false → Comes writes program place → Comes writes program to
 comes_on writes program place to insn step none way = (suc way.0, (place, insn, way.1, step.at, step.leads, none))

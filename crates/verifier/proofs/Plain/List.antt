@@ -11,7 +11,7 @@ use Rattle.bpf_insn.specs.declared.reg.Reg.TheVariants.{R10}
 use Rattle.bpf_insn.specs.declared.program.Slot.{Slot}
 use Rattle.bpf_insn.specs.Target.{target}
 use Rattle.bpf_semantics.specs.Memory.{load_width, store_width}
-use Rattle.call_shape.specs.StaticPath.{outermost, LeadsTo}
+use Rattle.call_shape.specs.StaticPath.{outermost, StepLeadsTo}
 use Rattle.check_description.specs.declared.description.Description.{Description}
 use Rattle.check_private_insns.specs.declared.way.Way.{Way}
 use Rattle.check_private_insns.specs.declared.way.Way.TheVariants.{FallThrough, Taken}
@@ -93,7 +93,7 @@ list_enough program place end Exit d listed written is = absurd listed
 
 -- where an instruction of the list leads: on within the list, or to the slot behind it
 pub record LeadsOn (place end : ℕ) (insn : Insn) (to : ℕ) : Type 0 where
-  pub leads : LeadsTo (outermost place) insn (outermost to)
+  pub leads : StepLeadsTo (outermost place) insn (outermost to)
   pub on : place < to
   pub up_to : to ≤ end
 
@@ -101,10 +101,10 @@ same_slot : (a b : ℕ) → Some a ≡ Some b → a ≡ b
 same_slot a b e = cc
 
 -- where it goes one way
-next_on : (place end : ℕ) (insn : Insn) (to : ℕ) → place < end → LeadsTo (outermost place) insn (outermost (place + 1)) → Some (place + 1) ≡ Some to → LeadsOn place end insn to
+next_on : (place end : ℕ) (insn : Insn) (to : ℕ) → place < end → StepLeadsTo (outermost place) insn (outermost (place + 1)) → Some (place + 1) ≡ Some to → LeadsOn place end insn to
 next_on place end insn to lt leads e =
     let same = same_slot (place + 1) to e in
-    record { leads = subst (λ (k : ℕ). LeadsTo (outermost place) insn (outermost k)) same leads; on = omega (arith, same); up_to = omega (arith, same, lt) }
+    record { leads = subst (λ (k : ℕ). StepLeadsTo (outermost place) insn (outermost k)) same leads; on = omega (arith, same); up_to = omega (arith, same, lt) }
 
 nowhere : (to : ℕ) {A : Type 0} → None ≡ Some to → A
 nowhere to e = absurd cc

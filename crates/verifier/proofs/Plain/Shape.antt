@@ -10,7 +10,7 @@ use Rattle.bpf_insn.specs.declared.program.Slot.{Slot}
 use Rattle.bpf_insn.specs.Program.{is_wide, further_slots, insn_at}
 use Rattle.call_shape.specs.Calls.{callee_in, callee_at, begins, is_called_in, is_start, function_of}
 use Rattle.call_shape.specs.WrittenOut.{total, count_at, written_out}
-use Rattle.call_shape.specs.StaticPath.{Standing, outermost, ReturnsTo, LeadsTo, StaticPath, depth}
+use Rattle.call_shape.specs.StaticPath.{Standing, outermost, ReturnsTo, StepLeadsTo, StaticPath, depth}
 use Rattle.call_shape.specs.Shape.{behind, goes_on_behind, target_in, target_at, is_function_end, FaultIs}
 use Rattle.call_shape.specs.declared.fault.ShapeFault.{ShapeFault}
 use Rattle.call_shape.specs.declared.fault.ShapeFault.TheVariants.{OpenEnd, TargetOutside, TargetSecondSlot, TargetBackward, NoSuchFunction, LeavesFunction, CallCycle, TooManyFrames, TooLong}
@@ -180,7 +180,7 @@ returns_nowhere : (returns : List ℕ) (to : Standing) → returns ≡ [] → Re
 returns_nowhere [] to none leads = leads
 returns_nowhere (return ∷ returns) to none leads = absurd cc
 
-none_open : (at : Standing) (insn : Insn) (to : Standing) → callee_in at.slot insn ≡ None → at.returns ≡ [] → LeadsTo at insn to → to.returns ≡ []
+none_open : (at : Standing) (insn : Insn) (to : Standing) → callee_in at.slot insn ≡ None → at.returns ≡ [] → StepLeadsTo at insn to → to.returns ≡ []
 none_open at (Alu width op dst src) to no_callee none leads = ap (λ (s : Standing). s.returns) leads ∙ none
 none_open at (InPlace op dst) to no_callee none leads = ap (λ (s : Standing). s.returns) leads ∙ none
 none_open at (SignExtend extension dst src) to no_callee none leads = ap (λ (s : Standing). s.returns) leads ∙ none

@@ -6,8 +6,8 @@ use Rattle.ccb.specs.declared.place.Place.TheVariants.{Controller, Device}
 use Rattle.ccb.specs.Places.{is_place, device}
 use Rattle.freeze_ledger.specs.Freezes.{names, frozen, entry_of, due_at}
 use Rattle.ccb.specs.Completion.{Outcome}
-use Rattle.helpers.specs.declared.table.Deed.{Deed}
-use Rattle.helpers.specs.declared.table.Deed.TheVariants as deeds
+use Rattle.helpers.specs.declared.table.HelperEffect.{HelperEffect}
+use Rattle.helpers.specs.declared.table.HelperEffect.TheVariants as effects
 use Rattle.helpers.specs.declared.request.Request.{Request}
 use Rattle.helpers.specs.Table.{row_of}
 use Rattle.bpf_semantics.specs.Step.{request_at}
@@ -78,29 +78,29 @@ Calls world run request =
     (it : LiveRun) × (run_of run world.runs.list ≡ Some it) × (request_at it.program it.machine ≡ Some request)
 
 -- the run stands at a call that does this deed, with this number in R1
-pub record CallsTo (deed : Deed) (world : World) (run number : ℕ) : Type 0 where
+pub record CallsTo (effect : HelperEffect) (world : World) (run number : ℕ) : Type 0 where
   pub request : Request
   pub calls : Calls world run request
-  pub deed_is : (row_of request.helper).deed ≡ deed
+  pub deed_is : (row_of request.helper).effect ≡ effect
   pub number_is : request.arguments.first ≡ number
 
 -- the freeze that the run asks to give back
 abbrev pub AsksFor : World → ℕ → ℕ → Type 0
-AsksFor world run number = CallsTo deeds.GiveBack world run number
+AsksFor world run number = CallsTo effects.GiveBack world run number
 
 -- and that which it asks to hand over to a timer
 abbrev pub HandsOver : World → ℕ → ℕ → Type 0
-HandsOver world run number = CallsTo deeds.HandOver world run number
+HandsOver world run number = CallsTo effects.HandOver world run number
 
 -- the queue that the run asks to freeze
 abbrev pub AsksQueue : World → ℕ → Place → Type 0
-AsksQueue world run place = (queue : ℕ) × CallsTo deeds.Freeze world run queue × (place ≡ device queue)
+AsksQueue world run place = (queue : ℕ) × CallsTo effects.Freeze world run queue × (place ≡ device queue)
 
 -- the controller that it asks to freeze, which is its own
 abbrev pub AsksController : World → ℕ → Place → Type 0
 AsksController world run place =
     (it : LiveRun) × (run_of run world.runs.list ≡ Some it) × (place ≡ Controller it.controller)
-    × ((number : ℕ) × CallsTo deeds.FreezeController world run number)
+    × ((number : ℕ) × CallsTo effects.FreezeController world run number)
 
 -- A run's call for a further freeze of a place, by its reply: one more of the place, or, where the reply is 0, none.
 pub record MovesByTaking (Asks : Place → Type 0) (before : World) (reply : Reply) (after : World) : Type 0 where
@@ -123,12 +123,12 @@ abbrev pub KeepsCounts : World → World → Type 0
 KeepsCounts before after = (other : Place) → frozen other after.transport.freezes ≡ frozen other before.transport.freezes
 
 -- what a run's call does to each place's frozen count, by its deed
-abbrev pub MovesByDeed : Deed → World → ℕ → Reply → World → Type 0
-MovesByDeed deeds.Freeze before run reply after = MovesByTaking (AsksQueue before run) before reply after
-MovesByDeed deeds.FreezeController before run reply after = MovesByTaking (AsksController before run) before reply after
-MovesByDeed deeds.GiveBack before run reply after = MovesByGiving before run reply after
-MovesByDeed deeds.HandOver before run reply after = KeepsCounts before after
-MovesByDeed deed before run reply after = KeepsFreezes before after
+abbrev pub MovesByEffect : HelperEffect → World → ℕ → Reply → World → Type 0
+MovesByEffect effects.Freeze before run reply after = MovesByTaking (AsksQueue before run) before reply after
+MovesByEffect effects.FreezeController before run reply after = MovesByTaking (AsksController before run) before reply after
+MovesByEffect effects.GiveBack before run reply after = MovesByGiving before run reply after
+MovesByEffect effects.HandOver before run reply after = KeepsCounts before after
+MovesByEffect effect before run reply after = KeepsFreezes before after
 
 -- What a step does to each place's frozen count: a freeze that was taken adds one to its place's, by whomever it was
 -- taken, and one that is given back takes one; the reply to that is the number of entries that name the place now. One
@@ -139,7 +139,7 @@ MovesCounts before (called (Complete outcome)) reply after = MovesByCompletion b
 MovesCounts before (called (GuestRelease number)) reply after =
     (count : ℕ) × (reply ≡ replies (answers.Left count)) × OneFewer before number count after
 MovesCounts before (called (Clock reading)) reply after = MovesByClock before reading reply after
-MovesCounts before (executes run (call told)) reply after = MovesByDeed (row_of (helper_in told)).deed before run reply after
+MovesCounts before (executes run (call told)) reply after = MovesByEffect (row_of (helper_in told)).effect before run reply after
 MovesCounts before event reply after = KeepsFreezes before after
 
 -- at every moment of every run each frozen count moves as its entries do

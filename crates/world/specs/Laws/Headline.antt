@@ -4,8 +4,8 @@ use Rattle.ccb.specs.declared.cam_status.CamStatus.TheVariants.{RequestInProgres
 use Rattle.ccb.specs.Completion.{Outcome}
 use Rattle.helpers.specs.declared.columns.Change.{Change}
 use Rattle.helpers.specs.declared.columns.Change.TheVariants as changes
-use Rattle.helpers.specs.declared.table.Deed.{Deed}
-use Rattle.helpers.specs.declared.table.Deed.TheVariants as deeds
+use Rattle.helpers.specs.declared.table.HelperEffect.{HelperEffect}
+use Rattle.helpers.specs.declared.table.HelperEffect.TheVariants as effects
 use Rattle.helpers.specs.declared.request.Request.{Request}
 use Rattle.helpers.specs.Table.{row_of}
 use Rattle.bpf_semantics.specs.Stuck.{is_stuck}
@@ -161,18 +161,18 @@ pub record IsFinished (ccb code : ℕ) (before after : World) : Type 0 where
 
 -- What a call makes of the run's CCB, by its deed: it is requeued with the retries that the run asks for, or finished with
 -- the code that the run asks for and that is told. No other deed disposes of it.
-abbrev pub DisposesByDeed : Deed → Request → Told → ℕ → LiveCcb → World → World → Type 0
-DisposesByDeed deeds.Requeue request told ccb was before after =
+abbrev pub DisposesByEffect : HelperEffect → Request → Told → ℕ → LiveCcb → World → World → Type 0
+DisposesByEffect effects.Requeue request told ccb was before after =
     (told ≡ plain request.helper) × IsRequeued ccb request.arguments.first was before after
-DisposesByDeed deeds.Finish request told ccb was before after =
+DisposesByEffect effects.Finish request told ccb was before after =
     (told ≡ finishes request.helper request.arguments.first) × IsFinished ccb request.arguments.first before after
-DisposesByDeed deed request told ccb was before after = ⊥
+DisposesByEffect effect request told ccb was before after = ⊥
 
 -- the call at which the run stands disposes of its CCB, by what is told of it
 pub record DisposesByCall (told : Told) (run ccb : ℕ) (was : LiveCcb) (before after : World) : Type 0 where
   pub request : Request
   pub calls : Calls before run request
-  pub does : DisposesByDeed (row_of request.helper).deed request told ccb was before after
+  pub does : DisposesByEffect (row_of request.helper).effect request told ccb was before after
 
 -- what the instruction makes of the run's CCB: no other than a call disposes of it
 abbrev pub DisposesBy : Option Instruction → ℕ → ℕ → LiveCcb → World → World → Type 0

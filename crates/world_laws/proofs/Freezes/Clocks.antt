@@ -100,17 +100,17 @@ by_the_clock setup before event reply after kept it = λ freeze due found timer.
 
 -- a call of a helper lets nothing go that a timer holds
 by_a_call : (setup : Setup) (before : World) (event : Event) (reply : Reply) (after : World) → KeepsLists setup before → (it : Asks setup before event reply after) → FreezeDeed setup before it.it.run it.request it.given it.between → KeepsTime before event reply after
-by_a_call setup before event reply after kept it (leaves_freezes deed) = as_before before event reply after (λ due. ap (λ (x : Reply × World). lets_go due x.0 event) it.answer) (ap (λ (x : Reply × World). x.1.transport.freezes) it.answer ∙ deed.freezes_is)
-by_a_call setup before event reply after kept it (takes_one deed) = one_more before event reply after _ (λ due. ap (λ (x : Reply × World). lets_go due x.0 event) it.answer) (ap (λ (x : Reply × World). x.1.transport.freezes) it.answer ∙ deed.freezes_is)
-by_a_call setup before event reply after kept it (gives_one_back deed) =
-    one_fewer before event reply after it.request.arguments.first deed.freeze (λ due. ap (λ (x : Reply × World). lets_go due x.0 event) it.answer) (ap (λ (x : Reply × World). x.1.transport.freezes) it.answer ∙ deed.freezes_is) deed.entry (runs_no_timer it.it.run.number deed.freeze.holder deed.its)
-by_a_call setup before event reply after kept it (hands_one_over deed) =
-    let old : Freeze = deed.freeze in
+by_a_call setup before event reply after kept it (leaves_freezes effect) = as_before before event reply after (λ due. ap (λ (x : Reply × World). lets_go due x.0 event) it.answer) (ap (λ (x : Reply × World). x.1.transport.freezes) it.answer ∙ effect.freezes_is)
+by_a_call setup before event reply after kept it (takes_one effect) = one_more before event reply after _ (λ due. ap (λ (x : Reply × World). lets_go due x.0 event) it.answer) (ap (λ (x : Reply × World). x.1.transport.freezes) it.answer ∙ effect.freezes_is)
+by_a_call setup before event reply after kept it (gives_one_back effect) =
+    one_fewer before event reply after it.request.arguments.first effect.freeze (λ due. ap (λ (x : Reply × World). lets_go due x.0 event) it.answer) (ap (λ (x : Reply × World). x.1.transport.freezes) it.answer ∙ effect.freezes_is) effect.entry (runs_no_timer it.it.run.number effect.freeze.holder effect.its)
+by_a_call setup before event reply after kept it (hands_one_over effect) =
+    let old : Freeze = effect.freeze in
     let due : ℕ = before.transport.clock + it.request.arguments.second in
     one_changed before event reply after old (record old { holder = Timer due }) (λ due. ap (λ (x : Reply × World). lets_go due x.0 event) it.answer)
-    (ap (λ (x : Reply × World). x.1.transport.freezes) it.answer ∙ (deed.freezes_is ∙ handed_is_put it.request.arguments.first due 0 before.transport.freezes before.transport.greatest_freeze old kept.freezes.numbered deed.entry))
-    (subst (λ (n : ℕ). entry_of n before.transport.freezes ≡ Some old) (sym (found_key freeze_key it.request.arguments.first before.transport.freezes old deed.entry)) deed.entry)
-    (runs_no_timer it.it.run.number old.holder deed.its)
+    (ap (λ (x : Reply × World). x.1.transport.freezes) it.answer ∙ (effect.freezes_is ∙ handed_is_put it.request.arguments.first due 0 before.transport.freezes before.transport.greatest_freeze old kept.freezes.numbered effect.entry))
+    (subst (λ (n : ℕ). entry_of n before.transport.freezes ≡ Some old) (sym (found_key freeze_key it.request.arguments.first before.transport.freezes old effect.entry)) effect.entry)
+    (runs_no_timer it.it.run.number old.holder effect.its)
 
 case_keeps_time : (setup : Setup) (before : World) (event : Event) (reply : Reply) (after : World) → KeepsLists setup before → Case setup before event reply after → KeepsTime before event reply after
 case_keeps_time setup before event reply after kept (refuses it) = as_before before event reply after (λ due. ap (λ (r : Reply). lets_go due r event) it.reply_is) (ap (λ (w : World). w.transport.freezes) it.after_is)

@@ -7,7 +7,7 @@ use Rattle.ccb.specs.Places.{is_place}
 use Rattle.world_calls.specs.declared.call_answer.CallAnswer.TheVariants as answers
 use Rattle.world.specs.FreezeSteps.{frozen_with}
 use Rattle.helpers.specs.declared.request.Request.{Request}
-use Rattle.helpers.specs.declared.table.Deed.TheVariants as deeds
+use Rattle.helpers.specs.declared.table.HelperEffect.TheVariants as effects
 use Rattle.helpers.specs.declared.request.Answer.{Answer}
 use Rattle.world.specs.World.{Setup, LiveRun, World}
 use Rattle.world.specs.Lookups.{run_of}
@@ -34,22 +34,22 @@ goes setup before after number freeze kept entry e =
 
 -- what a call of a helper does, by the freeze that it takes, gives back or hands over
 call_moves : (setup : Setup) (before after : World) (number : ℕ) (run : LiveRun) (request : Request) (given : Answer) (between : World) → KeepsLists setup before → Calls before number request → run_of number before.runs.list ≡ Some run → after.transport.freezes ≡ between.transport.freezes → FreezeDeed setup before run request given between → MovesCounts before (executes number (call (told_of request))) (result given.r0) after
-call_moves setup before after number run request given between kept calls found same (leaves_freezes deed) = deed.moves number after calls (same ∙ deed.freezes_is)
-call_moves setup before after number run request given between kept calls found same (takes_one deed) =
+call_moves setup before after number run request given between kept calls found same (leaves_freezes effect) = effect.moves number after calls (same ∙ effect.freezes_is)
+call_moves setup before after number run request given between kept calls found same (takes_one effect) =
     let above : eqb (before.transport.greatest_freeze + 1) 0 ≡ false = ne_eqb _ _ (λ e. omega (arith, e)) in
-    rw deed.given_is (deed.moves number (before.transport.greatest_freeze + 1) after calls found
-    (rw above (λ other. ap (frozen other) (same ∙ deed.freezes_is) ∙ frozen_push other before.transport.freezes _)))
-call_moves setup before after number run request given between kept calls found same (gives_one_back deed) =
-    moves_by deeds.GiveBack request deed.deed_is before number (result given.r0) after (rw deed.given_is (record {
+    rw effect.given_is (effect.moves number (before.transport.greatest_freeze + 1) after calls found
+    (rw above (λ other. ap (frozen other) (same ∙ effect.freezes_is) ∙ frozen_push other before.transport.freezes _)))
+call_moves setup before after number run request given between kept calls found same (gives_one_back effect) =
+    moves_by effects.GiveBack request effect.deed_is before number (result given.r0) after (rw effect.given_is (record {
       number = request.arguments.first;
       count = _;
-      asks = record { request = request; calls = calls; deed_is = deed.deed_is; number_is = refl };
+      asks = record { request = request; calls = calls; deed_is = effect.deed_is; number_is = refl };
       reply_is = refl;
-      fewer = goes setup before after request.arguments.first deed.freeze kept deed.entry (same ∙ deed.freezes_is);
+      fewer = goes setup before after request.arguments.first effect.freeze kept effect.entry (same ∙ effect.freezes_is);
     }))
-call_moves setup before after number run request given between kept calls found same (hands_one_over deed) =
-    moves_by deeds.HandOver request deed.deed_is before number (result given.r0) after
-    (λ other. ap (frozen other) (same ∙ deed.freezes_is) ∙ frozen_handed_over other request.arguments.first (before.transport.clock + request.arguments.second) before.transport.freezes)
+call_moves setup before after number run request given between kept calls found same (hands_one_over effect) =
+    moves_by effects.HandOver request effect.deed_is before number (result given.r0) after
+    (λ other. ap (frozen other) (same ∙ effect.freezes_is) ∙ frozen_handed_over other request.arguments.first (before.transport.clock + request.arguments.second) before.transport.freezes)
 
 pub case_moves : (setup : Setup) (before : World) (event : Event) (reply : Reply) (after : World) → KeepsLists setup before → Case setup before event reply after → MovesCounts before event reply after
 case_moves setup before event reply after kept (refuses it) = rw (it.reply_is, it.after_is) it.moves

@@ -4,8 +4,8 @@ use Rattle.std.proofs.lemmas.Bool.{cases_eq}
 use Rattle.freeze_ledger.specs.declared.freeze.Holder.TheVariants.{Timer}
 use Rattle.freeze_ledger.specs.declared.freeze.Freeze.{Freeze}
 use Rattle.freeze_ledger.specs.Freezes.{entry_of, without}
-use Rattle.helpers.specs.declared.table.Deed.{Deed}
-use Rattle.helpers.specs.declared.table.Deed.TheVariants as deeds
+use Rattle.helpers.specs.declared.table.HelperEffect.{HelperEffect}
+use Rattle.helpers.specs.declared.table.HelperEffect.TheVariants as effects
 use Rattle.helpers.specs.declared.columns.Change.{Change}
 use Rattle.helpers.specs.declared.columns.Change.TheVariants as changes
 use Rattle.helpers.specs.declared.request.Request.{Request}
@@ -110,27 +110,27 @@ the_call setup before run told reply after request calls it =
 
 -- a call gives back or hands over the freeze that it asks for
 asked_for_one : (setup : Setup) (before : World) (run : LiveRun) (request : Request) (given : Answer) (between : World) (number : ℕ) → asked (Some request) ≡ number ∷ [] → LeavesFreezes setup before run request given between → ⊥
-asked_for_one setup before run request given between number is deed = let bad : [] ≡ number ∷ [] = sym deed.keeps ∙ is in cc
+asked_for_one setup before run request given between number is effect = let bad : [] ≡ number ∷ [] = sym effect.keeps ∙ is in cc
 
 gives_it_up : (request : Request) (number : ℕ) → (row_of request.helper).machine ≡ changes.GivesUp → request.arguments.first ≡ number → asked (Some request) ≡ number ∷ []
 gives_it_up request number machine_is same = ap (λ (c : Change). asked_by c request) machine_is ∙ ap (λ (n : ℕ). n ∷ []) same
 
 -- two deeds of one row are one
-one_deed : (request : Request) (a b : Deed) → (row_of request.helper).deed ≡ a → (row_of request.helper).deed ≡ b → a ≡ b
+one_deed : (request : Request) (a b : HelperEffect) → (row_of request.helper).effect ≡ a → (row_of request.helper).effect ≡ b → a ≡ b
 one_deed request a b first second = sym first ∙ second
 
 -- a call that takes a freeze gives none up
 takes_none : (request : Request) → (row_of request.helper).machine ≡ changes.Holds → (row_of request.helper).machine ≡ changes.GivesUp → ⊥
 takes_none request holds gives = let bad : changes.Holds ≡ changes.GivesUp = sym holds ∙ gives in cc
 
-given_back_past : (setup : Setup) (before after : World) (number : ℕ) (run : LiveRun) (request : Request) (given : Answer) (between : World) → KeepsLists setup before → (row_of request.helper).deed ≡ deeds.GiveBack → request.arguments.first ≡ number → after.transport.freezes ≡ between.transport.freezes → after.transport.greatest_freeze ≡ between.transport.greatest_freeze → FreezeDeed setup before run request given between → IsPast number after
-given_back_past setup before after number run request given between kept is same e g (leaves_freezes deed) =
-    absurd (asked_for_one setup before run request given between number (gives_it_up request number (suits deeds.GiveBack request is).machine_is same) deed)
-given_back_past setup before after number run request given between kept is same e g (takes_one deed) = absurd (takes_none request deed.machine_is (suits deeds.GiveBack request is).machine_is)
-given_back_past setup before after number run request given between kept is same e g (gives_one_back deed) =
-    removed_past setup before after number deed.freeze kept (subst (λ (n : ℕ). entry_of n before.transport.freezes ≡ Some deed.freeze) same deed.entry)
-    (e ∙ (deed.freezes_is ∙ ap (λ (n : ℕ). without n before.transport.freezes) same)) (g ∙ deed.greatest_is)
-given_back_past setup before after number run request given between kept is same e g (hands_one_over deed) = absurd (let bad : deeds.HandOver ≡ deeds.GiveBack = one_deed request _ _ deed.deed_is is in cc)
+given_back_past : (setup : Setup) (before after : World) (number : ℕ) (run : LiveRun) (request : Request) (given : Answer) (between : World) → KeepsLists setup before → (row_of request.helper).effect ≡ effects.GiveBack → request.arguments.first ≡ number → after.transport.freezes ≡ between.transport.freezes → after.transport.greatest_freeze ≡ between.transport.greatest_freeze → FreezeDeed setup before run request given between → IsPast number after
+given_back_past setup before after number run request given between kept is same e g (leaves_freezes effect) =
+    absurd (asked_for_one setup before run request given between number (gives_it_up request number (suits effects.GiveBack request is).machine_is same) effect)
+given_back_past setup before after number run request given between kept is same e g (takes_one effect) = absurd (takes_none request effect.machine_is (suits effects.GiveBack request is).machine_is)
+given_back_past setup before after number run request given between kept is same e g (gives_one_back effect) =
+    removed_past setup before after number effect.freeze kept (subst (λ (n : ℕ). entry_of n before.transport.freezes ≡ Some effect.freeze) same effect.entry)
+    (e ∙ (effect.freezes_is ∙ ap (λ (n : ℕ). without n before.transport.freezes) same)) (g ∙ effect.greatest_is)
+given_back_past setup before after number run request given between kept is same e g (hands_one_over effect) = absurd (let bad : effects.HandOver ≡ effects.GiveBack = one_deed request _ _ effect.deed_is is in cc)
 
 pub given_up_by_run_stays_given_up : GivenUpByRunStaysGivenUp
 given_up_by_run_stays_given_up setup xs ys run number told reply before world first asks second held =
@@ -139,7 +139,7 @@ given_up_by_run_stays_given_up setup xs ys run number told reply before world fi
     let it = asks_of setup before run told reply after second.1 in
     let call_is = the_call setup before run told reply after asks.request asks.calls it in
     let past = given_back_past setup before after number it.it.run it.request it.given it.between kept
-    (ap (λ (r : Request). (row_of r.helper).deed) call_is ∙ asks.deed_is) (ap (λ (r : Request). r.arguments.first) call_is ∙ asks.number_is)
+    (ap (λ (r : Request). (row_of r.helper).effect) call_is ∙ asks.deed_is) (ap (λ (r : Request). r.arguments.first) call_is ∙ asks.number_is)
     (ap (λ (x : Reply × World). x.1.transport.freezes) it.answer) (ap (λ (x : Reply × World). x.1.transport.greatest_freeze) it.answer) it.freezes in
     none_held number world (leads_past setup after ys world number (step_keeps setup before (executes run (call told)) reply after second.1 kept) second.2 past).none held
 
@@ -184,21 +184,21 @@ leads_timed setup before (x ∷ xs) after number kept run timed =
     leads_timed setup run.0 xs after number (step_keeps setup before x.0 x.1 run.0 run.1 kept) run.2
     (move_timed setup before x.0 run.0 number kept (step_freezes setup before x.0 x.1 run.0 kept run.1) timed)
 
-handed_over_timed : (setup : Setup) (before after : World) (number : ℕ) (run : LiveRun) (request : Request) (given : Answer) (between : World) → KeepsLists setup before → (row_of request.helper).deed ≡ deeds.HandOver → request.arguments.first ≡ number → after.transport.freezes ≡ between.transport.freezes → after.transport.greatest_freeze ≡ between.transport.greatest_freeze → FreezeDeed setup before run request given between → IsTimed number after
-handed_over_timed setup before after number run request given between kept is same e g (leaves_freezes deed) =
-    absurd (asked_for_one setup before run request given between number (gives_it_up request number (suits deeds.HandOver request is).machine_is same) deed)
-handed_over_timed setup before after number run request given between kept is same e g (takes_one deed) = absurd (takes_none request deed.machine_is (suits deeds.HandOver request is).machine_is)
-handed_over_timed setup before after number run request given between kept is same e g (gives_one_back deed) = absurd (let bad : deeds.GiveBack ≡ deeds.HandOver = one_deed request _ _ deed.deed_is is in cc)
-handed_over_timed setup before after number run request given between kept is same e g (hands_one_over deed) =
+handed_over_timed : (setup : Setup) (before after : World) (number : ℕ) (run : LiveRun) (request : Request) (given : Answer) (between : World) → KeepsLists setup before → (row_of request.helper).effect ≡ effects.HandOver → request.arguments.first ≡ number → after.transport.freezes ≡ between.transport.freezes → after.transport.greatest_freeze ≡ between.transport.greatest_freeze → FreezeDeed setup before run request given between → IsTimed number after
+handed_over_timed setup before after number run request given between kept is same e g (leaves_freezes effect) =
+    absurd (asked_for_one setup before run request given between number (gives_it_up request number (suits effects.HandOver request is).machine_is same) effect)
+handed_over_timed setup before after number run request given between kept is same e g (takes_one effect) = absurd (takes_none request effect.machine_is (suits effects.HandOver request is).machine_is)
+handed_over_timed setup before after number run request given between kept is same e g (gives_one_back effect) = absurd (let bad : effects.GiveBack ≡ effects.HandOver = one_deed request _ _ effect.deed_is is in cc)
+handed_over_timed setup before after number run request given between kept is same e g (hands_one_over effect) =
     let asked_number : ℕ = request.arguments.first in
-    let old : Freeze = deed.freeze in
+    let old : Freeze = effect.freeze in
     let due : ℕ = before.transport.clock + request.arguments.second in
     let new : Freeze = record old { holder = Timer due } in
-    let bounds = entry_bounds 0 before.transport.freezes before.transport.greatest_freeze asked_number old kept.freezes.numbered deed.entry in
-    let freezes_is : after.transport.freezes ≡ put freeze_key new before.transport.freezes = e ∙ (deed.freezes_is ∙ handed_is_put asked_number due 0 before.transport.freezes before.transport.greatest_freeze old kept.freezes.numbered deed.entry) in
-    let there : entry_of old.number after.transport.freezes ≡ Some new = ap (entry_of old.number) freezes_is ∙ put_same freeze_key new before.transport.freezes old (subst (λ (n : ℕ). entry_of n before.transport.freezes ≡ Some old) (sym bounds.0) deed.entry) in
+    let bounds = entry_bounds 0 before.transport.freezes before.transport.greatest_freeze asked_number old kept.freezes.numbered effect.entry in
+    let freezes_is : after.transport.freezes ≡ put freeze_key new before.transport.freezes = e ∙ (effect.freezes_is ∙ handed_is_put asked_number due 0 before.transport.freezes before.transport.greatest_freeze old kept.freezes.numbered effect.entry) in
+    let there : entry_of old.number after.transport.freezes ≡ Some new = ap (entry_of old.number) freezes_is ∙ put_same freeze_key new before.transport.freezes old (subst (λ (n : ℕ). entry_of n before.transport.freezes ≡ Some old) (sym bounds.0) effect.entry) in
     record {
-      given = omega (arith, same, bounds.2, g, deed.greatest_is);
+      given = omega (arith, same, bounds.2, g, effect.greatest_is);
       timer = λ f found.
           let one : Some new ≡ Some f = sym there ∙ (ap (λ (n : ℕ). entry_of n after.transport.freezes) (bounds.0 ∙ same) ∙ found) in
           let is_new : new ≡ f = cc in
@@ -212,7 +212,7 @@ handed_over_stays_handed_over setup xs ys run number told reply before world fir
     let it = asks_of setup before run told reply after second.1 in
     let call_is = the_call setup before run told reply after hands.request hands.calls it in
     let timed = handed_over_timed setup before after number it.it.run it.request it.given it.between kept
-    (ap (λ (r : Request). (row_of r.helper).deed) call_is ∙ hands.deed_is) (ap (λ (r : Request). r.arguments.first) call_is ∙ hands.number_is)
+    (ap (λ (r : Request). (row_of r.helper).effect) call_is ∙ hands.deed_is) (ap (λ (r : Request). r.arguments.first) call_is ∙ hands.number_is)
     (ap (λ (x : Reply × World). x.1.transport.freezes) it.answer) (ap (λ (x : Reply × World). x.1.transport.greatest_freeze) it.answer) it.freezes in
     let later = leads_timed setup after ys world number (step_keeps setup before (executes run (call told)) reply after second.1 kept) second.2 timed in
     let bad : false ≡ true = sym owned.2 ∙ later.timer owned.0 owned.1 in cc

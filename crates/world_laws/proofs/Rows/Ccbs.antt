@@ -4,7 +4,7 @@ use Rattle.ccb.specs.declared.cam_status.CamStatus.TheVariants.{RequestInProgres
 use Rattle.freeze_ledger.specs.declared.freeze.Holder.TheVariants.{Guest}
 use Rattle.helpers.specs.declared.limits.HelperLimits.{HelperLimits}
 use Rattle.bpf_semantics.specs.MachineState.{entry}
-use Rattle.world_calls.specs.declared.call_refusal.CallRefusal.TheVariants.{Unknown, Limit, NotActive, Frozen, NoOpening, NothingWaits}
+use Rattle.ccb.specs.declared.call_refusal.CallRefusal.TheVariants.{Unknown, Limit, NotActive, Frozen, NoOpening, NothingWaits}
 use Rattle.world.specs.declared.ccb_state.CcbState.TheVariants.{Waiting, Active, InRecovery}
 use Rattle.ccb.specs.Places.{device}
 use Rattle.world.specs.World.{World, opening}

@@ -3,7 +3,7 @@ use Rattle.std.proofs.Common.{◌≡◌, ℕ, [], ◌∷◌, Some, Ok, refl}
 use Rattle.freeze_ledger.specs.declared.freeze.Holder.TheVariants.{Timer}
 use Rattle.freeze_ledger.specs.declared.freeze.Freeze.{Freeze}
 use Rattle.helpers.specs.declared.limits.HelperLimits.{HelperLimits}
-use Rattle.world_calls.specs.declared.call_refusal.CallRefusal.TheVariants.{Limit, GoesBack}
+use Rattle.ccb.specs.declared.call_refusal.CallRefusal.TheVariants.{Limit, GoesBack}
 use Rattle.world_calls.specs.declared.call.Call.TheVariants.{Clock}
 use Rattle.world_calls.specs.declared.call_answer.CallAnswer.TheVariants as answers
 use Rattle.world_calls.specs.declared.record.Record.TheVariants.{Called}

@@ -10,7 +10,7 @@ use Rattle.helpers.specs.declared.limits.HelperSet.TheVariants.{Controllers}
 use Rattle.helpers.specs.declared.table.Helper.TheVariants as helpers
 use Rattle.helpers.specs.Table.{of_queues, row_of}
 use Rattle.world_calls.specs.declared.call.Call.TheVariants.{Dispatch, GuestFreeze}
-use Rattle.world_calls.specs.declared.call_refusal.CallRefusal.TheVariants.{Unknown, Limit, Frozen, NothingWaits, ControllerFrozen}
+use Rattle.ccb.specs.declared.call_refusal.CallRefusal.TheVariants.{Unknown, Limit, Frozen, NothingWaits, ControllerFrozen}
 use Rattle.world.specs.declared.ccb_state.CcbState.TheVariants.{Waiting, InRecovery}
 use Rattle.world.specs.World.{Setup, LiveCcb, LiveRun, World}
 use Rattle.world.specs.Told.{plain}
@@ -79,7 +79,7 @@ abbrev calls_13 : Event
 calls_13 = executes 1 (call (plain helpers.FreezeController))
 
 abbrev calls_14 : Event
-calls_14 = executes 1 (call (plain helpers.ControllerFrozen))
+calls_14 = executes 1 (call (plain helpers.ControllerFreezes))
 
 abbrev at_call : ℕ → List ℕ → List Freeze → World
 at_call helper held freezes = world_with (ccb_in 1 5 InRecovery ∷ []) (run_at helper 0 0 held false ∷ []) freezes 9

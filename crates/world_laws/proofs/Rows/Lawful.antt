@@ -20,7 +20,7 @@ use Rattle.world_laws.proofs.Rows.Worked.{of_helpers, program, queue_of, one_que
 -- a machine in the outermost function
 abbrev machine : ℕ → List (Option ℕ) → List ℕ → List ℕ → Bool → MachineState
 machine place registers context held disposed = record {
-  place = place;
+  pc = place;
   registers = registers;
   frames = unwritten_frame ∷ [];
   open_calls = [];

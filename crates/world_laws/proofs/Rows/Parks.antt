@@ -3,7 +3,7 @@ use Rattle.std.proofs.Common.{◌≡◌, true, false, [], ◌∷◌, Some, None,
 use Rattle.ccb.specs.Completion.{Outcome}
 use Rattle.ccb.specs.declared.cam_status.CamStatus.TheVariants.{CommandTimeout}
 use Rattle.helpers.specs.declared.limits.HelperLimits.{HelperLimits}
-use Rattle.world_calls.specs.declared.call_refusal.CallRefusal.TheVariants.{Unknown}
+use Rattle.ccb.specs.declared.call_refusal.CallRefusal.TheVariants.{Unknown}
 use Rattle.world_calls.specs.declared.call.Call.TheVariants.{Park, Resume}
 use Rattle.world_calls.specs.declared.call_answer.CallAnswer.TheVariants as answers
 use Rattle.world_calls.specs.declared.record.Record.TheVariants.{Called}

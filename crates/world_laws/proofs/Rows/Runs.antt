@@ -12,7 +12,7 @@ use Rattle.world_calls.specs.declared.record.Record.{Record}
 use Rattle.world_calls.specs.declared.call.Call.TheVariants.{Submit, Dispatch, Complete}
 use Rattle.world_calls.specs.declared.call_answer.CallAnswer.TheVariants as answers
 use Rattle.world_calls.specs.declared.record.Record.TheVariants.{Called, Advance}
-use Rattle.world_calls.specs.declared.call_refusal.CallRefusal.TheVariants.{NotActive, Frozen}
+use Rattle.ccb.specs.declared.call_refusal.CallRefusal.TheVariants.{NotActive, Frozen}
 use Rattle.world.specs.declared.ccb_state.CcbState.TheVariants.{Waiting}
 use Rattle.ccb.specs.Places.{device}
 use Rattle.world.specs.World.{LiveRun, World, opening}

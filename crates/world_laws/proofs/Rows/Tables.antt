@@ -7,7 +7,7 @@ use Rattle.bpf_semantics.specs.MachineState.{unwritten_frame}
 use Rattle.helpers.specs.declared.table.Helper.{Helper as HelperName}
 use Rattle.helpers.specs.declared.table.Helper.TheVariants as helpers
 use Rattle.helpers.specs.Table.{of_queues, row_of}
-use Rattle.world_calls.specs.declared.call_refusal.CallRefusal.TheVariants.{NoOpening, NothingWaits}
+use Rattle.ccb.specs.declared.call_refusal.CallRefusal.TheVariants.{NoOpening, NothingWaits}
 use Rattle.world.specs.declared.ccb_state.CcbState.TheVariants.{Waiting, Active, InRecovery}
 use Rattle.world.specs.World.{Setup, LiveRun, World, opening}
 use Rattle.world.specs.Told.{plain}
@@ -33,7 +33,7 @@ run_at number helper first second third = record {
   controller = 0;
   program = First (Call (Helper (pos helper))) ∷ [];
   machine = record {
-    place = 0;
+    pc = 0;
     registers = None ∷ Some first ∷ Some second ∷ Some third ∷ None ∷ None ∷ None ∷ None ∷ None ∷ None ∷ None ∷ [];
     frames = unwritten_frame ∷ [];
     open_calls = [];

@@ -1,14 +1,14 @@
 -- A run that is parked stays as it is until it is resumed.
 use Rattle.std.proofs.Common.{◌≡◌, ℕ, List, [], ◌∷◌, Bool, true, false, cond, Option, Some, None, inl, inr, refl, ap, sym, subst, ◌∙◌, arith}
 use Rattle.std.specs.Prelude.{not, ◌||◌}
-use Rattle.world_calls.specs.declared.call_refusal.CallRefusal.TheVariants.{Unknown}
+use Rattle.ccb.specs.declared.call_refusal.CallRefusal.TheVariants.{Unknown}
 use Rattle.std.specs.Option.{is_some, option_map}
 use Rattle.std.proofs.lemmas.Bool.{cases_Bool, cases_eq, cond-true, cond-false, ne_eqb, or_parts}
 use Rattle.std.proofs.lemmas.List.Sums.{sum_by-cons}
 use Rattle.world.specs.World.{Setup, LiveRun, World}
 use Rattle.world.specs.Lawful.{IsLawful}
 use Rattle.world.specs.Lookups.{ccb_of, run_of}
-use Rattle.world_calls.specs.declared.call.Call.TheVariants.{Submit, Dispatch, Complete, GuestFreeze, GuestRelease, Clock, Park, Resume}
+use Rattle.world_calls.specs.declared.call.Call.TheVariants.{Park, Resume}
 use Rattle.world_calls.specs.declared.call_answer.CallAnswer.TheVariants as answers
 use Rattle.world.specs.Event.{Instruction, Event, called, executes, Reply, replies}
 use Rattle.world.specs.ParkSteps.{with_out, parks, resumes}
@@ -48,18 +48,13 @@ parks_none before run reply after parked step = let none = sym (cond-false run.o
 
 -- so no event is its own but its resume
 not_own : (setup : Setup) (before : World) (number : ℕ) (run : LiveRun) (event : Event) (reply : Reply) (after : World) → run_of number before.runs.list ≡ Some run → run.out ≡ false → is_resume_of number event ≡ false → WorldStep setup before event reply after → is_own_of number event ≡ false
-not_own setup before number run (called (Submit queue priority retries)) reply after found parked other step = refl
-not_own setup before number run (called (Dispatch queue)) reply after found parked other step = refl
-not_own setup before number run (called (Complete outcome)) reply after found parked other step = refl
-not_own setup before number run (called (GuestFreeze place guest)) reply after found parked other step = refl
-not_own setup before number run (called (GuestRelease freeze)) reply after found parked other step = refl
-not_own setup before number run (called (Clock reading)) reply after found parked other step = refl
 not_own setup before number run (called (Park another)) reply after found parked other step =
     elim (cases_eq another number) [
       | inl same ↦ absurd (parks_none before run reply after parked (sym (ap (parks before) (ap (λ (n : ℕ). run_of n before.runs.list) same ∙ found)) ∙ step))
       | inr apart ↦ ne_eqb _ _ apart
     ]
 not_own setup before number run (called (Resume another)) reply after found parked other step = other
+not_own setup before number run (called another) reply after found parked other step = refl
 not_own setup before number run (executes another instruction) reply after found parked other step =
     elim (cases_eq another number) [
       | inl same ↦ absurd (takes_none setup before number another instruction reply after run found parked step same)

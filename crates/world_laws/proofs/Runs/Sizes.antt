@@ -118,7 +118,7 @@ module _ (m after : MachineState) (few : FewFrames m) where
       bytes = little_bytes (byte_len (store_width size)) word
 
       of_frames : (o : Option (List (List (Option ℕ)))) → frames_with 0 m.frames address bytes ≡ o
-          → option_map (λ (next : MachineState). record next { place = m.place + 1 }) (option_map (λ (frames : List (List (Option ℕ))). record m { frames = frames }) o) ≡ Some after → FewFrames after
+          → option_map (λ (next : MachineState). record next { pc = m.pc + 1 }) (option_map (λ (frames : List (List (Option ℕ))). record m { frames = frames }) o) ≡ Some after → FewFrames after
       of_frames None is made = absurd (let bad : None ≡ Some after = made in cc)
       of_frames (Some frames) is made = made_few _ after (written_still 0 m.frames address bytes frames is few) made
 
@@ -213,7 +213,7 @@ reached_small : (program : List Slot) (limits : HelperLimits) (n : ℕ) (m : Mac
 reached_small program limits zero m safe first = subst IsSmall (sym first.is) (entry_small first.context first.freeze)
 reached_small program limits (suc n) m safe (before, reached, inl step) =
     let small = reached_small program limits n before safe reached in
-    (subst (λ (hs : List ℕ). length hs ≤ 8) (sym (private_keeps program before m step).held) small.0, step_few before m small.1 (insn_at program before.place) step)
+    (subst (λ (hs : List ℕ). length hs ≤ 8) (sym (private_keeps program before m step).held) small.0, step_few before m small.1 (insn_at program before.pc) step)
 reached_small program limits (suc n) m safe (before, reached, inr (request, answer, asks, allowed)) =
     subst IsSmall (sym allowed.1)
     (answered_small limits before request answer (rule_at program limits n before request safe reached asks) (reached_small program limits n before safe reached))

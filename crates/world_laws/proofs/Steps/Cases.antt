@@ -14,8 +14,8 @@ use Rattle.freeze_ledger.specs.Freezes.{frozen, meets_limit, entry_of, without, 
 use Rattle.world_calls.specs.declared.call.Call.{Call}
 use Rattle.world_calls.specs.declared.call.Call.TheVariants.{Submit, Dispatch, Complete, GuestFreeze, GuestRelease, Clock, Park, Resume}
 use Rattle.world_calls.specs.declared.call_answer.CallAnswer.TheVariants as answers
-use Rattle.world_calls.specs.declared.call_refusal.CallRefusal.{CallRefusal}
-use Rattle.world_calls.specs.declared.call_refusal.CallRefusal.TheVariants.{Unknown, Limit, NotActive, GoesBack, Frozen, NoOpening}
+use Rattle.ccb.specs.declared.call_refusal.CallRefusal.{CallRefusal}
+use Rattle.ccb.specs.declared.call_refusal.CallRefusal.TheVariants.{Unknown, Limit, NotActive, GoesBack, Frozen, NoOpening}
 use Rattle.world.specs.declared.ccb_state.CcbState.TheVariants.{Waiting, Active}
 use Rattle.world.specs.Capacities.{last_reading}
 use Rattle.world.specs.World.{Setup, queue_count, LiveCcb, LiveRun, World}
@@ -34,7 +34,7 @@ use Rattle.world.specs.Laws.Headline.{is_turn_of}
 use Rattle.world.proofs.Lists.Found.{found_key}
 use Rattle.world.proofs.Lists.Entries.{freeze_key}
 use Rattle.world_laws.proofs.Steps.Refusing.{by_refusals, none_of}
-use Rattle.world_laws.proofs.Steps.Running.{some_is, GoesOn, Exits, private_parts, exit_parts}
+use Rattle.world_laws.proofs.Steps.Running.{some_is, StepParts, Exits, private_parts, exit_parts}
 use Rattle.world_laws.proofs.Steps.Calls.{Asks, asks_of}
 
 -- the call is refused: it is no run's step, changes no count, finishes nothing and gives no run a freeze
@@ -159,7 +159,7 @@ pub data Case (setup : Setup) (before : World) (event : Event) (reply : Reply) (
   releases_one : Releases before event reply after → Case setup before event reply after
   reads_clock : ReadsClock before event reply after → Case setup before event reply after
   turns_one : Turns before event reply after → Case setup before event reply after
-  goes_on_one : GoesOn before event reply after → Case setup before event reply after
+  goes_on_one : StepParts before event reply after → Case setup before event reply after
   asks_one : Asks setup before event reply after → Case setup before event reply after
   exits : Exits before event reply after → Case setup before event reply after
 

@@ -5,8 +5,8 @@ use Rattle.freeze_ledger.specs.declared.freeze.Holder.TheVariants.{Run}
 use Rattle.freeze_ledger.specs.declared.freeze.Freeze.{Freeze}
 use Rattle.freeze_ledger.specs.Freezes.{frozen, meets_limit, entry_of, without, handed_over}
 use Rattle.helpers.specs.declared.table.Helper.{Helper}
-use Rattle.helpers.specs.declared.table.Deed.{Deed}
-use Rattle.helpers.specs.declared.table.Deed.TheVariants as deeds
+use Rattle.helpers.specs.declared.table.HelperEffect.{HelperEffect}
+use Rattle.helpers.specs.declared.table.HelperEffect.TheVariants as effects
 use Rattle.helpers.specs.declared.columns.Gives.{Gives}
 use Rattle.helpers.specs.declared.columns.Gives.TheVariants.{Number, NewFreeze}
 use Rattle.helpers.specs.declared.columns.Change.{Change}
@@ -26,7 +26,7 @@ use Rattle.world.specs.Event.{call, executes, Reply, result}
 use Rattle.world.specs.FreezeSteps.{frozen_with, froze}
 use Rattle.world.specs.CcbSteps.{ended_with}
 use Rattle.world.specs.RunSteps.{is_run, answers}
-use Rattle.world.specs.Laws.FreezeLaws.{Calls, MovesByDeed, MovesCounts}
+use Rattle.world.specs.Laws.FreezeLaws.{Calls, MovesByEffect, MovesCounts}
 use Rattle.world.specs.Laws.CcbLaws.{finished_by}
 use Rattle.world.specs.Laws.TookGave.{taken_as, taken_by, asked}
 use Rattle.world.specs.Laws.Headline.{disposes, is_disposing}
@@ -74,7 +74,7 @@ pub record TakesOne (setup : Setup) (before : World) (run : LiveRun) (request : 
 
 -- one that the run holds goes
 pub record GivesOneBack (before : World) (run : LiveRun) (request : Request) (given : Answer) (between : World) : Type 0 where
-  pub deed_is : (row_of request.helper).deed ≡ deeds.GiveBack
+  pub deed_is : (row_of request.helper).effect ≡ effects.GiveBack
   pub machine_is : (row_of request.helper).machine ≡ changes.GivesUp
   pub gives_is : (row_of request.helper).gives ≡ Number 0 254
   pub freeze : Freeze
@@ -86,7 +86,7 @@ pub record GivesOneBack (before : World) (run : LiveRun) (request : Request) (gi
 
 -- one that the run holds is a timer's from now on
 pub record HandsOneOver (before : World) (run : LiveRun) (request : Request) (given : Answer) (between : World) : Type 0 where
-  pub deed_is : (row_of request.helper).deed ≡ deeds.HandOver
+  pub deed_is : (row_of request.helper).effect ≡ effects.HandOver
   pub machine_is : (row_of request.helper).machine ≡ changes.GivesUp
   pub gives_is : (row_of request.helper).gives ≡ Number 0 0
   pub freeze : Freeze
@@ -121,7 +121,7 @@ pub record HasItsCcb (before : World) (run : LiveRun) : Type 0 where
 
 -- it waits again
 pub record RequeuesOne (before : World) (run : LiveRun) (request : Request) (between : World) : Type 0 where
-  pub deed_is : (row_of request.helper).deed ≡ deeds.Requeue
+  pub deed_is : (row_of request.helper).effect ≡ effects.Requeue
   pub machine_is : (row_of request.helper).machine ≡ changes.Disposes
   pub told_is : told_of request ≡ plain request.helper
   pub its : HasItsCcb before run
@@ -131,7 +131,7 @@ pub record RequeuesOne (before : World) (run : LiveRun) (request : Request) (bet
 
 -- it ends with the code that is told
 pub record EndsOne (before : World) (run : LiveRun) (request : Request) (between : World) : Type 0 where
-  pub deed_is : (row_of request.helper).deed ≡ deeds.Finish
+  pub deed_is : (row_of request.helper).effect ≡ effects.Finish
   pub machine_is : (row_of request.helper).machine ≡ changes.Disposes
   pub told_is : told_of request ≡ finishes request.helper request.arguments.first
   pub its : HasItsCcb before run
@@ -169,9 +169,9 @@ takes_by gives request is run number r0 =
     ap (λ (h : Helper). taken_as (row_of h).gives run number r0) (helper_told request) ∙ ap (λ (g : Gives). taken_as g run number r0) is
 
 -- how it moves counts
-pub moves_by : (deed : Deed) (request : Request) → (row_of request.helper).deed ≡ deed → (before : World) (number : ℕ) (reply : Reply) (after : World) → MovesByDeed deed before number reply after → MovesCounts before (executes number (call (told_of request))) reply after
-moves_by deed request is before number reply after moves =
-    subst (λ (d : Deed). MovesByDeed d before number reply after) (sym (ap (λ (h : Helper). (row_of h).deed) (helper_told request) ∙ is)) moves
+pub moves_by : (effect : HelperEffect) (request : Request) → (row_of request.helper).effect ≡ effect → (before : World) (number : ℕ) (reply : Reply) (after : World) → MovesByEffect effect before number reply after → MovesCounts before (executes number (call (told_of request))) reply after
+moves_by effect request is before number reply after moves =
+    subst (λ (d : HelperEffect). MovesByEffect d before number reply after) (sym (ap (λ (h : Helper). (row_of h).effect) (helper_told request) ∙ is)) moves
 
 -- whether it disposes of a CCB
 pub disposes_by : (change : Change) (request : Request) → (row_of request.helper).machine ≡ change → is_disposing (told_of request) ≡ disposes change

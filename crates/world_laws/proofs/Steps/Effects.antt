@@ -230,31 +230,31 @@ its_ccb before event instruction it its =
     })
 
 call_ccbs : (setup : Setup) (before : World) (event : Event) (reply : Reply) (after : World) → (it : Asks setup before event reply after) → CcbDeed before it.it.run it.request it.given it.between → CcbMove setup before event reply after × (after.ended ≡ before.ended ++ finished_by before event reply)
-call_ccbs setup before event reply after it (leaves_ccbs deed) =
-    let live_is : after.transport.live ≡ before.transport.live = ap (λ (x : Reply × World). x.1.transport.live) it.answer ∙ deed.live_is in
-    let greatest_is : after.transport.greatest_ccb ≡ before.transport.greatest_ccb = ap (λ (x : Reply × World). x.1.transport.greatest_ccb) it.answer ∙ deed.greatest_is in
-    let ended_is : after.ended ≡ before.ended = ap (λ (x : Reply × World). x.1.ended) it.answer ∙ deed.ended_is in
-    let none : finished_by before event reply ≡ [] = finished_by_call setup before event reply after (told_of it.request) it refl ∙ deed.ends_none it.it.number reply in
+call_ccbs setup before event reply after it (leaves_ccbs effect) =
+    let live_is : after.transport.live ≡ before.transport.live = ap (λ (x : Reply × World). x.1.transport.live) it.answer ∙ effect.live_is in
+    let greatest_is : after.transport.greatest_ccb ≡ before.transport.greatest_ccb = ap (λ (x : Reply × World). x.1.transport.greatest_ccb) it.answer ∙ effect.greatest_is in
+    let ended_is : after.ended ≡ before.ended = ap (λ (x : Reply × World). x.1.ended) it.answer ∙ effect.ended_is in
+    let none : finished_by before event reply ≡ [] = finished_by_call setup before event reply after (told_of it.request) it refl ∙ effect.ends_none it.it.number reply in
     (ccbs_stay live_is greatest_is none, none_ended before after event reply none ended_is)
-call_ccbs setup before event reply after it (requeues_one deed) =
-    let new : LiveCcb = record { ccb = requeued deed.its.live.ccb it.request.arguments.first; state = Waiting } in
-    let live_is : after.transport.live ≡ with_ccb new before.transport.live = ap (λ (x : Reply × World). x.1.transport.live) it.answer ∙ deed.live_is in
-    let greatest_is : after.transport.greatest_ccb ≡ before.transport.greatest_ccb = ap (λ (x : Reply × World). x.1.transport.greatest_ccb) it.answer ∙ deed.greatest_is in
-    let ended_is : after.ended ≡ before.ended = ap (λ (x : Reply × World). x.1.ended) it.answer ∙ deed.ended_is in
-    let none : finished_by before event reply ≡ [] = finished_by_call setup before event reply after (plain it.request.helper) it deed.told_is in (
-      ccb_changes deed.its.live new (ccb_found _ before.transport.live deed.its.live deed.its.found) refl (inl refl) (its_ccb before event _ it.it deed.its) live_is greatest_is none,
+call_ccbs setup before event reply after it (requeues_one effect) =
+    let new : LiveCcb = record { ccb = requeued effect.its.live.ccb it.request.arguments.first; state = Waiting } in
+    let live_is : after.transport.live ≡ with_ccb new before.transport.live = ap (λ (x : Reply × World). x.1.transport.live) it.answer ∙ effect.live_is in
+    let greatest_is : after.transport.greatest_ccb ≡ before.transport.greatest_ccb = ap (λ (x : Reply × World). x.1.transport.greatest_ccb) it.answer ∙ effect.greatest_is in
+    let ended_is : after.ended ≡ before.ended = ap (λ (x : Reply × World). x.1.ended) it.answer ∙ effect.ended_is in
+    let none : finished_by before event reply ≡ [] = finished_by_call setup before event reply after (plain it.request.helper) it effect.told_is in (
+      ccb_changes effect.its.live new (ccb_found _ before.transport.live effect.its.live effect.its.found) refl (inl refl) (its_ccb before event _ it.it effect.its) live_is greatest_is none,
       none_ended before after event reply none ended_is,
     )
-call_ccbs setup before event reply after it (ends_one deed) =
-    let old : LiveCcb = deed.its.live in
-    let live_is : after.transport.live ≡ leave ccb_key old.ccb.number.0 before.transport.live = ap (λ (x : Reply × World). x.1.transport.live) it.answer ∙ deed.live_is in
-    let greatest_is : after.transport.greatest_ccb ≡ before.transport.greatest_ccb = ap (λ (x : Reply × World). x.1.transport.greatest_ccb) it.answer ∙ deed.greatest_is in
-    let named : old.ccb.number.0 ≡ it.it.run.ccb = found_key ccb_key it.it.run.ccb before.transport.live old deed.its.found in
+call_ccbs setup before event reply after it (ends_one effect) =
+    let old : LiveCcb = effect.its.live in
+    let live_is : after.transport.live ≡ leave ccb_key old.ccb.number.0 before.transport.live = ap (λ (x : Reply × World). x.1.transport.live) it.answer ∙ effect.live_is in
+    let greatest_is : after.transport.greatest_ccb ≡ before.transport.greatest_ccb = ap (λ (x : Reply × World). x.1.transport.greatest_ccb) it.answer ∙ effect.greatest_is in
+    let named : old.ccb.number.0 ≡ it.it.run.ccb = found_key ccb_key it.it.run.ccb before.transport.live old effect.its.found in
     let one : finished_by before event reply ≡ one_ended old.ccb.number.0 it.request.arguments.first =
-    finished_by_call setup before event reply after (finishes it.request.helper it.request.arguments.first) it deed.told_is
+    finished_by_call setup before event reply after (finishes it.request.helper it.request.arguments.first) it effect.told_is
     ∙ (ap (finished_by_run it.request.arguments.first) it.it.found ∙ ap (λ (n : ℕ). one_ended n it.request.arguments.first) (sym named)) in (
-      ccb_leaves old.ccb.number.0 it.request.arguments.first old (ccb_found _ before.transport.live old deed.its.found) (its_ccb before event _ it.it deed.its) live_is greatest_is one,
-      ap (λ (x : Reply × World). x.1.ended) it.answer ∙ (deed.ended_is ∙ sym (ap (λ (l : List EndedCcb). before.ended ++ l) one)),
+      ccb_leaves old.ccb.number.0 it.request.arguments.first old (ccb_found _ before.transport.live old effect.its.found) (its_ccb before event _ it.it effect.its) live_is greatest_is one,
+      ap (λ (x : Reply × World). x.1.ended) it.answer ∙ (effect.ended_is ∙ sym (ap (λ (l : List EndedCcb). before.ended ++ l) one)),
     )
 
 -- what the run holds goes or changes hands by its own step
@@ -263,13 +263,13 @@ its_freeze before event instruction it freeze its run held =
     subst (λ (k : ℕ). is_step_of k event ≡ true) (one_run it.run.number run freeze.holder its held) (its_own_step before event instruction it)
 
 call_freezes : (setup : Setup) (before : World) (event : Event) (reply : Reply) (after : World) → KeepsLists setup before → (it : Asks setup before event reply after) → FreezeDeed setup before it.it.run it.request it.given it.between → FreezeMove setup before event after
-call_freezes setup before event reply after kept it (leaves_freezes deed) =
-    freezes_stay (ap (λ (x : Reply × World). x.1.transport.freezes) it.answer ∙ deed.freezes_is) (ap (λ (x : Reply × World). x.1.transport.greatest_freeze) it.answer ∙ deed.greatest_is)
-call_freezes setup before event reply after kept it (takes_one deed) =
+call_freezes setup before event reply after kept it (leaves_freezes effect) =
+    freezes_stay (ap (λ (x : Reply × World). x.1.transport.freezes) it.answer ∙ effect.freezes_is) (ap (λ (x : Reply × World). x.1.transport.greatest_freeze) it.answer ∙ effect.greatest_is)
+call_freezes setup before event reply after kept it (takes_one effect) =
     let named : it.it.run.number ≡ it.it.number = found_key run_key it.it.number before.runs.list it.it.run it.it.found in
     let among : IsAmong setup it.it.run = (all_found run_key (λ (r : LiveRun). r.queue < queue_count setup) it.it.number before.runs.list it.it.run kept.runs.queues it.it.found, all_found run_key (λ (r : LiveRun). r.controller ≡ (queue_setup setup r.queue).controller) it.it.number before.runs.list it.it.run kept.runs.controllers it.it.found) in
-    freeze_enters deed.place (Run it.it.run.number) (λ names. deed.known names among) deed.room
-    (ap (λ (x : Reply × World). x.1.transport.freezes) it.answer ∙ deed.freezes_is) (ap (λ (x : Reply × World). x.1.transport.greatest_freeze) it.answer ∙ deed.greatest_is)
+    freeze_enters effect.place (Run it.it.run.number) (λ names. effect.known names among) effect.room
+    (ap (λ (x : Reply × World). x.1.transport.freezes) it.answer ∙ effect.freezes_is) (ap (λ (x : Reply × World). x.1.transport.greatest_freeze) it.answer ∙ effect.greatest_is)
     (record {
       whose = λ run its. inr (subst (λ (k : ℕ). is_step_of k event ≡ true) (eqb-true _ _ its) (its_own_step before event _ it.it));
       live = λ run its.
@@ -278,21 +278,21 @@ call_freezes setup before event reply after kept it (takes_one deed) =
           (sym (ap (run_of it.it.run.number) (call_runs setup before event reply after it) ∙ put_same run_key (record it.it.run { machine = answered it.request it.given it.it.run.machine }) before.runs.list it.it.run (run_found _ before.runs.list it.it.run it.it.found)))
           refl);
     })
-call_freezes setup before event reply after kept it (gives_one_back deed) =
-    freezes_leave (λ (f : Freeze). eqb f.number it.request.arguments.first) (ap (λ (x : Reply × World). x.1.transport.freezes) it.answer ∙ deed.freezes_is) (ap (λ (x : Reply × World). x.1.transport.greatest_freeze) it.answer ∙ deed.greatest_is)
+call_freezes setup before event reply after kept it (gives_one_back effect) =
+    freezes_leave (λ (f : Freeze). eqb f.number it.request.arguments.first) (ap (λ (x : Reply × World). x.1.transport.freezes) it.answer ∙ effect.freezes_is) (ap (λ (x : Reply × World). x.1.transport.greatest_freeze) it.answer ∙ effect.greatest_is)
     (λ n f entry goes run held.
-    let named : deed.freeze.number ≡ it.request.arguments.first = found_key freeze_key it.request.arguments.first before.transport.freezes deed.freeze deed.entry in
-    let same = same_entry before.transport.freezes n it.request.arguments.first f deed.freeze entry deed.entry (eqb-true _ _ goes ∙ sym named) in
-    its_freeze before event _ it.it f (subst (λ (x : Freeze). is_run it.it.run.number x.holder ≡ true) (sym same) deed.its) run held)
-call_freezes setup before event reply after kept it (hands_one_over deed) =
-    let old : Freeze = deed.freeze in
+    let named : effect.freeze.number ≡ it.request.arguments.first = found_key freeze_key it.request.arguments.first before.transport.freezes effect.freeze effect.entry in
+    let same = same_entry before.transport.freezes n it.request.arguments.first f effect.freeze entry effect.entry (eqb-true _ _ goes ∙ sym named) in
+    its_freeze before event _ it.it f (subst (λ (x : Freeze). is_run it.it.run.number x.holder ≡ true) (sym same) effect.its) run held)
+call_freezes setup before event reply after kept it (hands_one_over effect) =
+    let old : Freeze = effect.freeze in
     let due : ℕ = before.transport.clock + it.request.arguments.second in
-    let named : old.number ≡ it.request.arguments.first = found_key freeze_key it.request.arguments.first before.transport.freezes old deed.entry in
+    let named : old.number ≡ it.request.arguments.first = found_key freeze_key it.request.arguments.first before.transport.freezes old effect.entry in
     freeze_changes old (record old { holder = Timer due })
-    (subst (λ (n : ℕ). entry_of n before.transport.freezes ≡ Some old) (sym named) deed.entry) refl
-    (ap (λ (x : Reply × World). x.1.transport.freezes) it.answer ∙ (deed.freezes_is ∙ handed_is_put it.request.arguments.first due 0 before.transport.freezes before.transport.greatest_freeze old kept.freezes.numbered deed.entry))
-    (ap (λ (x : Reply × World). x.1.transport.greatest_freeze) it.answer ∙ deed.greatest_is)
-    (record { owned = run_is_owned it.it.run.number old.holder deed.its; timed = refl; whose = λ run held. its_freeze before event _ it.it old deed.its run held })
+    (subst (λ (n : ℕ). entry_of n before.transport.freezes ≡ Some old) (sym named) effect.entry) refl
+    (ap (λ (x : Reply × World). x.1.transport.freezes) it.answer ∙ (effect.freezes_is ∙ handed_is_put it.request.arguments.first due 0 before.transport.freezes before.transport.greatest_freeze old kept.freezes.numbered effect.entry))
+    (ap (λ (x : Reply × World). x.1.transport.greatest_freeze) it.answer ∙ effect.greatest_is)
+    (record { owned = run_is_owned it.it.run.number old.holder effect.its; timed = refl; whose = λ run held. its_freeze before event _ it.it old effect.its run held })
 
 -- what it is answered from
 call_answers : (setup : Setup) (before : World) (event : Event) (reply : Reply) (after : World) → Asks setup before event reply after → AnswerMove before after
@@ -305,7 +305,7 @@ call_answers setup before event reply after it =
 
 -- what a call takes it takes for its own run
 call_taken : (setup : Setup) (before : World) (event : Event) (reply : Reply) (after : World) (run : ℕ) → instruction_of run event ≡ None → (it : Asks setup before event reply after) → FreezeDeed setup before it.it.run it.request it.given it.between → taken_by run event reply ≡ []
-call_taken setup before event reply after run idle it deed = by_deed deed
+call_taken setup before event reply after run idle it effect = by_effect effect
   where
     -- by its helper's row and its answer alone
     by_row : (gives : Gives) (given : Answer) → (row_of it.request.helper).gives ≡ gives → it.given ≡ given → taken_by run event reply ≡ taken_as gives run it.it.number given.r0
@@ -316,11 +316,11 @@ call_taken setup before event reply after run idle it deed = by_deed deed
         let own : instruction_of run event ≡ Some (call (told_of it.request)) = subst (λ (n : ℕ). instruction_of n event ≡ Some (call (told_of it.request))) same (its_instruction before event _ it.it) in
         let bad : None ≡ Some (call (told_of it.request)) = sym idle ∙ own in cc
 
-    by_deed : FreezeDeed setup before it.it.run it.request it.given it.between → taken_by run event reply ≡ []
-    by_deed (leaves_freezes deed) = call_takes setup before event reply after it run it.given refl ∙ deed.taken run it.it.number
-    by_deed (takes_one deed) = by_row NewFreeze _ deed.gives_is deed.given_is ∙ given_to_other run it.it.number (before.transport.greatest_freeze + 1) not_own
-    by_deed (gives_one_back deed) = by_row (Number 0 254) _ deed.gives_is deed.given_is
-    by_deed (hands_one_over deed) = by_row (Number 0 0) _ deed.gives_is deed.given_is
+    by_effect : FreezeDeed setup before it.it.run it.request it.given it.between → taken_by run event reply ≡ []
+    by_effect (leaves_freezes effect) = call_takes setup before event reply after it run it.given refl ∙ effect.taken run it.it.number
+    by_effect (takes_one effect) = by_row NewFreeze _ effect.gives_is effect.given_is ∙ given_to_other run it.it.number (before.transport.greatest_freeze + 1) not_own
+    by_effect (gives_one_back effect) = by_row (Number 0 254) _ effect.gives_is effect.given_is
+    by_effect (hands_one_over effect) = by_row (Number 0 0) _ effect.gives_is effect.given_is
 
 -- what each step does
 pub effect_of : (setup : Setup) (before : World) (event : Event) (reply : Reply) (after : World) → KeepsLists setup before → Case setup before event reply after → Effect setup before event reply after

@@ -128,22 +128,22 @@ one_turns before event reply after it number run found =
 
 -- the answer is one that the run may get
 call_allowed : (setup : Setup) (before : World) (run : LiveRun) (request : Request) (given : Answer) (between : World) → AnswersFrom setup before run → run.machine.held ≡ held_by run.number before.transport.freezes → FreezeDeed setup before run request given between → IsAnswer run.machine request given
-call_allowed setup before run request given between from held (leaves_freezes deed) = deed.allowed from
-call_allowed setup before run request given between from held (takes_one deed) =
-    let room = room_from deed.place before.transport.freezes before.transport.greatest_freeze deed.room in
+call_allowed setup before run request given between from held (leaves_freezes effect) = effect.allowed from
+call_allowed setup before run request given between from held (takes_one effect) =
+    let room = room_from effect.place before.transport.freezes before.transport.greatest_freeze effect.room in
     let fresh : is_held run.machine.held (before.transport.greatest_freeze + 1) ≡ false =
     ap (λ (ns : List ℕ). is_held ns (before.transport.greatest_freeze + 1)) held ∙ none_above run.number (before.transport.greatest_freeze + 1) before.transport.freezes before.transport.greatest_freeze from.kept.freezes.numbered (omega arith) in
-    rw (deed.gives_is, deed.machine_is, deed.given_is) (inr (omega arith, omega (arith, room.numbers), fresh), tt)
-call_allowed setup before run request given between from held (gives_one_back deed) =
+    rw (effect.gives_is, effect.machine_is, effect.given_is) (inr (omega arith, omega (arith, room.numbers), fresh), tt)
+call_allowed setup before run request given between from held (gives_one_back effect) =
     let number : ℕ = request.arguments.first in
-    let named : deed.freeze.number ≡ number = found_key freeze_key number before.transport.freezes deed.freeze deed.entry in
-    rw (deed.gives_is, deed.machine_is, deed.given_is)
-    ((omega arith, subst (λ (n : ℕ). frozen_with deed.freeze (without n before.transport.freezes) ≤ 254) named (count_after setup before number deed.freeze from.kept.freezes deed.entry)), tt)
-call_allowed setup before run request given between from held (hands_one_over deed) = rw (deed.gives_is, deed.machine_is, deed.given_is) ((omega arith, omega arith), tt)
+    let named : effect.freeze.number ≡ number = found_key freeze_key number before.transport.freezes effect.freeze effect.entry in
+    rw (effect.gives_is, effect.machine_is, effect.given_is)
+    ((omega arith, subst (λ (n : ℕ). frozen_with effect.freeze (without n before.transport.freezes) ≤ 254) named (count_after setup before number effect.freeze from.kept.freezes effect.entry)), tt)
+call_allowed setup before run request given between from held (hands_one_over effect) = rw (effect.gives_is, effect.machine_is, effect.given_is) ((omega arith, omega arith), tt)
 
 -- what the run holds with the answer
 call_holding : (setup : Setup) (before : World) (event : Event) (reply : Reply) (after : World) → FreezeLimits setup before → (it : Asks setup before event reply after) → FreezeDeed setup before it.it.run it.request it.given it.between → Holding before event reply after it.it.number it.it.run (call (told_of it.request)) (answered it.request it.given it.it.run.machine)
-call_holding setup before event reply after kept it = by_deed
+call_holding setup before event reply after kept it = by_effect
   where
     number : ℕ
     number = it.it.number
@@ -169,31 +169,31 @@ call_holding setup before event reply after kept it = by_deed
     held_as : (change : Change) (given : Answer) → (row_of it.request.helper).machine ≡ change → it.given ≡ given → (answered it.request it.given run.machine).held ≡ (changed_by change it.request.arguments given (after_call run.machine given.r0)).held
     held_as change given machine_is given_is = λ i. (changed_by (machine_is i) it.request.arguments (given_is i) (after_call run.machine (given_is i).r0)).held
 
-    by_deed : FreezeDeed setup before run it.request it.given it.between → Holding before event reply after number run (call (told_of it.request)) (answered it.request it.given run.machine)
-    by_deed (leaves_freezes deed) =
-        holds_the_same deed.held (freezes_is ∙ deed.freezes_is) (ap asked it.call_is ∙ deed.keeps) (call_takes setup before event reply after it number it.given refl ∙ deed.taken number number)
-    by_deed (takes_one deed) =
+    by_effect : FreezeDeed setup before run it.request it.given it.between → Holding before event reply after number run (call (told_of it.request)) (answered it.request it.given run.machine)
+    by_effect (leaves_freezes effect) =
+        holds_the_same effect.held (freezes_is ∙ effect.freezes_is) (ap asked it.call_is ∙ effect.keeps) (call_takes setup before event reply after it number it.given refl ∙ effect.taken number number)
+    by_effect (takes_one effect) =
         let next : ℕ = before.transport.greatest_freeze + 1 in
         let above : eqb next 0 ≡ false = ne_eqb _ _ (λ e. omega (arith, e)) in
-        holds_one_more (record { number = next; place = deed.place; holder = Run run.number }) refl (eq-eqb _ _ named)
-        (held_as changes.Holds (answer_number next) deed.machine_is deed.given_is ∙ cond-false (eqb next 0) run.machine.held (run.machine.held ++ next ∷ []) above)
-        (freezes_is ∙ deed.freezes_is) (ap (λ (x : Reply × World). x.1.transport.greatest_freeze) it.answer ∙ deed.greatest_is) (given_as changes.Holds deed.machine_is)
-        (takes NewFreeze (answer_number next) deed.gives_is deed.given_is
+        holds_one_more (record { number = next; place = effect.place; holder = Run run.number }) refl (eq-eqb _ _ named)
+        (held_as changes.Holds (answer_number next) effect.machine_is effect.given_is ∙ cond-false (eqb next 0) run.machine.held (run.machine.held ++ next ∷ []) above)
+        (freezes_is ∙ effect.freezes_is) (ap (λ (x : Reply × World). x.1.transport.greatest_freeze) it.answer ∙ effect.greatest_is) (given_as changes.Holds effect.machine_is)
+        (takes NewFreeze (answer_number next) effect.gives_is effect.given_is
         ∙ cond-true (eqb number number && not (eqb next 0)) (next ∷ []) [] (and_from (eqb number number) (not (eqb next 0)) (eq-eqb number number refl) (not_from_false _ above)))
-    by_deed (gives_one_back deed) =
-        holds_one_fewer number_in_R1 deed.freeze deed.entry (subst (λ (n : ℕ). is_run n deed.freeze.holder ≡ true) named deed.its)
-        (held_as changes.GivesUp it.given deed.machine_is refl) (ap (entries_of number) (freezes_is ∙ deed.freezes_is)) (given_as changes.GivesUp deed.machine_is)
-        (takes (Number 0 254) it.given deed.gives_is refl)
-    by_deed (hands_one_over deed) =
+    by_effect (gives_one_back effect) =
+        holds_one_fewer number_in_R1 effect.freeze effect.entry (subst (λ (n : ℕ). is_run n effect.freeze.holder ≡ true) named effect.its)
+        (held_as changes.GivesUp it.given effect.machine_is refl) (ap (entries_of number) (freezes_is ∙ effect.freezes_is)) (given_as changes.GivesUp effect.machine_is)
+        (takes (Number 0 254) it.given effect.gives_is refl)
+    by_effect (hands_one_over effect) =
         let due : ℕ = before.transport.clock + it.request.arguments.second in
-        let new : Freeze = record deed.freeze { holder = Timer due } in
-        let is_number : deed.freeze.number ≡ number_in_R1 = found_key freeze_key number_in_R1 before.transport.freezes deed.freeze deed.entry in
-        holds_one_fewer number_in_R1 deed.freeze deed.entry (subst (λ (n : ℕ). is_run n deed.freeze.holder ≡ true) named deed.its)
-        (held_as changes.GivesUp it.given deed.machine_is refl)
-        (ap (entries_of number) (freezes_is ∙ (deed.freezes_is ∙ handed_is_put number_in_R1 due 0 before.transport.freezes before.transport.greatest_freeze deed.freeze kept.numbered deed.entry))
+        let new : Freeze = record effect.freeze { holder = Timer due } in
+        let is_number : effect.freeze.number ≡ number_in_R1 = found_key freeze_key number_in_R1 before.transport.freezes effect.freeze effect.entry in
+        holds_one_fewer number_in_R1 effect.freeze effect.entry (subst (λ (n : ℕ). is_run n effect.freeze.holder ≡ true) named effect.its)
+        (held_as changes.GivesUp it.given effect.machine_is refl)
+        (ap (entries_of number) (freezes_is ∙ (effect.freezes_is ∙ handed_is_put number_in_R1 due 0 before.transport.freezes before.transport.greatest_freeze effect.freeze kept.numbered effect.entry))
         ∙ (entries_put number new before.transport.freezes refl ∙ ap (λ (n : ℕ). entries_of number (without n before.transport.freezes)) is_number))
-        (given_as changes.GivesUp deed.machine_is)
-        (takes (Number 0 0) it.given deed.gives_is refl)
+        (given_as changes.GivesUp effect.machine_is)
+        (takes (Number 0 0) it.given effect.gives_is refl)
 
 -- and what becomes of its CCB
 disposed_by : (setup : Setup) (before : World) (event : Event) (reply : Reply) (after : World) → (it : Asks setup before event reply after) → (row_of it.request.helper).machine ≡ changes.Disposes → (answered it.request it.given it.it.run.machine).disposed ≡ true
@@ -201,9 +201,9 @@ disposed_by setup before event reply after it is =
     ap (λ (c : Change). (changed_by c it.request.arguments it.given (after_call it.it.run.machine it.given.r0)).disposed) is
 
 call_disposing : (setup : Setup) (before : World) (event : Event) (reply : Reply) (after : World) → (it : Asks setup before event reply after) → CcbDeed before it.it.run it.request it.given it.between → Disposing before after it.it.run (call (told_of it.request)) (answered it.request it.given it.it.run.machine)
-call_disposing setup before event reply after it (leaves_ccbs deed) = leaves_its_ccb deed.disposed (ap (λ (x : Reply × World). x.1.transport.live) it.answer ∙ deed.live_is) deed.calm
-call_disposing setup before event reply after it (requeues_one deed) = disposes_of_it deed.its.fresh (disposed_by setup before event reply after it deed.machine_is) (disposes_by changes.Disposes it.request deed.machine_is)
-call_disposing setup before event reply after it (ends_one deed) = disposes_of_it deed.its.fresh (disposed_by setup before event reply after it deed.machine_is) (disposes_by changes.Disposes it.request deed.machine_is)
+call_disposing setup before event reply after it (leaves_ccbs effect) = leaves_its_ccb effect.disposed (ap (λ (x : Reply × World). x.1.transport.live) it.answer ∙ effect.live_is) effect.calm
+call_disposing setup before event reply after it (requeues_one effect) = disposes_of_it effect.its.fresh (disposed_by setup before event reply after it effect.machine_is) (disposes_by changes.Disposes it.request effect.machine_is)
+call_disposing setup before event reply after it (ends_one effect) = disposes_of_it effect.its.fresh (disposed_by setup before event reply after it effect.machine_is) (disposes_by changes.Disposes it.request effect.machine_is)
 
 pub fate_of : (setup : Setup) (before : World) (event : Event) (reply : Reply) (after : World) (number : ℕ) (run : LiveRun) → IsLawful setup → KeepsLimits setup before → HoldsWhatEntriesSay before → run_of number before.runs.list ≡ Some run → Case setup before event reply after → Fate before event reply after number run
 fate_of setup before event reply after number run lawful kept held found (refuses it) = unchanged before event reply after number run found (it.idle number) (ap (λ (w : World). w.runs.list) it.after_is)

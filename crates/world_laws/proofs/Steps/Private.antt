@@ -41,7 +41,7 @@ jumped m width condition offset (Some a) (Some b) after e = some_same m _ after 
 jumped m width condition offset (Some a) None after e = absurd cc
 jumped m width condition offset None b after e = absurd cc
 
-wrote : (m : MachineState) (frames : Option (List (List (Option ℕ)))) (after : MachineState) → option_map (λ next. moved_to next (m.place + 1)) (option_map (λ fs. record m { frames = fs }) frames) ≡ Some after → HasTheSame m after
+wrote : (m : MachineState) (frames : Option (List (List (Option ℕ)))) (after : MachineState) → option_map (λ next. moved_to next (m.pc + 1)) (option_map (λ fs. record m { frames = fs }) frames) ≡ Some after → HasTheSame m after
 wrote m (Some frames) after e = some_same m _ after e (record { held = refl; disposed = refl })
 wrote m None after e = absurd cc
 
@@ -76,4 +76,4 @@ found m None after e = absurd cc
 found m (Some insn) after e = did m insn after e
 
 pub private_keeps : (program : List Slot) (m after : MachineState) → private_step program m ≡ Some after → HasTheSame m after
-private_keeps program m after e = found m (insn_at program m.place) after e
+private_keeps program m after e = found m (insn_at program m.pc) after e

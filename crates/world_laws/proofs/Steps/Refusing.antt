@@ -2,8 +2,8 @@
 use Rattle.std.proofs.Common.{◌≡◌, ◌==◌, Bool, false, cond, List, [], ◌∷◌, Option, Some, inl, inr, refl, sym, ◌∙◌}
 use Rattle.std.specs.Prelude.{◌⊎◌}
 use Rattle.std.proofs.lemmas.Bool.{cases_Bool, cond-true, cond-false}
-use Rattle.world_calls.specs.declared.call_refusal.CallRefusal.{CallRefusal}
-use Rattle.world_calls.specs.contracts.call_refusal.CallRefusal as refusal
+use Rattle.ccb.specs.declared.call_refusal.CallRefusal.{CallRefusal}
+use Rattle.ccb.specs.contracts.call_refusal.CallRefusal as refusal
 use Rattle.world.specs.World.{World}
 use Rattle.world.specs.Event.{Reply, refused}
 use Rattle.world.specs.Refusals.{unless_refused}

@@ -3,8 +3,8 @@ use Rattle.std.proofs.Common.{◌≡◌, ℕ, ◌<◌, ◌≤◌, List, [], Opti
 use Rattle.std.proofs.lemmas.Bool.{and_parts, leb-true, ltb-true}
 use Rattle.std.proofs.lemmas.List.{length-map, get_or-map}
 use Rattle.helpers.specs.declared.limits.HelperLimits.{HelperLimits}
-use Rattle.helpers.specs.declared.columns.Asked.{Asked}
-use Rattle.helpers.specs.declared.columns.Asked.TheVariants.{Within, Table, Index}
+use Rattle.helpers.specs.declared.columns.ArgKind.{ArgKind}
+use Rattle.helpers.specs.declared.columns.ArgKind.TheVariants.{Within, Table, Index}
 use Rattle.helpers.specs.declared.request.Request.{Request}
 use Rattle.helpers.specs.Table.{asks, is_there, row_of}
 use Rattle.bpf_semantics.specs.MachineState.{MachineState}
@@ -30,13 +30,13 @@ rule_parts limits m request rule =
     record { need = all.0; first = those.0; second = seconds.0; third = thirds.0; there = thirds.1 }
 
 -- the first argument, and the second, by what is asked of it
-pub first_as : (limits : HelperLimits) (m : MachineState) (request : Request) (o : Option Asked) → (asks request.helper).first ≡ o → meets_rule limits m request ≡ true → meets limits m request.arguments o request.arguments.first ≡ true
+pub first_as : (limits : HelperLimits) (m : MachineState) (request : Request) (o : Option ArgKind) → (asks request.helper).first ≡ o → meets_rule limits m request ≡ true → meets limits m request.arguments o request.arguments.first ≡ true
 first_as limits m request o is rule =
-    subst (λ (x : Option Asked). meets limits m request.arguments x request.arguments.first ≡ true) is (rule_parts limits m request rule).first
+    subst (λ (x : Option ArgKind). meets limits m request.arguments x request.arguments.first ≡ true) is (rule_parts limits m request rule).first
 
-pub second_as : (limits : HelperLimits) (m : MachineState) (request : Request) (o : Option Asked) → (asks request.helper).second ≡ o → meets_rule limits m request ≡ true → meets limits m request.arguments o request.arguments.second ≡ true
+pub second_as : (limits : HelperLimits) (m : MachineState) (request : Request) (o : Option ArgKind) → (asks request.helper).second ≡ o → meets_rule limits m request ≡ true → meets limits m request.arguments o request.arguments.second ≡ true
 second_as limits m request o is rule =
-    subst (λ (x : Option Asked). meets limits m request.arguments x request.arguments.second ≡ true) is (rule_parts limits m request rule).second
+    subst (λ (x : Option ArgKind). meets limits m request.arguments x request.arguments.second ≡ true) is (rule_parts limits m request rule).second
 
 -- tables are as long as the limits say
 has_word : (setup : Setup) (world : World) (table index : ℕ) → AnswerLimits setup world → ltb table (length setup.limits.table_lengths) ≡ true → ltb index (slice_index_or setup.limits.table_lengths table 0) ≡ true → HasWord world.runs.tables table index

@@ -24,7 +24,7 @@ pub record Executes (before : World) (event : Event) (instruction : Instruction)
   pub out : run.out ≡ true
 
 -- a private one
-pub record GoesOn (before : World) (event : Event) (reply : Reply) (after : World) : Type 0 where
+pub record StepParts (before : World) (event : Event) (reply : Reply) (after : World) : Type 0 where
   pub it : Executes before event private
   pub machine : MachineState
   pub step : private_step it.run.program it.run.machine ≡ Some machine
@@ -54,7 +54,7 @@ some_is p q e = let same : p ≡ q = cc in sym same
 pub pair_parts : (p q : Reply × World) → q ≡ p → (q.0 ≡ p.0) × (q.1 ≡ p.1)
 pair_parts p q e = (ap (λ (x : Reply × World). x.0) e, ap (λ (x : Reply × World). x.1) e)
 
-private_found : (before : World) (event : Event) (reply : Reply) (after : World) (it : Executes before event private) (o : Option MachineState) → private_step it.run.program it.run.machine ≡ o → option_map (λ (machine : MachineState). let x : Reply × World = (went_on, goes_on before it.run machine) in x) o ≡ Some (reply, after) → GoesOn before event reply after
+private_found : (before : World) (event : Event) (reply : Reply) (after : World) (it : Executes before event private) (o : Option MachineState) → private_step it.run.program it.run.machine ≡ o → option_map (λ (machine : MachineState). let x : Reply × World = (went_on, goes_on before it.run machine) in x) o ≡ Some (reply, after) → StepParts before event reply after
 private_found before event reply after it None step e = absurd cc
 private_found before event reply after it (Some machine) step e =
     let last = some_is _ _ e in
@@ -100,7 +100,7 @@ executes_found limits before number instruction reply after (Some run) found e =
 pub executes_parts : (setup : Setup) (before : World) (number : ℕ) (instruction : Instruction) (reply : Reply) (after : World) → WorldStep setup before (executes number instruction) reply after → Instructs setup.limits before number instruction reply after
 executes_parts setup before number instruction reply after e = executes_found setup.limits before number instruction reply after (run_of number before.runs.list) refl e
 
-pub private_parts : (setup : Setup) (before : World) (number : ℕ) (reply : Reply) (after : World) → WorldStep setup before (executes number private) reply after → GoesOn before (executes number private) reply after
+pub private_parts : (setup : Setup) (before : World) (number : ℕ) (reply : Reply) (after : World) → WorldStep setup before (executes number private) reply after → StepParts before (executes number private) reply after
 private_parts setup before number reply after e =
     let i = executes_parts setup before number private reply after e in
     private_found before (executes number private) reply after i.it (private_step i.it.run.program i.it.run.machine) refl i.step

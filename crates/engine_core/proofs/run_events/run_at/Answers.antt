@@ -6,7 +6,7 @@ use Rattle.bpf_semantics.specs.Reached.{Reached}
 use Rattle.engine_runs.specs.RunsState.{RunsState}
 use Rattle.engine_runs.specs.RunPlaces.{HasRunAt}
 use Rattle.engine_core.proofs.Parking.{known_run}
-use Rattle.engine_core.proofs.Unrecording.{stands_once}
+use Rattle.engine_core.proofs.Numbered.{stands_once}
 use Rattle.engine_core.proofs.run_events.run_at.Goals as goal
 
 pub program-requires : goal.program-requires

@@ -2,7 +2,7 @@ use Rattle.std.proofs.Common.{◌≡◌, ℕ, List, [], ◌∷◌, ◌++◌, sym
 use Rattle.std.proofs.lemmas.List.{get_or_read}
 use Rattle.bpf_insn.specs.declared.program.Slot.{Slot}
 use Rattle.explain_path.specs.Passes.{standing}
-use Rattle.explain_path.specs.Remaining.{GoesOn}
+use Rattle.explain_path.specs.Remaining.{StepsOn}
 use Rattle.explain_path.proofs.Remaining.{IsWalked, walked_first, walked_more, walked_all}
 use Rattle.explain_path.proofs.budget.longest_path.Goals as goal
 
@@ -24,7 +24,7 @@ loop-slot-preserved c =
     let at = standing c.loop-slot.at c.loop-slot.returns.items in
     let to = standing c.in_ok-at.at c.next_of.new.returns.items in
     walked_more program lengths c.loop-slot.slots.items c.push-in-loop-slot.new.self.items at to c.loop-slot._slot
-    (subst (λ (l : List ℕ). GoesOn program l at to) c.deref.ensures.value c.in_ok-at.ensures) c.in_ok-push-2.ensures.items c.loop-slot.invariant
+    (subst (λ (l : List ℕ). StepsOn program l at to) c.deref.ensures.value c.in_ok-at.ensures) c.in_ok-push-2.ensures.items c.loop-slot.invariant
 
 pub returns : goal.returns
 returns c =

@@ -1,6 +1,6 @@
 use Rattle.std.proofs.Common.{◌≡◌, ℕ, List, [], ◌∷◌, take, slice_index_or, sym, subst, false, rules}
 use Rattle.std.proofs.lemmas.List.{take_more}
-use Rattle.explain_path.specs.Passes.{Leads, Passes, begins, goes_on, standing}
+use Rattle.explain_path.specs.Passes.{StandingLeads, Passes, begins, goes_on, standing}
 use Rattle.explain_path.proofs.Paths.{no_path}
 use Rattle.explain_path.proofs.static_path.leads_on.Goals as goal
 
@@ -15,7 +15,7 @@ loop-slot-preserved c =
     let to = slice_index_or slots at 0 in
     let from = standing c.loop-slot.at c.loop-slot.returns.items in
     let there = standing to c.leads.new.returns.items in
-    let leads : Leads program from there = c.in_ok-leads.ensures.yes c.if-not-branch.false in
+    let leads : StandingLeads program from there = c.in_ok-leads.ensures.yes c.if-not-branch.false in
     subst (λ (passed : List ℕ). Passes program (0 ∷ passed) there) (sym (take_more slots at 0 c.loop-slot-test.true))
     (goes_on (0 ∷ take at slots) from there c.loop-slot.invariant leads)
 

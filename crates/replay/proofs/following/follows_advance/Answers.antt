@@ -1,6 +1,6 @@
 use Rattle.std.proofs.Common.{Option, subst}
 use Rattle.world_calls.specs.declared.record.Record.{Record}
-use Rattle.engine_core.specs.Unrecorded.{Advances}
+use Rattle.engine_core.specs.ByNumber.{Advances}
 use Rattle.replay.proofs.Followed.{advanced_so}
 use Rattle.replay.proofs.following.follows_advance.Goals as goal
 

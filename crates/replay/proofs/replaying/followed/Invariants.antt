@@ -1,6 +1,6 @@
 -- the records so far are behind the engine, and the others are those that are left
 use Rattle.std.proofs.Common.{◌≡◌, ◌++◌, map, length}
-use Rattle.engine_core.specs.Unrecorded.{IsBehind}
+use Rattle.engine_core.specs.ByNumber.{IsBehind}
 use Rattle.replay.proofs.replaying.followed.Given as goal
 
 abbrev pub invariant-loop-record : goal.invariant-loop-record

@@ -1,8 +1,8 @@
 use Rattle.std.proofs.Common.{◌≡◌, refl, ap, ◌∙◌, arith, rules}
 use Rattle.engine_core.specs.RunState.{RunState}
 use Rattle.engine_core.specs.declared.event.Event.TheVariants.{Advance}
-use Rattle.engine_core.specs.declared.reply.Given.{Given as WhatIsGiven}
-use Rattle.engine_core.specs.declared.reply.Reply.TheVariants.{Given}
+use Rattle.engine_core.specs.declared.reply.Success.{Success as WhatIsGiven}
+use Rattle.engine_core.specs.declared.reply.Reply.TheVariants.{Success}
 use Rattle.engine_lock.specs.Sharing.{is_unfit}
 use Rattle.workers.specs.declared.driving.Why.TheVariants.{NotOut, OutOfMemory}
 use Rattle.workers.specs.Serving.{ended_by, is_memory}
@@ -12,16 +12,16 @@ use Rattle.workers.proofs.driving.drive.Goals as goal
 pub loop-turn-init : goal.loop-turn-init
 loop-turn-init g c = sets_out g.B.Origin.setup c.args.run c.args.caller.now c.to_stop-stopped.result c.to_stop-stopped.ensures.run
 
-pub returns-in-Given-Ended-clause-ended : goal.returns-in-Given-Ended-clause-ended
-returns-in-Given-Ended-clause-ended g c =
-    ends g.B.Origin.setup c.args.run c.args.caller.now c.loop-turn.caller c.call.new.caller c.loop-turn.stopped c.loop-turn.turn c.loop-turn.invariant _ c.in-Given-Ended.ensures refl
-    (ap (λ (given : WhatIsGiven). ended_by (Advance c.loop-turn.stopped) (Given given)) c.in-Given-Ended.field-0-is)
+pub returns-in-Success-Ended-clause-ended : goal.returns-in-Success-Ended-clause-ended
+returns-in-Success-Ended-clause-ended g c =
+    ends g.B.Origin.setup c.args.run c.args.caller.now c.loop-turn.caller c.call.new.caller c.loop-turn.stopped c.loop-turn.turn c.loop-turn.invariant _ c.in-Success-Ended.ensures refl
+    (ap (λ (given : WhatIsGiven). ended_by (Advance c.loop-turn.stopped) (Success given)) c.in-Success-Ended.field-0-is)
 
-pub returns-in-Unfit-clause-kept : goal.returns-in-Unfit-clause-kept
-returns-in-Unfit-clause-kept g c =
-    comes_back g.B.Origin.setup c.args.run c.args.caller.now c.loop-turn.caller c.call.new.caller c.loop-turn.stopped c.loop-turn.turn c.loop-turn.invariant NotOut _ c.in-Unfit.back c.run_of.result
-    c.in-Unfit.ensures refl (until g.B.Origin.setup c.args.run c.args.caller.now c.loop-turn.caller c.call.new.caller c.loop-turn.stopped c.loop-turn.turn c.loop-turn.invariant is_unfit _ refl)
-    c.in-Unfit.ensures.answers.fits.1 c.run_of.ensures
+pub returns-in-NotAdmitted-clause-kept : goal.returns-in-NotAdmitted-clause-kept
+returns-in-NotAdmitted-clause-kept g c =
+    comes_back g.B.Origin.setup c.args.run c.args.caller.now c.loop-turn.caller c.call.new.caller c.loop-turn.stopped c.loop-turn.turn c.loop-turn.invariant NotOut _ c.in-NotAdmitted.back c.run_of.result
+    c.in-NotAdmitted.ensures refl (until g.B.Origin.setup c.args.run c.args.caller.now c.loop-turn.caller c.call.new.caller c.loop-turn.stopped c.loop-turn.turn c.loop-turn.invariant is_unfit _ refl)
+    c.in-NotAdmitted.ensures.answers.fits.1 c.run_of.ensures
 
 pub returns-in-OutOfMemory-clause-kept : goal.returns-in-OutOfMemory-clause-kept
 returns-in-OutOfMemory-clause-kept g c =
@@ -31,11 +31,11 @@ returns-in-OutOfMemory-clause-kept g c =
 
 pub loop-turn-preserved : goal.loop-turn-preserved
 loop-turn-preserved g c =
-    let goes = goes_as _ _ _ c.loop-turn.stopped c.in-Given-Goes.field-0 c.in-Given-Goes.run' _ c.in-Given-Goes.field-0-is c.in-Given-Goes.ensures.answers.gives in
-    goes_on g.B.Origin.setup c.args.run c.args.caller.now c.loop-turn.caller c.call.new.caller c.loop-turn.stopped c.loop-turn.turn c.loop-turn.invariant c.to_stop-stopped-in-Given-Goes.result _ c.in-Given-Goes.ensures refl
-    (ap (λ (given : WhatIsGiven). ended_by (Advance c.loop-turn.stopped) (Given given)) c.in-Given-Goes.field-0-is)
-    (ap (λ (run : RunState). run.number) c.to_stop-stopped-in-Given-Goes.ensures.run ∙ goes.0)
-    (ap (λ (run : RunState). run.program) c.to_stop-stopped-in-Given-Goes.ensures.run ∙ goes.1)
+    let goes = goes_as _ _ _ c.loop-turn.stopped c.in-Success-Goes.field-0 c.in-Success-Goes.run' _ c.in-Success-Goes.field-0-is c.in-Success-Goes.ensures.answers.gives in
+    goes_on g.B.Origin.setup c.args.run c.args.caller.now c.loop-turn.caller c.call.new.caller c.loop-turn.stopped c.loop-turn.turn c.loop-turn.invariant c.to_stop-stopped-in-Success-Goes.result _ c.in-Success-Goes.ensures refl
+    (ap (λ (given : WhatIsGiven). ended_by (Advance c.loop-turn.stopped) (Success given)) c.in-Success-Goes.field-0-is)
+    (ap (λ (run : RunState). run.number) c.to_stop-stopped-in-Success-Goes.ensures.run ∙ goes.0)
+    (ap (λ (run : RunState). run.program) c.to_stop-stopped-in-Success-Goes.ensures.run ∙ goes.1)
 
 pub returns-clause-kept : goal.returns-clause-kept
 returns-clause-kept g c =

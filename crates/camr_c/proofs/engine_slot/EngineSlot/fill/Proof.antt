@@ -32,7 +32,7 @@ use Rattle.host_embedding.specs.contracts.engine_handle.EngineHandle.{the_row as
 use Rattle.camr_c.specs.declared.engine_slot.EngineSlot.{EngineSlot as Handle}
 use Rattle.camr_c.specs.contracts.engine_slot.EngineSlot.{the_row as R, the_type}
 use Rattle.camr_c.proofs.engine_slot.EngineSlot.TheLaws.{lowers}
-use Rattle.camr_c.proofs.Values.{both, Loose, loose_good, loose_out}
+use Rattle.camr_c.proofs.Values.{both, RawBox, loose_good, loose_out}
 use Rattle.camr_c.specs.contracts.engine_slot.EngineSlot.fill as f
 use Rattle.camr_c.proofs.engine_slot.EngineSlot.fill.Statement.{statement}
 use Rattle.camr_c.proofs.engine_slot.EngineSlot.fill.Code as code
@@ -41,7 +41,7 @@ abbrev Z : RattleType
 Z = heap.the_row
 
 abbrev Lr : RattleType
-Lr = Loose T Z heap_laws.the_row_laws ghosts
+Lr = RawBox T Z heap_laws.the_row_laws ghosts
 
 abbrev stayed : Stays f.ended.signature.params f.ended.kept
 stayed = (stay_ref (0 ∷ []) tt (plain (λ _. R)), (stay_dropped (plain (λ _. Lr)) yes, tt))

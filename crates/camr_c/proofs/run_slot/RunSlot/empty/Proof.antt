@@ -37,7 +37,7 @@ use Rattle.camr_c.specs.declared.run_slot.RunSlot.{RunSlot as Handle}
 use Rattle.camr_c.specs.contracts.run_slot.RunSlot.{the_row as R}
 use Rattle.camr_c.proofs.run_slot.RunSlot.TheLaws.{lowers}
 use Rattle.camr_c.proofs.Steps.{some_is}
-use Rattle.camr_c.proofs.Values.{both, Loose, loose_good, loose_in}
+use Rattle.camr_c.proofs.Values.{both, RawBox, loose_good, loose_in}
 use Rattle.camr_c.specs.contracts.run_slot.RunSlot.empty as f
 use Rattle.camr_c.proofs.run_slot.RunSlot.empty.Statement.{statement}
 use Rattle.camr_c.proofs.run_slot.RunSlot.empty.Code as code
@@ -46,7 +46,7 @@ abbrev Z : RattleType
 Z = heap.the_row
 
 abbrev Lr : RattleType
-Lr = Loose T Z heap_laws.the_row_laws ghosts
+Lr = RawBox T Z heap_laws.the_row_laws ghosts
 
 abbrev stayed : Stays f.ended.signature.params f.ended.kept
 stayed = (stay_ref (0 ∷ []) tt (plain (λ _. R)), (stay_dropped (plain (λ _. Z)) yes, tt))

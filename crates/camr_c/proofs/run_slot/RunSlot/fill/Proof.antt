@@ -32,7 +32,7 @@ use Rattle.host_embedding.specs.contracts.run_handle.RunHandle.{the_row as T}
 use Rattle.camr_c.specs.declared.run_slot.RunSlot.{RunSlot as Handle}
 use Rattle.camr_c.specs.contracts.run_slot.RunSlot.{the_row as R, the_type}
 use Rattle.camr_c.proofs.run_slot.RunSlot.TheLaws.{lowers}
-use Rattle.camr_c.proofs.Values.{both, Loose, loose_good, loose_out}
+use Rattle.camr_c.proofs.Values.{both, RawBox, loose_good, loose_out}
 use Rattle.camr_c.specs.contracts.run_slot.RunSlot.fill as f
 use Rattle.camr_c.proofs.run_slot.RunSlot.fill.Statement.{statement}
 use Rattle.camr_c.proofs.run_slot.RunSlot.fill.Code as code
@@ -41,7 +41,7 @@ abbrev Z : RattleType
 Z = heap.the_row
 
 abbrev Lr : RattleType
-Lr = Loose T Z heap_laws.the_row_laws ghosts
+Lr = RawBox T Z heap_laws.the_row_laws ghosts
 
 abbrev stayed : Stays f.ended.signature.params f.ended.kept
 stayed = (stay_ref (0 ∷ []) tt (plain (λ _. R)), (stay_dropped (plain (λ _. Lr)) yes, tt))

@@ -1,6 +1,6 @@
 use Rattle.std.proofs.Common.{◌≡◌, ◌<◌, ◌≤◌, ◌+◌, ℕ, [], length, arith, subst}
 use Rattle.std.specs.Prelude.{slice_index_or}
-use Rattle.stack_domain.specs.Stack.{Covers as CoversFrames}
+use Rattle.stack_domain.specs.Stack.{MarksCover as CoversFrames}
 use Rattle.stack_domain.specs.Stores.{stored}
 use Rattle.stack_domain.proofs.Stores.{covers_stored}
 use Rattle.check_description.proofs.Spilled.{still_spilled}

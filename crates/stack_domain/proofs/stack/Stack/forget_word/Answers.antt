@@ -2,7 +2,7 @@ use Rattle.std.proofs.Common.{◌≡◌, ◌<◌, ℕ, Bool, List, [], length, s
 use Rattle.std.specs.Prelude.{slice_index_or, false, ◌&&◌}
 use Rattle.std.proofs.lemmas.List.{get_or_default}
 use Rattle.stack_domain.specs.Sets.{AreSets}
-use Rattle.stack_domain.specs.Stack.{Covers, Knows}
+use Rattle.stack_domain.specs.Stack.{MarksCover, Knows}
 use Rattle.stack_domain.proofs.Forgetting.{still_covers, still_knows, forgotten, are_left, inside}
 use Rattle.stack_domain.proofs.stack.Stack.forget_word.Goals as goal
 
@@ -25,7 +25,7 @@ pub returns-clause-covers : goal.returns-clause-covers
 returns-clause-covers c frames covers =
     let stack = c.args.self.now in
     let both = left_of c.self.inside.sets stack c.args.frame c.at.result.now c.intersection-left.result c.all_but-others.result c.self.view_is c.requires.live c.at.ensures c.intersection-left.ensures.bytes in
-    subst (λ (s : List (List Bool)). Covers s frames) (sym (c.set.ensures ∙ ap (λ (s : List (List Bool)). set s c.args.frame c.intersection-left.result) c.self.view_is))
+    subst (λ (s : List (List Bool)). MarksCover s frames) (sym (c.set.ensures ∙ ap (λ (s : List (List Bool)). set s c.args.frame c.intersection-left.result) c.self.view_is))
     (still_covers stack (subst AreSets c.self.view_is c.self.invariant) c.args.frame c.requires.live c.all_but-others.result c.intersection-left.result c.intersection-left.ensures.len both frames covers)
 
 pub returns-clause-knows : goal.returns-clause-knows

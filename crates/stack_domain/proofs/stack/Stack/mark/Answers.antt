@@ -3,7 +3,7 @@ use Rattle.std.specs.Prelude.{slice_index_or}
 use Rattle.std.proofs.lemmas.List.{get_or_default}
 use Rattle.bpf_stack_frame.specs.ByteSet.{with_all}
 use Rattle.stack_domain.specs.Sets.{AreSets}
-use Rattle.stack_domain.specs.Stack.{Covers, AreWritten}
+use Rattle.stack_domain.specs.Stack.{MarksCover, AreWritten}
 use Rattle.stack_domain.specs.Stores.{stored}
 use Rattle.stack_domain.proofs.Stores.{covers_stored, stored_written}
 use Rattle.stack_domain.proofs.Places.{kept_marked}
@@ -34,7 +34,7 @@ returns-clause-covers c frames =
     let are : AreSets stack = subst AreSets c.self.view_is c.self.invariant in
     let inside : offset + count ≤ length (slice_index_or stack frame []) = omega (arith, are.whole frame live, c.requires.inside) in
     let is = c.set.ensures ∙ marked c.self.inside.sets stack frame offset count c.at.result.now c.insert_all.new.self c.self.view_is live c.at.ensures c.insert_all.ensures in
-    let CoversThem : List (List Bool) → Type 0 = λ s. Covers s frames in (
+    let CoversThem : List (List Bool) → Type 0 = λ s. MarksCover s frames in (
       λ covers. covers_before stack frame offset count live inside frames (subst CoversThem is covers),
       λ both. subst CoversThem (sym is) (covers_after stack frame offset count live inside frames both.0 both.1),
     )

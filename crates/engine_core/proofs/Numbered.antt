@@ -1,0 +1,295 @@
+-- An engine that keeps no history: what stands behind it, and what may follow that.
+use Rattle.std.proofs.Common.{◌≡◌, ℕ, zero, suc, ◌+◌, ◌<◌, ◌≤◌, List, [], ◌∷◌, ◌++◌, true, false, replicate, length, drop, Option, Some, None, inl, inr, refl, ap, ap₂, sym, subst, ◌∙◌, arith}
+use Rattle.std.specs.List.{find}
+use Rattle.std.specs.Option.{option_map}
+use Rattle.std.proofs.lemmas.Bool.{cases_Bool, cond-false, cond-true}
+use Rattle.std.proofs.lemmas.List.{drop_all, drop_more, get_or_default}
+use Rattle.ccb.specs.Completion.{Outcome, IsCompletion}
+use Rattle.freeze_ledger.specs.declared.freeze.Freeze.{Freeze}
+use Rattle.freeze_ledger.specs.Freezes.{entry_of}
+use Rattle.engine_runs.specs.Admits.{IsOutWith}
+use Rattle.engine_runs.specs.RunsState.{RunsState, no_runs}
+use Rattle.engine_runs.specs.RunPlaces.{HasRunAt}
+use Rattle.helpers.specs.declared.limits.HelperLimits.{HelperLimits}
+use Rattle.bpf_semantics.specs.declared.stop.Stop.{Stop}
+use Rattle.bpf_semantics.specs.declared.stop.Stop.TheVariants.{Helper, Exit}
+use Rattle.world_calls.specs.declared.call.Call.{Call}
+use Rattle.world_calls.specs.declared.call.Call.TheVariants.{Submit, Dispatch, Complete, Clock, GuestRelease, Park, Resume}
+use Rattle.world_calls.specs.declared.call_answer.CallAnswer.{CallAnswer}
+use Rattle.world_calls.specs.declared.call_answer.CallAnswer.TheVariants as answers
+use Rattle.world_calls.specs.declared.record.StoppedAt.{StoppedAt}
+use Rattle.world_calls.specs.declared.record.Record.{Record}
+use Rattle.world_calls.specs.declared.record.Record.TheVariants.{Called, Advance}
+use Rattle.world.specs.World.{Setup, LiveRun, Transport, World, opening}
+use Rattle.world.specs.Lawful.{IsLawful}
+use Rattle.world.specs.Lookups.{run_of}
+use Rattle.world.specs.CcbSteps.{is_completion}
+use Rattle.world.specs.Event.{Instruction, private, Event, called, executes, Reply, replies, went_on, result}
+use Rattle.world.specs.FreezeSteps.{is_guest, guest_releases}
+use Rattle.world.specs.ParkSteps.{parks}
+use Rattle.world.specs.RunSteps.{step_executes, step_run}
+use Rattle.world.specs.Step.{step_call}
+use Rattle.world.specs.WorldRun.{Leads, WorldRun}
+use Rattle.world.specs.Flat.{events_of, flat, advance_of, stop_of}
+use Rattle.world.proofs.Lists.Found.{found_key}
+use Rattle.world.proofs.Steps.Moves.{lists_of, run_key}
+use Rattle.world_laws.proofs.Leads.{leads_split, world_after_leads}
+use Rattle.engine_core.specs.declared.event.Event.{Event as TheEvent}
+use Rattle.engine_core.specs.declared.event.Event.TheVariants as events
+use Rattle.engine_core.specs.declared.reply.Success.{Success}
+use Rattle.engine_core.specs.declared.reply.Reply.{Reply as TheReply}
+use Rattle.engine_core.specs.declared.reply.Reply.TheVariants as replied
+use Rattle.engine_core.specs.Answers.{stopped_at}
+use Rattle.engine_core.specs.EngineState.{world_of}
+use Rattle.engine_core.specs.Invariant.{HoldEntries, KeepsEngine}
+use Rattle.engine_core.specs.Looking.{AsksNext, StopsNext, asked_at, first_out}
+use Rattle.engine_core.specs.Performing.{Performs}
+use Rattle.engine_core.specs.Replies.{answer_of, call_of, r0_given, record_given, record_of}
+use Rattle.engine_core.specs.RunState.{IsAgain, IsStopped, RunState, StoppedState, before_stop}
+use Rattle.engine_core.specs.TakingOver.{LeadsTo}
+use Rattle.engine_core.specs.ByNumber.{AreTokens, IsAdvanceOf, IsPlain, NumberedState, IsBehind, RecordFollows, CannotFollow, KeepsNumbered, answer_told, guests_of}
+use Rattle.engine_core.proofs.Recording.{flat_push, world_is, goes, kept_sound}
+use Rattle.engine_core.proofs.Holding.{run_changed}
+use Rattle.engine_core.proofs.Parking.{parks_run, with_out_run}
+use Rattle.engine_core.proofs.Reported.{unreported}
+use Rattle.engine_core.proofs.Guests.{AreOthers, IsOthers, advance_is_others, guests_stay, none_held, tokens_rise}
+
+abbrev pub state_of : Setup → Transport → RunsState → NumberedState
+state_of setup transport runs = record { setup = setup; transport = transport; runs = runs.runs }
+
+pub behind_kept : (setup : Setup) (records : List Record) (transport : Transport) (runs : RunsState) → KeepsEngine setup records transport runs → IsBehind records (state_of setup transport runs)
+behind_kept setup records transport runs kept = record { world = _; leads = kept.run.run; is = refl }
+
+-- nothing is behind an engine that was opened
+pub keeps_opening : (setup : Setup) (transport : Transport) (runs : RunsState) (tokens : List Freeze) → IsLawful setup → transport ≡ (opening setup).transport → runs ≡ no_runs setup.limits.table_lengths → tokens ≡ [] → KeepsNumbered setup transport runs tokens
+keeps_opening setup transport runs tokens lawful first second none =
+    rw (first, second, none) (([], record { run = record { lawful = lawful; run = refl }; tokens = refl }), refl)
+
+-- whatever history is behind it, it is an engine of that
+pub kept_behind : (setup : Setup) (history records : List Record) (transport : Transport) (runs : RunsState) → KeepsEngine setup history transport runs → IsBehind records (state_of setup transport runs) → KeepsEngine setup records transport runs
+kept_behind setup history records transport runs kept behind =
+    let is = world_is setup records transport runs.runs behind.world behind.leads behind.is in
+    record {
+      run = record { lawful = kept.run.lawful; run = subst (λ (w : World). WorldRun setup (flat records) w) (sym is) behind.leads };
+      tokens = kept.tokens;
+    }
+
+-- what leads from each history's world keeps it
+pub record Moves (setup : Setup) (transport : Transport) (runs : RunsState) (more : Transport) (after : RunsState) (told : Record) : Type 0 where
+  pub leads : (history : List Record) → KeepsEngine setup history transport runs → LeadsTo setup (world_of setup history transport runs.runs) (events_of told) more after.runs
+  pub tokens : (history : List Record) → KeepsEngine setup history transport runs → HoldEntries more.freezes after
+
+pub moved : (setup : Setup) (event : TheEvent) (transport : Transport) (runs : RunsState) (more : Transport) (after : RunsState) (reply : TheReply) (told : Record) → Performs setup event transport runs more after reply told → Moves setup transport runs more after told
+moved setup event transport runs more after reply told it = record { leads = it.leads; tokens = it.tokens }
+
+pub follows : (setup : Setup) (transport : Transport) (runs : RunsState) (more : Transport) (after : RunsState) (told : Record) (tokens : List Freeze) → KeepsNumbered setup transport runs tokens → Moves setup transport runs more after told → RecordFollows (state_of setup transport runs) told (state_of setup more after)
+follows setup transport runs more after told tokens kept it = λ records behind.
+    let k = kept_behind setup kept.0.0 records transport runs kept.0.1 behind in
+    behind_kept setup (records ++ told ∷ []) more after (goes setup records (records ++ told ∷ []) transport more runs after told k refl (it.tokens records k) (it.leads records k)).kept
+
+-- some history is behind it still
+pub keeps_on : (setup : Setup) (transport : Transport) (runs : RunsState) (more : Transport) (after : RunsState) (told : Record) (tokens later : List Freeze) → KeepsNumbered setup transport runs tokens → Moves setup transport runs more after told → later ≡ guests_of more.freezes → KeepsNumbered setup more after later
+keeps_on setup transport runs more after told tokens later kept it is =
+    let history = kept.0.0 in
+    ((history ++ told ∷ [], (goes setup history (history ++ told ∷ []) transport more runs after told kept.0.1 refl (it.tokens history kept.0.1) (it.leads history kept.0.1)).kept), is)
+
+-- and the tokens are those of all guests' freezes, where nothing is a guest's
+pub keeps_tokens : (setup : Setup) (transport : Transport) (runs : RunsState) (more : Transport) (after : RunsState) (told : Record) (tokens : List Freeze) → KeepsNumbered setup transport runs tokens → Moves setup transport runs more after told → AreOthers (events_of told) → KeepsNumbered setup more after tokens
+keeps_tokens setup transport runs more after told tokens kept it others =
+    let history = kept.0.0 in
+    let to = it.leads history kept.0.1 in
+    let same = guests_stay setup _ (events_of told) to.world (lists_of (kept_sound setup history transport runs kept.0.1).kept) others to.leads in
+    keeps_on setup transport runs more after told tokens tokens kept it
+    (kept.1 ∙ (sym same ∙ ap (λ (w : World). guests_of w.transport.freezes) to.is))
+
+-- ---- what may not follow
+
+-- a world behind it
+abbrev pub IsIn : NumberedState → World → Type 0
+IsIn state world = world ≡ record world { transport = state.transport; runs = state.runs }
+
+-- where no world of this state is led on by the record's events
+pub cannot : (state : NumberedState) (told : Record) → ((world after : World) → IsIn state world → Leads state.setup world (events_of told) after → ⊥) → CannotFollow state told
+cannot state told none = λ records behind history.
+    let parts = leads_split state.setup (opening state.setup) (flat records) (events_of told) history.0 (subst (λ xs. WorldRun state.setup xs history.0) (flat_push records told) history.1) in
+    let same : behind.world ≡ parts.0 = sym (world_after_leads state.setup (opening state.setup) (flat records) behind.world behind.leads) ∙ world_after_leads state.setup (opening state.setup) (flat records) parts.0 parts.1 in
+    none behind.world history.0 behind.is (subst (λ (w : World). Leads state.setup w (events_of told) history.0) (sym same) parts.2)
+
+-- a call that is no event
+pub no_call : (state : NumberedState) (call : Call) (answer : CallAnswer) → ((world : World) → IsIn state world → step_call state.setup world call ≡ None) → CannotFollow state (Called answer call)
+no_call state call answer none = cannot state (Called answer call) (λ world after is leads.
+    let bad : None ≡ Some (replies answer, leads.0) = sym (none world is) ∙ leads.1 in cc)
+
+-- an instruction of a run that is not out
+idle : (limits : HelperLimits) (world : World) (instruction : Instruction) (o : Option LiveRun) (x : Reply × World) → ((it : LiveRun) → o ≡ Some it → it.out ≡ false) → step_executes limits world instruction o ≡ Some x → ⊥
+idle limits world instruction None x parked e = cc
+idle limits world instruction (Some it) x parked e =
+    let bad = sym (cond-false it.out (step_run limits world it instruction) None (parked it refl)) ∙ e in cc
+
+not_first : (setup : Setup) (world : World) (run : ℕ) (instruction : Instruction) (reply : Reply) (xs : List (Event × Reply)) (after : World) → ((it : LiveRun) → run_of run world.runs.list ≡ Some it → it.out ≡ false) → Leads setup world ((executes run instruction, reply) ∷ xs) after → ⊥
+not_first setup world run instruction reply xs after parked leads = idle setup.limits world instruction (run_of run world.runs.list) (reply, leads.0) parked leads.1
+
+no_steps : (setup : Setup) (world : World) (run instructions : ℕ) (stop : StoppedAt) (r0 : ℕ) (after : World) → ((it : LiveRun) → run_of run world.runs.list ≡ Some it → it.out ≡ false) → Leads setup world (advance_of run instructions stop r0) after → ⊥
+no_steps setup world run zero stop r0 after parked leads = not_first setup world run (stop_of stop) went_on [] after parked leads
+no_steps setup world run (suc zero) stop r0 after parked leads = not_first setup world run (stop_of stop) (result r0) [] after parked leads
+no_steps setup world run (suc (suc n)) stop r0 after parked leads =
+    not_first setup world run private went_on (replicate n (executes run private, went_on) ++ (executes run (stop_of stop), result r0) ∷ []) after parked leads
+
+pub no_advance : (state : NumberedState) (run instructions : ℕ) (stop : StoppedAt) (r0 : ℕ) → ((it : LiveRun) → run_of run state.runs.list ≡ Some it → it.out ≡ false) → CannotFollow state (Advance run instructions stop r0)
+no_advance state run instructions stop r0 parked = cannot state (Advance run instructions stop r0) (λ world after is leads.
+    no_steps state.setup world run instructions stop r0 after (λ it found. parked it (ap (λ (w : World). run_of run w.runs.list) (sym is) ∙ found)) leads)
+
+-- a release of a freeze that no guest holds
+none_released : (world : World) (o : Option Freeze) → ((f : Freeze) → o ≡ Some f → is_guest f.holder ≡ true → ⊥) → guest_releases world o ≡ None
+none_released world None none = refl
+none_released world (Some f) none = elim (cases_Bool (is_guest f.holder)) [
+  | inl its ↦ absurd (none f refl its)
+  | inr other ↦ cond-false (is_guest f.holder) _ None other
+]
+
+pub no_release : (state : NumberedState) (freeze : ℕ) (answer : CallAnswer) → entry_of freeze (guests_of state.transport.freezes) ≡ None → CannotFollow state (Called answer (GuestRelease freeze))
+no_release state freeze answer none = no_call state (GuestRelease freeze) answer (λ world is.
+    ap (λ (w : World). step_call state.setup w (GuestRelease freeze)) is
+    ∙ none_released (record world { transport = state.transport; runs = state.runs }) (entry_of freeze state.transport.freezes) (none_held freeze state.transport.freezes none))
+
+-- a park of a run that is not out
+none_parked : (world : World) (o : Option LiveRun) → ((it : LiveRun) → o ≡ Some it → it.out ≡ false) → parks world o ≡ None
+none_parked world None parked = refl
+none_parked world (Some it) parked = cond-false it.out _ None (parked it refl)
+
+pub no_park : (state : NumberedState) (run : ℕ) (answer : CallAnswer) → ((it : LiveRun) → run_of run state.runs.list ≡ Some it → it.out ≡ false) → CannotFollow state (Called answer (Park run))
+no_park state run answer parked = no_call state (Park run) answer (λ world is.
+    ap (λ (w : World). step_call state.setup w (Park run)) is
+    ∙ none_parked (record world { transport = state.transport; runs = state.runs }) (run_of run state.runs.list) parked)
+
+-- a completion that no device reports
+pub no_completion : (state : NumberedState) (outcome : Outcome) (answer : CallAnswer) → (IsCompletion outcome → ⊥) → CannotFollow state (Called answer (Complete outcome))
+no_completion state outcome answer none = no_call state (Complete outcome) answer (λ world is. cond-false (is_completion outcome) _ None (unreported outcome none))
+
+-- ---- what is asked
+
+-- a run that is parked
+pub parks_out : (setup : Setup) (transport : Transport) (runs after : RunsState) (number : ℕ) (it : LiveRun) → run_of number runs.runs.list ≡ Some it → it.out ≡ true → after ≡ with_out_run it false runs → Moves setup transport runs transport after (Called answers.Ok (Park number))
+parks_out setup transport runs after number it found out same = record {
+  leads = λ history kept. parks_run setup history transport runs after number it found out same;
+  tokens = λ history kept. run_changed transport.freezes runs after (record it { out = false }) kept.tokens same;
+}
+
+-- where a plain call is recorded: by the call itself, which is no guest's
+pub record IsCallOf (event : TheEvent) (told : Record) : Type 0 where
+  pub call : Call
+  pub call_is : call_of event ≡ Some call
+  pub told_is : told ≡ Called (answer_told told) call
+  pub others : IsOthers (called call)
+
+called_as : (event : TheEvent) (call : Call) (reply : TheReply) (told : Record) → call_of event ≡ Some call → ((given : Success) → record_given event given ≡ Called (answer_of given) call) → IsOthers (called call) → record_of event reply ≡ Some told → IsCallOf event told
+called_as event call (replied.Success given) told its made others is =
+    let both : Some (Called (answer_of given) call) ≡ Some told = sym (ap Some (made given)) ∙ is in
+    let same : Called (answer_of given) call ≡ told = cc in
+    record { call = call; call_is = its; told_is = sym same ∙ ap (λ (a : CallAnswer). Called a call) (ap answer_told same); others = others }
+called_as event call (replied.Refused refusal) told its made others is =
+    let both : Some (Called (answers.Refused refusal) call) ≡ Some told = sym (ap (option_map (λ (c : Call). Called (answers.Refused refusal) c)) its) ∙ is in
+    let same : Called (answers.Refused refusal) call ≡ told = cc in
+    record { call = call; call_is = its; told_is = sym same ∙ ap (λ (a : CallAnswer). Called a call) (ap answer_told same); others = others }
+called_as event call (replied.NotAdmitted back) told its made others is = absurd (let bad : None ≡ Some told = is in cc)
+called_as event call (replied.OutOfMemory back) told its made others is = absurd (let bad : None ≡ Some told = is in cc)
+
+pub call_told : (event : TheEvent) (reply : TheReply) (told : Record) → IsPlain event → record_of event reply ≡ Some told → IsCallOf event told
+call_told (events.Submit queue priority retries) reply told plain is = called_as (events.Submit queue priority retries) (Submit queue priority retries) reply told refl (λ given. refl) tt is
+call_told (events.Dispatch queue) reply told plain is = called_as (events.Dispatch queue) (Dispatch queue) reply told refl (λ given. refl) tt is
+call_told (events.Complete completion) reply told plain is = called_as (events.Complete completion) (Complete completion.now) reply told refl (λ given. refl) tt is
+call_told (events.Advance run) reply told plain is = absurd plain
+call_told (events.Clock reading) reply told plain is = called_as (events.Clock reading) (Clock reading) reply told refl (λ given. refl) tt is
+call_told (events.GuestFreeze place guest) reply told plain is = absurd plain
+call_told (events.GuestRelease token) reply told plain is = absurd plain
+call_told (events.Park run) reply told plain is = absurd plain
+call_told (events.Resume run) reply told plain is = called_as (events.Resume run) (Resume run) reply told refl (λ given. refl) tt is
+
+pub call_is_others : (event : TheEvent) (told : Record) → IsCallOf event told → AreOthers (events_of told)
+call_is_others event told it = subst (λ (r : Record). AreOthers (events_of r)) (sym it.told_is) (it.others, tt)
+
+pub call_is_told : (event : TheEvent) (told : Record) (call : Call) (answer : CallAnswer) → IsCallOf event told → call_of event ≡ Some call → answer ≡ answer_told told → told ≡ Called answer call
+call_is_told event told call answer it its is =
+    let both : Some it.call ≡ Some call = sym it.call_is ∙ its in
+    let same : it.call ≡ call = cc in
+    it.told_is ∙ ap₂ Called (sym is) same
+
+-- where an advance is recorded
+pub advance_told : (run : StoppedState) (number : ℕ) (reply : TheReply) (told : Record) → run.number ≡ number → record_of (events.Advance run) reply ≡ Some told → IsAdvanceOf number told
+advance_told run number (replied.Success given) told named is =
+    let same : Advance run.number run.segment.steps (stopped_at run.segment.stop) (r0_given given) ≡ told = cc in
+    record { instructions = run.segment.steps; stop = stopped_at run.segment.stop; r0 = r0_given given; is = sym same ∙ ap (λ (n : ℕ). Advance n run.segment.steps (stopped_at run.segment.stop) (r0_given given)) named }
+advance_told run number (replied.Refused refusal) told named is = absurd (let bad : None ≡ Some told = is in cc)
+advance_told run number (replied.NotAdmitted back) told named is = absurd (let bad : None ≡ Some told = is in cc)
+advance_told run number (replied.OutOfMemory back) told named is = absurd (let bad : None ≡ Some told = is in cc)
+
+pub advance_of_others : (number : ℕ) (told : Record) → IsAdvanceOf number told → AreOthers (events_of told)
+advance_of_others number told it = subst (λ (r : Record). AreOthers (events_of r)) (sym it.is) (advance_is_others number it.instructions it.stop it.r0)
+
+-- ---- runs and tokens
+
+-- the numbers of its tokens rise
+pub its_tokens_rise : (setup : Setup) (transport : Transport) (runs : RunsState) (tokens : List Freeze) → KeepsNumbered setup transport runs tokens → AreTokens tokens
+its_tokens_rise setup transport runs tokens kept =
+    subst AreTokens (sym kept.1) (tokens_rise transport.freezes transport.greatest_freeze (kept_sound setup kept.0.0 transport runs kept.0.1).kept.freezes.numbered)
+
+-- a run that is made again has its number, and stands where its record does
+pub number_again : (setup : Setup) (list : List LiveRun) (number : ℕ) (it : LiveRun) (again : RunState) (run : StoppedState) → run_of number list ≡ Some it → IsAgain setup it again → before_stop run ≡ again → run.number ≡ number
+number_again setup list number it again run found is stopped = ap (λ (r : RunState). r.number) stopped ∙ (is.number ∙ found_key run_key number list it found)
+
+pub stands_out : (setup : Setup) (list : List LiveRun) (number : ℕ) (it : LiveRun) (again : RunState) (run : StoppedState) → run_of number list ≡ Some it → it.out ≡ true → IsAgain setup it again → before_stop run ≡ again → IsOutWith list run.number run.segment.program.program run.segment.from
+stands_out setup list number it again run found out is stopped = record {
+  it = it;
+  found = ap (λ (n : ℕ). run_of n list) (number_again setup list number it again run found is stopped) ∙ found;
+  recorded = (out, ap (λ (r : RunState). r.program.program) stopped ∙ is.program, ap (λ (r : RunState). r.machine) stopped ∙ is.machine);
+}
+
+-- one run stands at a place
+pub stands_once : (list : List LiveRun) (place : ℕ) (a b : LiveRun) → HasRunAt list place a → HasRunAt list place b → a ≡ b
+stands_once list place a b first second = sym first.here ∙ (get_or_default list place a b first.within ∙ second.here)
+
+-- a run that is made again, at its stop
+pub stops_next : (setup : Setup) (list : List LiveRun) (number : ℕ) (it : LiveRun) (again : RunState) (run : StoppedState) → run_of number list ≡ Some it → it.out ≡ true → IsAgain setup it again → before_stop run ≡ again → IsStopped run
+    → StopsNext list number run.segment.stop
+stops_next setup list number it again run found out is stopped whole =
+    let program : run.segment.program.program ≡ it.program = ap (λ (r : RunState). r.program.program) stopped ∙ is.program in
+    record {
+      it = it;
+      found = found;
+      out = out;
+      segment = run.segment;
+      is = whole.segment;
+      next = record { program_is = program; segment_program_is = program; start_is = ap (λ (r : RunState). r.machine) stopped ∙ is.machine };
+      stands = refl;
+    }
+
+-- what a run asks that comes to a stop
+pub asks : (runs : List LiveRun) (number : ℕ) (stop : Stop) → StopsNext runs number stop → AsksNext runs number (asked_at stop)
+asks runs number (Helper request) it = it
+asks runs number (Exit r0) it = λ live found out. (r0, it)
+
+-- ---- the first run that is out
+
+pub run_there : (list : List LiveRun) (place : ℕ) → place < length list → (it : LiveRun) × HasRunAt list place it
+run_there [] place l = absurd (omega (arith, l))
+run_there (it ∷ rest) zero l = (it, record { within = l; here = refl })
+run_there (it ∷ rest) (suc place) l =
+    let more = run_there rest place (omega (arith, l)) in
+    (more.0, record { within = l; here = more.1.here })
+
+-- what is left from a place on begins with what stands there
+left_from : (list : List LiveRun) (place : ℕ) (it : LiveRun) → HasRunAt list place it → drop place list ≡ it ∷ drop (place + 1) list
+left_from list place it stands = drop_more list place it stands.within ∙ ap (λ (x : LiveRun). x ∷ drop (place + 1) list) stands.here
+
+pub parked_first : (list : List LiveRun) (place : ℕ) (it : LiveRun) → HasRunAt list place it → it.out ≡ false → first_out (drop place list) ≡ first_out (drop (place + 1) list)
+parked_first list place it stands out =
+    ap first_out (left_from list place it stands)
+    ∙ ap (option_map (λ (run : LiveRun). run.number)) (cond-false it.out (Some it) (find (λ (run : LiveRun). run.out) (drop (place + 1) list)) out)
+
+pub out_first : (list : List LiveRun) (place : ℕ) (it : LiveRun) → HasRunAt list place it → it.out ≡ true → first_out (drop place list) ≡ Some it.number
+out_first list place it stands out =
+    ap first_out (left_from list place it stands)
+    ∙ ap (option_map (λ (run : LiveRun). run.number)) (cond-true it.out (Some it) (find (λ (run : LiveRun). run.out) (drop (place + 1) list)) out)
+
+pub none_out : (list : List LiveRun) (place : ℕ) → length list ≤ place → first_out (drop place list) ≡ None
+none_out list place all = ap first_out (drop_all place list all)

@@ -1,0 +1,337 @@
+// An engine that keeps no history: it is asked for the calls and the advances that a history tells, by the numbers of runs and
+// freezes, and has the runs and the tokens itself. It relies on `parts` for what an event does, and on `world` for what may
+// happen.
+
+ghost use Rattle.std.specs.Prelude.{◌≡◌, ◌<◌, ◌↔◌, ◌∷◌, [], ◌++◌, length, Some, None, IsNone, IsSome, IsTrue, IfSome, IfNone, IfOk, OnErr, false};
+ghost use Rattle.world_calls.specs.declared.call.Call.{Call as TheCall};
+ghost use Rattle.world_calls.specs.declared.call.Call.TheVariants.{Complete, GuestFreeze, GuestRelease, Park};
+ghost use Rattle.world_calls.specs.declared.record.Record.TheVariants.{Called};
+ghost use Rattle.freeze_ledger.specs.Deadlines.{some_timer};
+ghost use Rattle.freeze_ledger.specs.Freezes.{entry_of, holders_of};
+ghost use Rattle.ccb.specs.Places.{index_of, places_of};
+ghost use Rattle.engine_transport.specs.Freezing.{IsNextDue};
+ghost use Rattle.world.specs.Capacities.{most_controllers};
+ghost use Rattle.world.specs.Lawful.{IsLawful};
+ghost use Rattle.world.specs.Lookups.{ccb_of, run_of};
+ghost use Rattle.world.specs.QueueInfo.{queue_info};
+ghost use Rattle.world.specs.World.{World};
+ghost use Rattle.engine_core.specs.Looking.{AsksNext, IsRunTold, asked_at, first_out};
+ghost use Rattle.engine_core.specs.Replies.{call_of};
+ghost use Rattle.engine_core.specs.ByNumber.{Advances, AnswersCall, CannotFollow, RecordFollows, IsPlain, guests_of, opened_numbered, sums_behind};
+
+use crate::engine::rooms;
+use crate::event::Event;
+use crate::guest_tokens::{GuestToken, has_token, take_token};
+use crate::parts::Parts;
+use crate::run_events::{advance, run_at};
+use crate::run_info::RunInfo;
+use crate::told::answer_in;
+use bpf_semantics::Stop;
+use ccb::{CcbId, Completion, Place, QueueId};
+use engine_config::Config;
+use engine_runs::Runs;
+use engine_transport::LiveCcb;
+use freeze_ledger::Holders;
+use helpers::Request;
+use std::alloc::{AllocError, Global};
+use std::marker::Model;
+use world::QueueInfo;
+use world_calls::{Call, CallAnswer, CompletionRecord, Record, Totals};
+
+/// Device queues with their CCBs, freezes and recovery runs, of which no history is kept. It is asked by plain calls, and has all
+/// runs and all guests' tokens itself. Contracts see the setup, and what it has of a world.
+#[derive(Drop)]
+pub struct NumberedEngine<'a> {
+    config: &'a Config,
+    parts: Parts,
+    // those of all guests' freezes, in the order of their numbers
+    tokens: Vec<GuestToken>,
+}
+
+impl<'a> Model for NumberedEngine<'a> {
+    ghost use Rattle.engine_core.specs.ByNumber.{NumberedState, KeepsNumbered};
+
+    ghost Value = { NumberedState };
+
+    ghost view = { λ u. record { setup = u.config.now; transport = u.parts.transport; runs = u.parts.runs.runs } };
+
+    ghost invariant = { λ u. KeepsNumbered u.config.now u.parts.transport u.parts.runs u.tokens.items };
+}
+
+impl<'a> NumberedEngine<'a> {
+    /// An engine of unfrozen queues without CCBs. It takes room for all the CCBs, runs and freezes that there may be.
+    pub fn open(alloc: Global, config: &'a Config) -> Result<Self, AllocError>
+        ensures opened { IfOk result (λ engine. engine ≡ opened_numbered config.now) }
+        ensures lawful { IsLawful config.now }
+    {
+        Ok(NumberedEngine {
+            config,
+            parts: rooms(alloc, config)?,
+            tokens: Vec::new(alloc),
+        })
+    }
+
+    /// Carries a call out, or refuses it: its answer. `None`, which changes nothing, exactly where the call is no event here: a
+    /// completion that no device reports, a park of a run that is not out, or a release of a freeze that no guest holds. Where
+    /// memory is refused nothing changes.
+    pub fn call(&mut self, call: &Call) -> Result<Option<CallAnswer>, AllocError>
+        ensures answered { IfOk result (λ answer. AnswersCall self.old call.now answer self.new) }
+        ensures setup { self.new.setup ≡ self.old.setup }
+        ensures refused { OnErr result (self.new ≡ self.old) }
+    {
+        match call {
+            Call::Submit {
+                queue,
+                priority,
+                retries,
+            } => self.ask(Event::Submit {
+                queue: *queue,
+                priority: *priority,
+                retries: *retries,
+            }),
+            Call::Dispatch { queue } => self.ask(Event::Dispatch { queue: *queue }),
+            Call::Complete { completion } => self.complete(completion),
+            Call::GuestFreeze { place, guest } => self.guest_freeze(*place, *guest),
+            Call::GuestRelease { freeze } => Ok(self.guest_release(*freeze)),
+            Call::Clock { reading } => self.ask(Event::Clock { reading: *reading }),
+            Call::Park { run } => Ok(self.park(*run)),
+            Call::Resume { run } => self.ask(Event::Resume { run: *run }),
+        }
+    }
+
+    // What a call is answered that is always an event, and of no guest.
+    fn ask(&mut self, event: Event<'_>) -> Result<Option<CallAnswer>, AllocError>
+        requires { IsPlain event }
+        ensures answered { IfOk result (λ answer. (call : TheCall) → call_of event.entry ≡ Some call → AnswersCall self.old call answer self.new) }
+        ensures setup { self.new.setup ≡ self.old.setup }
+        ensures refused { OnErr result (self.new ≡ self.old) }
+    {
+        let alloc = *self.tokens.allocator();
+        match self.parts.perform(alloc, self.config, 0, event) {
+            Ok((reply, told)) => {
+                self.parts.spend(reply);
+                Ok(Some(answer_in(told)))
+            }
+            Err(back) => {
+                back.forfeit();
+                Err(AllocError)
+            }
+        }
+    }
+
+    fn complete(&mut self, completion: &CompletionRecord) -> Result<Option<CallAnswer>, AllocError>
+        ensures answered { IfOk result (λ answer. AnswersCall self.old (Complete completion.now) answer self.new) }
+        ensures setup { self.new.setup ≡ self.old.setup }
+        ensures refused { OnErr result (self.new ≡ self.old) }
+    {
+        let sense = completion.sense();
+        match Completion::new(
+            completion.ccb(),
+            completion.status(),
+            completion.scsi(),
+            sense.as_slice(),
+        ) {
+            Some(completion) => self.ask(Event::Complete {
+                completion: &completion,
+            }),
+            None => Ok(None),
+        }
+    }
+
+    // A guest's freeze, of which the token is kept.
+    fn guest_freeze(&mut self, place: Place, guest: u32) -> Result<Option<CallAnswer>, AllocError>
+        ensures answered { IfOk result (λ answer. AnswersCall self.old (GuestFreeze place guest) answer self.new) }
+        ensures setup { self.new.setup ≡ self.old.setup }
+        ensures refused { OnErr result (self.new ≡ self.old) }
+    {
+        self.tokens.reserve(1)?;
+        match self
+            .parts
+            .transport
+            .guest_freeze(place, self.config.controllers(), guest)
+        {
+            Ok(token) => {
+                let number = token.number();
+                self.tokens.push_reserved(GuestToken::new(token));
+                Ok(Some(CallAnswer::Freeze(number)))
+            }
+            Err(refusal) => Ok(Some(CallAnswer::Refused(refusal))),
+        }
+    }
+
+    // A guest's release, if a guest holds the freeze of that number.
+    fn guest_release(&mut self, freeze: u32) -> Option<CallAnswer>
+        ensures answered { AnswersCall self.old (GuestRelease freeze) result self.new }
+        ensures setup { self.new.setup ≡ self.old.setup }
+    {
+        let (_, token) = take_token(&mut self.tokens, freeze)?;
+        let count = self.parts.transport.guest_release(token);
+        Some(CallAnswer::Left(count))
+    }
+
+    // A park, if a run of that number is out.
+    fn park(&mut self, run: u32) -> Option<CallAnswer>
+        ensures answered { AnswersCall self.old (Park run) result self.new }
+        ensures setup { self.new.setup ≡ self.old.setup }
+    {
+        let place = self.parts.runs.out_at(run)?;
+        self.parts.runs.set_out(place, false);
+        Some(CallAnswer::Ok)
+    }
+
+    /// Lets the run of that number go on to its next stop, a helper call or its exit, and takes over what it did: the record of
+    /// that advance. `None`, which changes nothing, exactly where no run of that number is out. It executes as many instructions
+    /// as are left of the run's budget at most. Where memory is refused nothing changes.
+    pub fn advance(&mut self, run: u32) -> Result<Option<Record>, AllocError>
+        ensures advanced { IfOk result (λ told. Advances self.old run told self.new) }
+        ensures setup { self.new.setup ≡ self.old.setup }
+        ensures refused { OnErr result (self.new ≡ self.old) }
+    {
+        let Some(place) = self.parts.runs.out_at(run) else {
+            return Ok(None);
+        };
+        let stopped = run_at(self.config, &mut self.parts.runs, place)?.to_stop();
+        let alloc = *self.tokens.allocator();
+        match advance(
+            alloc,
+            &mut self.parts.transport,
+            &mut self.parts.runs,
+            place,
+            stopped,
+        ) {
+            Ok((reply, told)) => {
+                self.parts.spend(reply);
+                Ok(Some(told))
+            }
+            Err(back) => {
+                back.forfeit();
+                Err(AllocError)
+            }
+        }
+    }
+
+    /// What the clock read last, in milliseconds, 0 before the first reading.
+    pub fn clock(&self) -> u64
+        ensures { result ≡ self.now.transport.clock }
+    {
+        self.parts.transport.clock()
+    }
+
+    /// The live CCB of that number, with where it is; `None` exactly where no live one has it.
+    pub fn ccb(&self, ccb: CcbId) -> Option<LiveCcb>
+        ensures { result ≡ ccb_of ccb.0 self.now.transport.live }
+    {
+        self.parts.transport.live(ccb)
+    }
+
+    /// The freezes, the active and the waiting CCBs and the openings of a queue; `None` exactly where there is no such queue.
+    pub fn queue_info(&self, queue: QueueId) -> Option<QueueInfo>
+        ensures there { IsSome result ↔ (queue.0 < length self.now.transport.openings) }
+        ensures told { IfSome result (λ told. (world : World) → told ≡ queue_info (record world { transport = self.now.transport }) queue.0) }
+    {
+        if self.parts.transport.has_queue(queue) {
+            Some(self.parts.transport.queue_info(queue))
+        } else {
+            None
+        }
+    }
+
+    /// The number and the holder of each freeze of a place, by rising number; `None` exactly where there is no such place:
+    /// neither a queue, nor one of as many controllers as there may be.
+    pub fn holders(&self, place: Place) -> Option<Holders<'_>>
+        ensures there { IsSome result ↔ (index_of place < places_of (length self.now.transport.openings) most_controllers) }
+        ensures holders { IfSome result (λ holders. holders ≡ holders_of place self.now.transport.freezes) }
+    {
+        self.parts.transport.holders(place)
+    }
+
+    /// What is recorded of the run of that number; `None` exactly where no live run has it.
+    pub fn run(&self, run: u32) -> Option<RunInfo>
+        ensures told { IfSome result (IsRunTold run self.now.runs.list) }
+        ensures none { IfNone result (run_of run self.now.runs.list ≡ None) }
+    {
+        let runs = &self.parts.runs;
+        let place = runs.place_of(run)?;
+        Some(RunInfo {
+            ccb: runs.ccb(place),
+            queue: runs.queue(place),
+            controller: runs.controller(place),
+            is_out: runs.is_out(place),
+        })
+    }
+
+    /// What the run of that number asks where it comes to its next stop: a helper, with its arguments. `None` where no run of
+    /// that number is out, or where it comes to its exit. It changes nothing.
+    pub fn asked(&mut self, run: u32) -> Result<Option<Request>, AllocError>
+        ensures asked { IfOk result (AsksNext self.old.runs.list run) }
+        ensures same { self.new ≡ self.old }
+    {
+        let Some(place) = self.parts.runs.out_at(run) else {
+            return Ok(None);
+        };
+        let stopped = run_at(self.config, &mut self.parts.runs, place)?.to_stop();
+        let request = request_of(stopped.stop());
+        let (machine, next) = stopped.spent();
+        self.parts.runs.keep_place(machine);
+        self.parts.runs.keep_place(next);
+        Ok(request)
+    }
+
+    /// When the timer is due that goes first, in milliseconds of the clock; `None` exactly if no timer holds a freeze: before that
+    /// reading, no freeze goes by its timer.
+    pub fn next_due(&self) -> Option<u64>
+        ensures first { IfSome result (IsNextDue self.now.transport.freezes) }
+        ensures none { IsNone result ↔ (some_timer self.now.transport.freezes ≡ false) }
+    {
+        self.parts.transport.next_due()
+    }
+
+    /// Whether a guest holds the freeze of that number.
+    pub fn is_guests(&self, freeze: u32) -> bool
+        ensures there { IsTrue result → IsSome (entry_of freeze (guests_of self.now.transport.freezes)) }
+        ensures none { result ≡ false → entry_of freeze (guests_of self.now.transport.freezes) ≡ None }
+    {
+        has_token(&self.tokens, freeze)
+    }
+
+    /// The first run that is out, in the order of their numbers; `None` exactly if none is.
+    pub fn first_out(&self) -> Option<u32>
+        ensures { result ≡ first_out self.now.runs.list }
+    {
+        first_out(&self.parts.runs)
+    }
+
+    /// The sums, behind so many records.
+    pub fn totals(&self, records: u64) -> Totals
+        ensures { result ≡ sums_behind records self.now }
+    {
+        Totals {
+            history: records,
+            frozen: self.parts.transport.frozen(),
+            active: self.parts.transport.active(),
+            runs: self.parts.runs.len(),
+        }
+    }
+}
+
+// The number of the first run that is out, if one is.
+fn first_out(runs: &Runs) -> Option<u32>
+    ensures { result ≡ first_out runs.now.runs.list }
+{
+    for place in 0..runs.len() as usize {
+        if runs.is_out(place) {
+            return Some(runs.number(place));
+        }
+    }
+    None
+}
+
+// What is asked there, if a helper is.
+fn request_of(stop: Stop) -> Option<Request>
+    ensures { result ≡ asked_at stop }
+{
+    match stop {
+        Stop::Helper(request) => Some(request),
+        Stop::Exit { .. } => None,
+    }
+}

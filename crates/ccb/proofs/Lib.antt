@@ -1,2 +1,3 @@
 pub mod Contexts
 pub mod Worked
+pub mod Codes

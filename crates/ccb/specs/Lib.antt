@@ -5,3 +5,4 @@ pub mod Ccb
 pub mod Context
 pub mod Rising
 pub mod Places
+pub mod CallRefusalText

@@ -1,9 +1,10 @@
 // What a CAM Control Block (CCB, ANSI X3.232) is to the recovery engine: its number and queue, status
 // and flags, the completion that a device answers it with, the context that a program reads, and what
-// can be frozen: a device queue or a controller.
+// can be frozen: a device queue or a controller; and why a call is refused.
 // It relies on `sense_record` for the sense fields, `bitflags` for flags, `byteorder` for words.
 #![tactic(auto)]
 
+mod call_refusal;
 mod cam_status;
 mod ccb;
 mod ccb_flags;
@@ -11,6 +12,7 @@ mod completion;
 mod context_bytes;
 mod place;
 
+pub use crate::call_refusal::{CallRefusal, REFUSALS, RefusalRow, RefusedCalls};
 pub use crate::cam_status::CamStatus;
 pub use crate::ccb::Ccb;
 pub use crate::ccb_flags::CcbFlags;

@@ -1,7 +1,8 @@
 -- Worked values of the definitions.
 use Rattle.std.proofs.Common.{◌≡◌, ℕ, List, [], ◌∷◌, Some, None, true, false, replicate, refl}
 use Rattle.dev_queue.specs.declared.waiting_ccb.WaitingCcb.{WaitingCcb}
-use Rattle.dev_queue.specs.declared.queue_fault.QueueFault.TheVariants.{Full, Frozen, NoOpening, NothingWaits, ControllerFrozen}
+use Rattle.dev_queue.specs.declared.queue_fault.QueueFault.TheVariants.{Full, Refused}
+use Rattle.ccb.specs.declared.call_refusal.CallRefusal.TheVariants.{Frozen, NoOpening, NothingWaits, ControllerFrozen}
 use Rattle.dev_queue.specs.State.{QueueState, with_waiting, with_started, with_stopped, with_left}
 use Rattle.dev_queue.specs.Faults.{insert_fault, start_fault}
 
@@ -12,13 +13,13 @@ abbrev queue : List WaitingCcb → ℕ → ℕ → ℕ → QueueState
 queue waiting active recovering openings = record { waiting = waiting; active = active; recovering = recovering; openings = openings }
 
 -- the lowest fault is told: frozen, no opening, nothing waits
-frozen : start_fault 1 0 (queue [] 1 0 1) ≡ Some Frozen
+frozen : start_fault 1 0 (queue [] 1 0 1) ≡ Some (Refused Frozen)
 frozen = refl
 
-no_opening : start_fault 0 0 (queue [] 1 0 1) ≡ Some NoOpening
+no_opening : start_fault 0 0 (queue [] 1 0 1) ≡ Some (Refused NoOpening)
 no_opening = refl
 
-nothing_waits : start_fault 0 0 (queue [] 1 0 2) ≡ Some NothingWaits
+nothing_waits : start_fault 0 0 (queue [] 1 0 2) ≡ Some (Refused NothingWaits)
 nothing_waits = refl
 
 starts : start_fault 0 0 (queue (ccb 1 10 ∷ []) 1 0 2) ≡ None
@@ -45,8 +46,8 @@ gone : with_stopped false (queue [] 1 1 2) ≡ queue [] 0 1 2
 gone = refl
 
 -- the queue's own faults come before its controller
-under_frozen : start_fault 0 1 (queue (ccb 1 10 ∷ []) 1 0 2) ≡ Some ControllerFrozen
+under_frozen : start_fault 0 1 (queue (ccb 1 10 ∷ []) 1 0 2) ≡ Some (Refused ControllerFrozen)
 under_frozen = refl
 
-waits_for_none : start_fault 0 1 (queue [] 1 0 2) ≡ Some NothingWaits
+waits_for_none : start_fault 0 1 (queue [] 1 0 2) ≡ Some (Refused NothingWaits)
 waits_for_none = refl

@@ -7,7 +7,7 @@ use Rattle.dev_queue.specs.declared.dev_queue.TheConstants.{MAX_LIVE}
 use Rattle.dev_queue.specs.Heap.{IsHeap}
 use Rattle.dev_queue.specs.Waiting.{AreApart}
 
-pub record IsKept (pairs : Vec WaitingCcb Global) : Type 0 where
+pub record QueueIsKept (pairs : Vec WaitingCcb Global) : Type 0 where
   pub heap : IsHeap pairs.items
   pub apart : AreApart pairs.items
   pub within : length pairs.items ≤ MAX_LIVE

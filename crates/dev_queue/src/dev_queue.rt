@@ -11,7 +11,7 @@ use crate::frozen::Frozen;
 use crate::queue_fault::QueueFault;
 use crate::waiting_ccb::WaitingCcb;
 use crate::waiting_heap::WaitingHeap;
-use ccb::CcbId;
+use ccb::{CallRefusal, CcbId};
 use std::alloc::{AllocError, Global};
 use std::marker::Model;
 
@@ -89,16 +89,16 @@ impl DevQueue {
         ensures refused { OnErr result (self.new ≡ self.old) }
     {
         if freezes.frozen() != 0 {
-            return Err(QueueFault::Frozen);
+            return Err(QueueFault::Refused(CallRefusal::Frozen));
         }
         if self.active >= u32::from(self.openings) {
-            return Err(QueueFault::NoOpening);
+            return Err(QueueFault::Refused(CallRefusal::NoOpening));
         }
         if self.waiting.len() == 0 {
-            return Err(QueueFault::NothingWaits);
+            return Err(QueueFault::Refused(CallRefusal::NothingWaits));
         }
         if freezes.controller_frozen() != 0 {
-            return Err(QueueFault::ControllerFrozen);
+            return Err(QueueFault::Refused(CallRefusal::ControllerFrozen));
         }
         let Some(pair) = self.waiting.take_least(&mut self.steps) else {
             unreachable!()

@@ -1,5 +1,6 @@
 // Why a device queue refuses a call.
 
+use ccb::CallRefusal;
 use std::fmt;
 
 /// Why a call was refused. A refusal changes nothing. The text is the fault's code.
@@ -7,14 +8,8 @@ use std::fmt;
 pub enum QueueFault {
     /// Q1: 256 CCBs of the queue are live.
     Full,
-    /// Q2: the queue is frozen.
-    Frozen,
-    /// Q3: as many CCBs are active as the queue has openings, or more.
-    NoOpening,
-    /// Q4: no CCB waits.
-    NothingWaits,
-    /// Q5: the controller is frozen that the queue is under.
-    ControllerFrozen,
+    /// No CCB starts, for the reason by which the engine refuses a dispatch then.
+    Refused(CallRefusal),
 }
 
 impl fmt::Display for QueueFault {
@@ -24,12 +19,9 @@ impl fmt::Display for QueueFault {
     ghost output = { λ fault. Some (fault_text fault) };
 
     fn fmt<W: fmt::Write>(&self, f: &mut fmt::Formatter<W>) -> fmt::Result {
-        f.write_str(match self {
-            QueueFault::Full => "Q1",
-            QueueFault::Frozen => "Q2",
-            QueueFault::NoOpening => "Q3",
-            QueueFault::NothingWaits => "Q4",
-            QueueFault::ControllerFrozen => "Q5",
-        })
+        match self {
+            QueueFault::Full => f.write_str("Q1"),
+            QueueFault::Refused(refusal) => refusal.fmt(f),
+        }
     }
 }

@@ -105,13 +105,13 @@ impl Model for WaitingHeap {
     ghost use Rattle.std.specs.Prelude.{List};
     ghost use Rattle.dev_queue.specs.declared.waiting_ccb.WaitingCcb.{WaitingCcb};
     ghost use Rattle.dev_queue.specs.Waiting.{in_order};
-    ghost use Rattle.dev_queue.specs.Invariant.{IsKept};
+    ghost use Rattle.dev_queue.specs.Invariant.{QueueIsKept};
 
     ghost Value = { List WaitingCcb };
 
     ghost view = { λ w. in_order w.pairs.items };
 
-    ghost invariant = { λ w. IsKept w.pairs };
+    ghost invariant = { λ w. QueueIsKept w.pairs };
 }
 
 impl WaitingHeap {

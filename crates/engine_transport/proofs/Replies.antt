@@ -17,8 +17,8 @@ use Rattle.dev_queue.specs.declared.queue_fault.QueueFault.TheVariants as fault
 use Rattle.freeze_ledger.specs.State.{LedgerState}
 use Rattle.world_calls.specs.declared.call.Call.TheVariants.{Submit, Dispatch}
 use Rattle.world_calls.specs.declared.call_answer.CallAnswer.TheVariants as answers
-use Rattle.world_calls.specs.declared.call_refusal.CallRefusal.{CallRefusal}
-use Rattle.world_calls.specs.declared.call_refusal.CallRefusal.TheVariants.{Limit, Frozen, NoOpening, NothingWaits, ControllerFrozen}
+use Rattle.ccb.specs.declared.call_refusal.CallRefusal.{CallRefusal}
+use Rattle.ccb.specs.declared.call_refusal.CallRefusal.TheVariants.{Limit, Frozen, NoOpening, NothingWaits, ControllerFrozen}
 use Rattle.world.specs.declared.ccb_state.CcbState.TheVariants.{Waiting}
 use Rattle.world.specs.World.{Setup, World, queue_count, queue_setup, LiveCcb}
 use Rattle.world.specs.Lookups.{live_count, active_count, with_ccb, next_waiting}
@@ -83,19 +83,19 @@ record HasNoFault (frozen_times controller : ℕ) (state : QueueState) : Type 0 
 no_fault : (frozen_times controller : ℕ) (state : QueueState) → start_fault frozen_times controller state ≡ None → HasNoFault frozen_times controller state
 no_fault frozen_times controller state e =
     elim (cases_eq frozen_times 0) [
-      | inr apart ↦ absurd (let bad : Some fault.Frozen ≡ None = sym (cond-true _ _ _ (not_from_false _ (ne_eqb _ _ apart))) ∙ e in cc)
+      | inr apart ↦ absurd (let bad : Some (fault.Refused Frozen) ≡ None = sym (cond-true _ _ _ (not_from_false _ (ne_eqb _ _ apart))) ∙ e in cc)
       | inl none ↦
           let second = sym (cond-false _ _ _ (not_from_true _ (eq-eqb _ _ none))) ∙ e in
           elim (cases_Bool (leb state.openings state.active)) [
-            | inl full ↦ absurd (let bad : Some fault.NoOpening ≡ None = sym (cond-true _ _ _ full) ∙ second in cc)
+            | inl full ↦ absurd (let bad : Some (fault.Refused NoOpening) ≡ None = sym (cond-true _ _ _ full) ∙ second in cc)
             | inr room ↦
                 let third = sym (cond-false _ _ _ room) ∙ second in
                 elim (cases_Bool (eqb (length state.waiting) 0)) [
-                  | inl nobody ↦ absurd (let bad : Some fault.NothingWaits ≡ None = sym (cond-true _ _ _ nobody) ∙ third in cc)
+                  | inl nobody ↦ absurd (let bad : Some (fault.Refused NothingWaits) ≡ None = sym (cond-true _ _ _ nobody) ∙ third in cc)
                   | inr somebody ↦
                       let fourth = sym (cond-false _ _ _ somebody) ∙ third in
                       elim (cases_eq controller 0) [
-                        | inr apart ↦ absurd (let bad : Some fault.ControllerFrozen ≡ None = sym (cond-true _ _ _ (not_from_false _ (ne_eqb _ _ apart))) ∙ fourth in cc)
+                        | inr apart ↦ absurd (let bad : Some (fault.Refused ControllerFrozen) ≡ None = sym (cond-true _ _ _ (not_from_false _ (ne_eqb _ _ apart))) ∙ fourth in cc)
                         | inl above ↦ record { thawed = none; opening = room; above = above }
                       ]
                 ]
@@ -109,11 +109,11 @@ dispatch_starts setup world queue openings known openings_are e =
     let its = no_fault (frozen (device queue) world.transport.freezes) (frozen (Controller controller) world.transport.freezes) (queue_state_of queue openings world.transport.live) e in
     let next = next_waiting queue world.transport.live in
     let told : QueueFault → Option (Reply × World) = λ g. Some (refused (refusal_of g), world) in
-    let second : Option (Reply × World) = cond (leb (get_or world.transport.openings queue 0) (active_count queue world.transport.live)) (told fault.NoOpening) (chosen_under world controller next) in
-    let first : step_call setup world (Dispatch (record { 0 = queue })) ≡ cond (ltb 0 (frozen (device queue) world.transport.freezes)) (told fault.Frozen) second = cond-false (leb (queue_count setup) queue) _ _ (lt-leb _ _ known) in
+    let second : Option (Reply × World) = cond (leb (get_or world.transport.openings queue 0) (active_count queue world.transport.live)) (told (fault.Refused NoOpening)) (chosen_under world controller next) in
+    let first : step_call setup world (Dispatch (record { 0 = queue })) ≡ cond (ltb 0 (frozen (device queue) world.transport.freezes)) (told (fault.Refused Frozen)) second = cond-false (leb (queue_count setup) queue) _ _ (lt-leb _ _ known) in
     first
-    ∙ (cond-false (ltb 0 (frozen (device queue) world.transport.freezes)) (told fault.Frozen) second (le-ltb _ _ (omega (arith, its.thawed)))
-    ∙ (cond-false (leb (get_or world.transport.openings queue 0) (active_count queue world.transport.live)) (told fault.NoOpening) (chosen_under world controller next) (ap (λ (o : ℕ). leb o (active_count queue world.transport.live)) openings_are ∙ its.opening)
+    ∙ (cond-false (ltb 0 (frozen (device queue) world.transport.freezes)) (told (fault.Refused Frozen)) second (le-ltb _ _ (omega (arith, its.thawed)))
+    ∙ (cond-false (leb (get_or world.transport.openings queue 0) (active_count queue world.transport.live)) (told (fault.Refused NoOpening)) (chosen_under world controller next) (ap (λ (o : ℕ). leb o (active_count queue world.transport.live)) openings_are ∙ its.opening)
     ∙ thawed_above world controller next its.above))
 
 -- and where it has one, that is the refusal
@@ -122,36 +122,36 @@ dispatch_refuses setup world queue openings high f known openings_are rising e =
     let controller = (queue_setup setup queue).controller in
     let next = next_waiting queue world.transport.live in
     let told : QueueFault → Option (Reply × World) = λ g. Some (refused (refusal_of g), world) in
-    let first : step_call setup world (Dispatch (record { 0 = queue })) ≡ cond (ltb 0 (frozen (device queue) world.transport.freezes)) (told fault.Frozen) (cond (leb (get_or world.transport.openings queue 0) (active_count queue world.transport.live)) (told fault.NoOpening) (chosen_under world controller next)) =
+    let first : step_call setup world (Dispatch (record { 0 = queue })) ≡ cond (ltb 0 (frozen (device queue) world.transport.freezes)) (told (fault.Refused Frozen)) (cond (leb (get_or world.transport.openings queue 0) (active_count queue world.transport.live)) (told (fault.Refused NoOpening)) (chosen_under world controller next)) =
     cond-false (leb (queue_count setup) queue) _ _ (lt-leb _ _ known) in
     first ∙ elim (cases_eq (frozen (device queue) world.transport.freezes) 0) [
       | inr apart ↦
-          let both : Some fault.Frozen ≡ Some f = sym (cond-true _ _ _ (not_from_false _ (ne_eqb _ _ apart))) ∙ e in
-          let is : fault.Frozen ≡ f = cc in
+          let both : Some (fault.Refused Frozen) ≡ Some f = sym (cond-true _ _ _ (not_from_false _ (ne_eqb _ _ apart))) ∙ e in
+          let is : (fault.Refused Frozen) ≡ f = cc in
           cond-true (ltb 0 (frozen (device queue) world.transport.freezes)) _ _ (lt-ltb _ _ (omega (arith, apart))) ∙ ap told is
       | inl none ↦
           let second = sym (cond-false _ _ _ (not_from_true _ (eq-eqb _ _ none))) ∙ e in
           cond-false (ltb 0 (frozen (device queue) world.transport.freezes)) _ _ (le-ltb _ _ (omega (arith, none)))
           ∙ elim (cases_Bool (leb openings (active_count queue world.transport.live))) [
             | inl full ↦
-                let both : Some fault.NoOpening ≡ Some f = sym (cond-true _ _ _ full) ∙ second in
-                let is : fault.NoOpening ≡ f = cc in
+                let both : Some (fault.Refused NoOpening) ≡ Some f = sym (cond-true _ _ _ full) ∙ second in
+                let is : (fault.Refused NoOpening) ≡ f = cc in
                 cond-true (leb (get_or world.transport.openings queue 0) (active_count queue world.transport.live)) _ _ (ap (λ (o : ℕ). leb o (active_count queue world.transport.live)) openings_are ∙ full) ∙ ap told is
             | inr room ↦
                 let third = sym (cond-false _ _ _ room) ∙ second in
                 cond-false (leb (get_or world.transport.openings queue 0) (active_count queue world.transport.live)) _ _ (ap (λ (o : ℕ). leb o (active_count queue world.transport.live)) openings_are ∙ room)
                 ∙ elim (cases_eq (length (pairs_of (waits_on queue) world.transport.live)) 0) [
                   | inl nobody ↦
-                      let both : Some fault.NothingWaits ≡ Some f = sym (cond-true _ _ _ (eq-eqb _ _ nobody)) ∙ third in
-                      let is : fault.NothingWaits ≡ f = cc in
+                      let both : Some (fault.Refused NothingWaits) ≡ Some f = sym (cond-true _ _ _ (eq-eqb _ _ nobody)) ∙ third in
+                      let is : (fault.Refused NothingWaits) ≡ f = cc in
                       ap (chosen_under world controller) (none_starts queue world.transport.live nobody) ∙ ap told is
                   | inr somebody ↦
                       let fourth = sym (cond-false _ _ _ (ne_eqb _ _ somebody)) ∙ third in
                       let starts = some_starts queue world.transport.live high rising (omega (arith, somebody)) in
                       elim (cases_eq (frozen (Controller controller) world.transport.freezes) 0) [
                         | inr apart ↦
-                            let both : Some fault.ControllerFrozen ≡ Some f = sym (cond-true _ _ _ (not_from_false _ (ne_eqb _ _ apart))) ∙ fourth in
-                            let is : fault.ControllerFrozen ≡ f = cc in
+                            let both : Some (fault.Refused ControllerFrozen) ≡ Some f = sym (cond-true _ _ _ (not_from_false _ (ne_eqb _ _ apart))) ∙ fourth in
+                            let is : (fault.Refused ControllerFrozen) ≡ f = cc in
                             ap (chosen_under world controller) starts.1
                             ∙ (cond-true (ltb 0 (frozen (Controller controller) world.transport.freezes)) _ _ (lt-ltb _ _ (omega (arith, apart))) ∙ ap told is)
                         | inl above ↦ absurd (let bad : None ≡ Some f = sym (cond-false _ _ _ (not_from_true _ (eq-eqb _ _ above))) ∙ fourth in cc)

@@ -8,8 +8,8 @@ ghost use Rattle.world.specs.Lookups.{ccb_of, with_ccb};
 ghost use Rattle.engine_transport.specs.Listed.{ListState, IsPlaceOf, no_live, is_full, all_active};
 
 use crate::live_ccb::LiveCcb;
-use ccb::CcbId;
 use cam_numbered_slots::NumberedSlots;
+use ccb::CcbId;
 use std::alloc::{AllocError, Global};
 use std::marker::Model;
 

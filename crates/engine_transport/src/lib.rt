@@ -9,4 +9,4 @@ mod queue_list;
 mod transport;
 
 pub use live_ccb::LiveCcb;
-pub use engine_transport::Transport;
+pub use transport::Transport;

@@ -8,11 +8,11 @@ ghost use Rattle.dev_queue.specs.Faults.{insert_fault, start_fault};
 ghost use Rattle.engine_transport.specs.Queues.{queue_at, with_gone};
 ghost use Rattle.engine_transport.specs.Refusals.{refusal_of};
 
-use world_calls::CallRefusal;
 use ccb::{CcbId, QueueId};
 use dev_queue::{DevQueue, Frozen, QueueFault};
 use std::alloc::{AllocError, Global};
 use std::marker::Model;
+use world_calls::CallRefusal;
 
 /// How often a queue is frozen, and its controller.
 #[derive(Drop)]
@@ -41,10 +41,7 @@ pub(crate) fn refusal(fault: QueueFault) -> CallRefusal
 {
     match fault {
         QueueFault::Full => CallRefusal::Limit,
-        QueueFault::Frozen => CallRefusal::Frozen,
-        QueueFault::NoOpening => CallRefusal::NoOpening,
-        QueueFault::NothingWaits => CallRefusal::NothingWaits,
-        QueueFault::ControllerFrozen => CallRefusal::ControllerFrozen,
+        QueueFault::Refused(refusal) => refusal,
     }
 }
 

@@ -18,7 +18,7 @@ ghost use Rattle.world.specs.Capacities.{most_controllers, most_queues, most_ccb
 ghost use Rattle.world.specs.Lookups.{is_waiting, is_active, ccb_of, with_ccb};
 ghost use Rattle.world_calls.specs.declared.call.Call.TheVariants.{Submit, Dispatch, GuestFreeze, GuestRelease, Clock};
 ghost use Rattle.world_calls.specs.declared.call_answer.CallAnswer.TheVariants as answers;
-ghost use Rattle.world_calls.specs.declared.call_refusal.CallRefusal.TheVariants.{Unknown};
+ghost use Rattle.ccb.specs.declared.call_refusal.CallRefusal.TheVariants.{Unknown};
 ghost use Rattle.world_calls.specs.Answered.{ccb_answer, freeze_answer, removed_answer};
 ghost use Rattle.world.specs.Event.{replies};
 ghost use Rattle.world.specs.FreezeSteps.{is_guest};
@@ -30,13 +30,13 @@ ghost use Rattle.engine_transport.specs.Listed.{IsPlaceOf};
 use crate::ccb_list::CcbList;
 use crate::live_ccb::LiveCcb;
 use crate::queue_list::{FrozenTimes, QueueList, refusal};
-use world_calls::CallRefusal;
 use ccb::{Ccb, CcbId, Completion, Place, QueueId};
 use freeze_ledger::{FreezeToken, Holder, Holders, Ledger};
 use std::alloc::{AllocError, Global};
 use std::marker::Model;
 use timer_events::expire_due;
 use world::{CcbState, MAX_CONTROLLERS, QueueInfo};
+use world_calls::CallRefusal;
 
 /// The last clock reading that there is, in milliseconds: 2^62.
 const LAST_READING: u64 = 4_611_686_018_427_387_904;

@@ -1,7 +1,7 @@
 -- What the columns of a row say together, in each row of the table.
 use Rattle.std.proofs.Common.{◌≡◌, ◌≤◌, ℕ, Some, refl, rules, arith}
 use Rattle.helpers.specs.declared.table.Helper.{Helper}
-use Rattle.helpers.specs.declared.columns.Asked.TheVariants.{HeldFreeze, Within, Room as RoomOf, Bytes as BytesAt}
+use Rattle.helpers.specs.declared.columns.ArgKind.TheVariants.{HeldFreeze, Within, Room as RoomOf, Bytes as BytesAt}
 use Rattle.helpers.specs.declared.columns.Needs.TheVariants as needs
 use Rattle.helpers.specs.declared.columns.Gives.{Gives}
 use Rattle.helpers.specs.declared.columns.Gives.TheVariants.{Number, NewFreeze}

@@ -5,13 +5,13 @@ use Rattle.std.specs.Ordering.{int_eq}
 use Rattle.helpers.specs.declared.table.Helper.{Helper}
 use Rattle.helpers.specs.declared.table.Helper.TheVariants as helpers
 use Rattle.helpers.specs.contracts.table.Helper as helper
-use Rattle.helpers.specs.declared.columns.Asked.{Asked}
+use Rattle.helpers.specs.declared.columns.ArgKind.{ArgKind}
 use Rattle.helpers.specs.declared.columns.Asks.{Asks}
 use Rattle.helpers.specs.declared.columns.Needs.TheVariants as needs
 use Rattle.helpers.specs.declared.columns.Gives.TheVariants.{Number}
 use Rattle.helpers.specs.declared.columns.Change.TheVariants as changes
 use Rattle.helpers.specs.declared.columns.Tells.TheVariants as tells
-use Rattle.helpers.specs.declared.table.Deed.TheVariants as deeds
+use Rattle.helpers.specs.declared.table.HelperEffect.TheVariants as effects
 use Rattle.helpers.specs.declared.table.Row.{Row}
 use Rattle.helpers.specs.declared.table.TheConstants.{CONTROLLER_HELPERS, HELPERS, QUEUE_HELPERS}
 use Rattle.helpers.specs.declared.limits.HelperLimits.{HelperLimits}
@@ -34,7 +34,7 @@ no_row = record {
   gives = Number 0 0;
   machine = changes.Nothing;
   tells = tells.Name;
-  deed = deeds.Nothing;
+  effect = effects.Nothing;
 }
 
 -- the row of a helper
@@ -44,7 +44,7 @@ row_of name = slice_index_or HELPERS (tag_of helper.the_type name) no_row
 abbrev pub asks : Helper → Asks
 asks name = (row_of name).asks
 
-abbrev pub counted : Option Asked → ℕ
+abbrev pub counted : Option ArgKind → ℕ
 counted (Some asked) = 1
 counted None = 0
 

@@ -2,7 +2,7 @@
 
 /// What a helper asks of one argument.
 #[derive(Clone, Copy, Debug, PartialEq, Eq)]
-pub enum Asked {
+pub enum ArgKind {
     /// The number of a queue, from 0.
     Queue,
     /// The number of a freeze that the run holds.
@@ -24,9 +24,9 @@ pub enum Asked {
 /// What a helper asks of R1, R2 and R3. An argument that it does not take is not read.
 #[derive(Clone, Copy, Debug, PartialEq, Eq)]
 pub struct Asks {
-    pub first: Option<Asked>,
-    pub second: Option<Asked>,
-    pub third: Option<Asked>,
+    pub first: Option<ArgKind>,
+    pub second: Option<ArgKind>,
+    pub third: Option<ArgKind>,
 }
 
 /// What a helper needs of the run that calls it.

@@ -7,7 +7,7 @@ mod limits;
 mod request;
 mod table;
 
-pub use columns::{Asked, Asks, Change, Gives, Needs, Tells};
+pub use columns::{ArgKind, Asks, Change, Gives, Needs, Tells};
 pub use limits::{HelperLimits, HelperSet, TableLengths};
 pub use request::{Answer, Arguments, Request, Written};
-pub use table::{Deed, HELPERS, Helper, Row};
+pub use table::{HELPERS, Helper, HelperEffect, Row};

@@ -4,7 +4,7 @@
 ghost use Rattle.std.specs.Prelude.{◌≡◌};
 ghost use Rattle.helpers.specs.Table.{asks, arity, helper_of, number_of, row_of};
 
-use crate::columns::{Asked, Asks, Change, Gives, Needs, Tells};
+use crate::columns::{ArgKind, Asks, Change, Gives, Needs, Tells};
 
 /// A helper function that a policy may call. All else that there is to know of it stands in its row of the table.
 #[derive(Clone, Copy, Debug, PartialEq, Eq)]
@@ -22,12 +22,12 @@ pub enum Helper {
     Now,
     SetOpenings,
     FreezeController,
-    ControllerFrozen,
+    ControllerFreezes,
 }
 
 /// What a call does to queues, CCBs, freezes and tables.
 #[derive(Clone, Copy, Debug, PartialEq, Eq)]
-pub enum Deed {
+pub enum HelperEffect {
     /// It only answers, and what the history tells of it is all.
     Nothing,
     /// The queue that R1 names is frozen by a new freeze of the run, if that meets no limit: its number, or 0.
@@ -67,7 +67,7 @@ pub struct Row {
     pub gives: Gives,
     pub machine: Change,
     pub tells: Tells,
-    pub deed: Deed,
+    pub effect: HelperEffect,
 }
 
 /// The greatest word of a table.
@@ -88,7 +88,7 @@ pub const HELPERS: [Row; 14] = [
     Row {
         helper: Helper::Freeze,
         asks: Asks {
-            first: Some(Asked::Queue),
+            first: Some(ArgKind::Queue),
             second: None,
             third: None,
         },
@@ -96,13 +96,13 @@ pub const HELPERS: [Row; 14] = [
         gives: Gives::NewFreeze,
         machine: Change::Holds,
         tells: Tells::Name,
-        deed: Deed::Freeze,
+        effect: HelperEffect::Freeze,
     },
     // 2 release(freeze)
     Row {
         helper: Helper::Release,
         asks: Asks {
-            first: Some(Asked::HeldFreeze),
+            first: Some(ArgKind::HeldFreeze),
             second: None,
             third: None,
         },
@@ -113,14 +113,14 @@ pub const HELPERS: [Row; 14] = [
         },
         machine: Change::GivesUp,
         tells: Tells::Name,
-        deed: Deed::GiveBack,
+        effect: HelperEffect::GiveBack,
     },
     // 3 release_after(freeze, ms)
     Row {
         helper: Helper::ReleaseAfter,
         asks: Asks {
-            first: Some(Asked::HeldFreeze),
-            second: Some(Asked::Within {
+            first: Some(ArgKind::HeldFreeze),
+            second: Some(ArgKind::Within {
                 least: 1,
                 most: 600_000,
             }),
@@ -130,13 +130,13 @@ pub const HELPERS: [Row; 14] = [
         gives: Gives::Number { least: 0, most: 0 },
         machine: Change::GivesUp,
         tells: Tells::Name,
-        deed: Deed::HandOver,
+        effect: HelperEffect::HandOver,
     },
     // 4 requeue(n)
     Row {
         helper: Helper::Requeue,
         asks: Asks {
-            first: Some(Asked::Within { least: 0, most: 1 }),
+            first: Some(ArgKind::Within { least: 0, most: 1 }),
             second: None,
             third: None,
         },
@@ -144,13 +144,13 @@ pub const HELPERS: [Row; 14] = [
         gives: Gives::Number { least: 0, most: 0 },
         machine: Change::Disposes,
         tells: Tells::Name,
-        deed: Deed::Requeue,
+        effect: HelperEffect::Requeue,
     },
     // 5 finish(code)
     Row {
         helper: Helper::Finish,
         asks: Asks {
-            first: Some(Asked::Within { least: 0, most: 63 }),
+            first: Some(ArgKind::Within { least: 0, most: 63 }),
             second: None,
             third: None,
         },
@@ -158,14 +158,14 @@ pub const HELPERS: [Row; 14] = [
         gives: Gives::Number { least: 0, most: 0 },
         machine: Change::Disposes,
         tells: Tells::Code,
-        deed: Deed::Finish,
+        effect: HelperEffect::Finish,
     },
     // 6 table_get(table, index)
     Row {
         helper: Helper::TableGet,
         asks: Asks {
-            first: Some(Asked::Table),
-            second: Some(Asked::Index),
+            first: Some(ArgKind::Table),
+            second: Some(ArgKind::Index),
             third: None,
         },
         needs: Needs::Nothing,
@@ -175,15 +175,15 @@ pub const HELPERS: [Row; 14] = [
         },
         machine: Change::Nothing,
         tells: Tells::Name,
-        deed: Deed::GetWord,
+        effect: HelperEffect::GetWord,
     },
     // 7 table_put(table, index, word)
     Row {
         helper: Helper::TablePut,
         asks: Asks {
-            first: Some(Asked::Table),
-            second: Some(Asked::Index),
-            third: Some(Asked::Word),
+            first: Some(ArgKind::Table),
+            second: Some(ArgKind::Index),
+            third: Some(ArgKind::Word),
         },
         needs: Needs::Nothing,
         gives: Gives::Number {
@@ -192,15 +192,15 @@ pub const HELPERS: [Row; 14] = [
         },
         machine: Change::Nothing,
         tells: Tells::Name,
-        deed: Deed::PutWord,
+        effect: HelperEffect::PutWord,
     },
     // 8 table_add(table, index, word)
     Row {
         helper: Helper::TableAdd,
         asks: Asks {
-            first: Some(Asked::Table),
-            second: Some(Asked::Index),
-            third: Some(Asked::Word),
+            first: Some(ArgKind::Table),
+            second: Some(ArgKind::Index),
+            third: Some(ArgKind::Word),
         },
         needs: Needs::Nothing,
         gives: Gives::Number {
@@ -209,13 +209,13 @@ pub const HELPERS: [Row; 14] = [
         },
         machine: Change::Nothing,
         tells: Tells::Name,
-        deed: Deed::AddWord,
+        effect: HelperEffect::AddWord,
     },
     // 9 queue_info(ptr)
     Row {
         helper: Helper::QueueInfo,
         asks: Asks {
-            first: Some(Asked::Room { bytes: 16 }),
+            first: Some(ArgKind::Room { bytes: 16 }),
             second: None,
             third: None,
         },
@@ -223,21 +223,21 @@ pub const HELPERS: [Row; 14] = [
         gives: Gives::Number { least: 0, most: 0 },
         machine: Change::Writes { bytes: 16 },
         tells: Tells::Name,
-        deed: Deed::TellQueue,
+        effect: HelperEffect::TellQueue,
     },
     // 10 trace(ptr, length)
     Row {
         helper: Helper::Trace,
         asks: Asks {
-            first: Some(Asked::Bytes),
-            second: Some(Asked::Within { least: 1, most: 64 }),
+            first: Some(ArgKind::Bytes),
+            second: Some(ArgKind::Within { least: 1, most: 64 }),
             third: None,
         },
         needs: Needs::Nothing,
         gives: Gives::Number { least: 0, most: 0 },
         machine: Change::Nothing,
         tells: Tells::Bytes,
-        deed: Deed::Nothing,
+        effect: HelperEffect::Nothing,
     },
     // 11 now()
     Row {
@@ -254,13 +254,13 @@ pub const HELPERS: [Row; 14] = [
         },
         machine: Change::Nothing,
         tells: Tells::Name,
-        deed: Deed::TellClock,
+        effect: HelperEffect::TellClock,
     },
     // 12 set_openings(n)
     Row {
         helper: Helper::SetOpenings,
         asks: Asks {
-            first: Some(Asked::Within {
+            first: Some(ArgKind::Within {
                 least: 1,
                 most: 255,
             }),
@@ -274,7 +274,7 @@ pub const HELPERS: [Row; 14] = [
         },
         machine: Change::Nothing,
         tells: Tells::Name,
-        deed: Deed::SetOpenings,
+        effect: HelperEffect::SetOpenings,
     },
     // 13 freeze_controller()
     Row {
@@ -288,11 +288,11 @@ pub const HELPERS: [Row; 14] = [
         gives: Gives::NewFreeze,
         machine: Change::Holds,
         tells: Tells::Name,
-        deed: Deed::FreezeController,
+        effect: HelperEffect::FreezeController,
     },
     // 14 controller_frozen()
     Row {
-        helper: Helper::ControllerFrozen,
+        helper: Helper::ControllerFreezes,
         asks: Asks {
             first: None,
             second: None,
@@ -305,8 +305,26 @@ pub const HELPERS: [Row; 14] = [
         },
         machine: Change::Nothing,
         tells: Tells::Name,
-        deed: Deed::TellController,
+        effect: HelperEffect::TellController,
     },
+];
+
+/// How the helpers are written for people, in the order of their numbers.
+const SIGNATURES: [&str; 14] = [
+    "freeze(queue)",
+    "release(freeze)",
+    "release_after(freeze, ms)",
+    "requeue(n)",
+    "finish(code)",
+    "table_get(table, index)",
+    "table_put(table, index, word)",
+    "table_add(table, index, word)",
+    "queue_info(ptr)",
+    "trace(ptr, length)",
+    "now()",
+    "set_openings(n)",
+    "freeze_controller()",
+    "controller_frozen()",
 ];
 
 impl Helper {
@@ -333,6 +351,20 @@ impl Helper {
         ensures { result.now ≡ row_of self }
     {
         &HELPERS[self as usize]
+    }
+
+    /// How it is written for people: the name that policies have, and its arguments, as `freeze(queue)`.
+    pub fn signature(self) -> &'static str {
+        SIGNATURES[self as usize]
+    }
+
+    /// The name that policies have.
+    pub fn name(self) -> &'static str {
+        let signature = self.signature();
+        match signature.split_once('(') {
+            Some((name, _)) => name,
+            None => signature,
+        }
     }
 
     /// What it asks of its arguments.

@@ -9,16 +9,16 @@ use Rattle.std.proofs.lemmas.Bool.Decides.{nat_tests}
 use Rattle.std.proofs.lemmas.List.Folds.{list_all-append}
 use Rattle.std.proofs.lemmas.List.Concat.{flat_map-cons}
 use Rattle.ccb.specs.Status.{code_of}
-use Rattle.world_calls.specs.CallRefusalText.{call_refusal_text, row_of as refusal_row}
+use Rattle.ccb.specs.CallRefusalText.{call_refusal_text, row_of as refusal_row}
 use Rattle.world_calls.specs.declared.call_answer.CallAnswer.{CallAnswer}
 use Rattle.world_calls.specs.declared.call_answer.CallAnswer.TheVariants as answers
-use Rattle.world_calls.specs.declared.call_refusal.CallRefusal.{CallRefusal}
+use Rattle.ccb.specs.declared.call_refusal.CallRefusal.{CallRefusal}
 use Rattle.helpers.specs.Table.{number_of}
 use Rattle.helpers.specs.declared.table.Helper.{Helper}
 use Rattle.trace_lines.specs.Answers.{named_number_text, form_text, answer_text}
 use Rattle.trace_lines.specs.Calls.{word_text}
 use Rattle.trace_lines.specs.Lines.{slot_text, fields_text, line_text}
-use Rattle.trace_lines.specs.Rows.{row_of, is_among}
+use Rattle.trace_lines.specs.Rows.{row_of, may_be}
 use Rattle.trace_lines.specs.Texts.{where_true, pair_text, is_byte, bytes_text, sense_text, code_text, number_text, long_number_text, helper_text, stop_text, field_text, told_by, tells_name, tells_bytes, tells_code}
 use Rattle.trace_lines.specs.declared.kind.Kind.{Kind}
 use Rattle.trace_lines.specs.declared.kind.Kind.TheVariants as kinds
@@ -164,7 +164,7 @@ unfolding refusal_row
 plain_code refusal = search rules
 
 pub plain_answer : (row : Row) (answer : CallAnswer) → IsPlain (answer_text row answer)
-plain_answer row (answers.Refused refusal) = plain_where (is_among row.refusals refusal) (call_refusal_text refusal) (λ h. plain_code refusal)
+plain_answer row (answers.Refused refusal) = plain_where (may_be row refusal) (call_refusal_text refusal) (λ h. plain_code refusal)
 plain_answer row (answers.Ccb ccb) = plain_form row.form (answers.Ccb ccb)
 plain_answer row answers.Done = plain_form row.form answers.Done
 plain_answer row (answers.Started run freeze) = plain_form row.form (answers.Started run freeze)

@@ -7,17 +7,17 @@ use Rattle.std.specs.Char.{is_ascii_digit}
 use Rattle.std.specs.Fmt.{option_append}
 use Rattle.std.proofs.lemmas.Bool.{ltb-true}
 use Rattle.std.proofs.lemmas.Bool.Decides.{nat_tests}
-use Rattle.world_calls.specs.CallRefusalText.{call_refusal_text, refusal_coded, row_of as refusal_row}
-use Rattle.world_calls.specs.declared.call_refusal.CallRefusal.{CallRefusal}
-use Rattle.world_calls.specs.declared.call_refusal.RefusalRow.{RefusalRow}
-use Rattle.world_calls.specs.declared.call_refusal.TheConstants.{REFUSALS}
+use Rattle.ccb.specs.CallRefusalText.{call_refusal_text, refusal_coded, row_of as refusal_row}
+use Rattle.ccb.specs.declared.call_refusal.CallRefusal.{CallRefusal}
+use Rattle.ccb.specs.declared.call_refusal.RefusalRow.{RefusalRow}
+use Rattle.ccb.specs.declared.call_refusal.TheConstants.{REFUSALS}
 use Rattle.world_calls.specs.declared.call_answer.CallAnswer.{CallAnswer}
 use Rattle.world_calls.specs.declared.call_answer.CallAnswer.TheVariants as answers
 use Rattle.trace_lines.specs.declared.table.Form.{Form}
 use Rattle.trace_lines.specs.declared.table.Form.TheVariants as forms
 use Rattle.trace_lines.specs.declared.table.Row.{Row}
 use Rattle.trace_lines.specs.Answers.{named_number_text, started_text, code_told, refusal_text, form_text, answer_text}
-use Rattle.trace_lines.specs.Rows.{is_among}
+use Rattle.trace_lines.specs.Rows.{may_be}
 use Rattle.trace_lines.specs.Texts.{where_true, number_text}
 use Rattle.trace_lines.specs.Reading.{IsCut, ends_word, is_black}
 use Rattle.trace_lines.specs.Written.{Reads}
@@ -159,7 +159,7 @@ first_code refusal text e = ap capital (sym (same_text (call_refusal_text refusa
 -- what is no refusal is not spelled as one
 no_code : (row : Row) (answer : CallAnswer) (refusal : CallRefusal) (text : List ℕ) → form_text row.form answer ≡ Some text → refusal_text row refusal ≡ Some text → ⊥
 no_code row answer refusal text e f =
-    let told = passed (is_among row.refusals refusal) (call_refusal_text refusal) text f in
+    let told = passed (may_be row refusal) (call_refusal_text refusal) text f in
     let a = first_told row.form answer text e in
     let b = first_code refusal text (ap Some told.1) in
     absurd cc
@@ -238,19 +238,19 @@ coded_reads text = record {
 
 -- ---- the row's own refusals
 
-pub own_refusal : (row : Row) (text : List ℕ) (refusal : CallRefusal) → is_among row.refusals refusal ≡ true → Reads code_told text (Some refusal) → Reads (refusal_text row) text (Some refusal)
+pub own_refusal : (row : Row) (text : List ℕ) (refusal : CallRefusal) → may_be row refusal ≡ true → Reads code_told text (Some refusal) → Reads (refusal_text row) text (Some refusal)
 own_refusal row text refusal there reads = record {
   said = ap (λ (b : Bool). where_true b (call_refusal_text refusal)) there ∙ reads.said;
-  back = λ other e. reads.back other (ap Some (passed (is_among row.refusals other) (call_refusal_text other) text e).1);
+  back = λ other e. reads.back other (ap Some (passed (may_be row other) (call_refusal_text other) text e).1);
 }
 
-pub another_refusal : (row : Row) (text : List ℕ) (refusal : CallRefusal) → is_among row.refusals refusal ≡ false → Reads code_told text (Some refusal) → Reads (refusal_text row) text None
+pub another_refusal : (row : Row) (text : List ℕ) (refusal : CallRefusal) → may_be row refusal ≡ false → Reads code_told text (Some refusal) → Reads (refusal_text row) text None
 another_refusal row text refusal absent reads = record {
   said = tt;
   back = λ other e.
-      let told = passed (is_among row.refusals other) (call_refusal_text other) text e in
+      let told = passed (may_be row other) (call_refusal_text other) text e in
       let same = reads.back other (ap Some told.1) in
       let its : refusal ≡ other = cc in
-      let there : is_among row.refusals refusal ≡ true = ap (is_among row.refusals) its ∙ told.0 in
+      let there : may_be row refusal ≡ true = ap (may_be row) its ∙ told.0 in
       absurd cc;
 }

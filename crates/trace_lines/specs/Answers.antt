@@ -1,11 +1,11 @@
 -- How an answer is spelled, by the form and the refusals of its row.
 use Rattle.std.specs.Prelude.{ℕ, Option, Some, None, List, codes}
 use Rattle.std.specs.Fmt.{option_append}
-use Rattle.world_calls.specs.CallRefusalText.{call_refusal_text}
-use Rattle.world_calls.specs.declared.call_refusal.CallRefusal.{CallRefusal}
+use Rattle.ccb.specs.CallRefusalText.{call_refusal_text}
+use Rattle.ccb.specs.declared.call_refusal.CallRefusal.{CallRefusal}
 use Rattle.world_calls.specs.declared.call_answer.CallAnswer.{CallAnswer}
 use Rattle.world_calls.specs.declared.call_answer.CallAnswer.TheVariants as answers
-use Rattle.trace_lines.specs.Rows.{is_among}
+use Rattle.trace_lines.specs.Rows.{may_be}
 use Rattle.trace_lines.specs.Texts.{where_true, number_text}
 use Rattle.trace_lines.specs.declared.table.Form.{Form}
 use Rattle.trace_lines.specs.declared.table.Form.TheVariants as forms
@@ -36,7 +36,7 @@ form_text form answer = None
 
 -- a refusal that is the row's
 abbrev pub refusal_text : Row → CallRefusal → Option (List ℕ)
-refusal_text row refusal = where_true (is_among row.refusals refusal) (call_refusal_text refusal)
+refusal_text row refusal = where_true (may_be row refusal) (call_refusal_text refusal)
 
 -- an answer of another form, and a refusal that is not the row's, have none
 abbrev pub answer_text : Row → CallAnswer → Option (List ℕ)

@@ -1,12 +1,13 @@
 -- The rows of the lines, each at its word's place.
-use Rattle.std.specs.Prelude.{ℕ, ◌==◌, Bool, false, List, [], Option, Some, None, bytes_eq, find, slice_index_or}
-use Rattle.std.specs.List.{list_any}
+use Rattle.std.specs.Prelude.{ℕ, Bool, false, List, None, Option, bytes_eq, find, slice_index_or}
 use Rattle.std.specs.Option.{option_map}
-use Rattle.world_calls.specs.declared.call_refusal.CallRefusal.{CallRefusal}
-use Rattle.world_calls.specs.contracts.call_refusal.CallRefusal as refusal
+use Rattle.ccb.specs.declared.call_refusal.CallRefusal.{CallRefusal}
+use Rattle.ccb.specs.declared.call_refusal.RefusedCalls.{RefusedCalls}
+use Rattle.ccb.specs.CallRefusalText.{row_of as refusal_row}
 use Rattle.trace_lines.specs.Calls.{word_text}
 use Rattle.trace_lines.specs.declared.word.Word.{Word}
 use Rattle.trace_lines.specs.declared.word.Word.TheVariants.{Park}
+use Rattle.trace_lines.specs.declared.word.Word.TheVariants as words
 use Rattle.trace_lines.specs.contracts.word.Word as word
 use Rattle.trace_lines.specs.declared.table.Form.TheVariants as forms
 use Rattle.trace_lines.specs.declared.table.Row.{Row}
@@ -19,7 +20,6 @@ no_row = record {
   word = Park;
   fields = record { first = None; second = None; third = None; fourth = None };
   form = forms.Ok;
-  refusals = [];
 }
 
 -- the row of a word
@@ -33,10 +33,17 @@ is_named name row = bytes_eq (word_text row.word) name
 unfoldable pub word_named : List ℕ → Option Word
 word_named name = option_map (λ row. row.word) (find (is_named name) LINES)
 
--- the refusal is that one, or among these
-abbrev pub is_refusal : Option CallRefusal → CallRefusal → Bool
-is_refusal None told = false
-is_refusal (Some there) told = tag_of refusal.the_type there == tag_of refusal.the_type told
+-- which of a refusal's columns says whether the lines of a word may be refused so
+abbrev pub is_refused_by : Word → RefusedCalls → Bool
+is_refused_by words.Submit calls = calls.submit
+is_refused_by words.Dispatch calls = calls.dispatch
+is_refused_by words.Complete calls = calls.complete
+is_refused_by words.FreezeQueue calls = calls.freeze
+is_refused_by words.FreezeController calls = calls.freeze
+is_refused_by words.Clock calls = calls.clock
+is_refused_by words.Resume calls = calls.resume
+is_refused_by word calls = false
 
-abbrev pub is_among : List (Option CallRefusal) → CallRefusal → Bool
-is_among refusals told = list_any (λ slot. is_refusal slot told) refusals
+-- the line may be refused so
+abbrev pub may_be : Row → CallRefusal → Bool
+may_be row refusal = is_refused_by row.word (refusal_row refusal).calls

@@ -1,7 +1,7 @@
 // Prints and reads what a line is answered, by its row. It relies on `table` for rows, on `text`, and on `printing` and `reading` for numbers.
 
 ghost use Rattle.std.specs.Prelude.{◌≡◌, ◌+◌, ◌≤◌, ◌++◌, length, MatchOption};
-ghost use Rattle.world_calls.specs.CallRefusalText.{call_refusal_text};
+ghost use Rattle.ccb.specs.CallRefusalText.{call_refusal_text};
 ghost use Rattle.trace_lines.specs.Answers.{answer_text, code_told, form_text, named_number_text, refusal_text, started_text};
 ghost use Rattle.trace_lines.specs.declared.table.Form.TheVariants.{Completed};
 ghost use Rattle.trace_lines.specs.Written.{IsPut, KeepsFront, Puts, Reads};
@@ -11,8 +11,8 @@ use crate::printing::{NUMBER, print_number};
 use crate::reading::{first_word, number};
 use crate::table::{Form, Row};
 use crate::text::{ROOM, Text};
-use world_calls::{CallAnswer, CallRefusal, REFUSALS};
 use ccb::CcbId;
+use world_calls::{CallAnswer, CallRefusal};
 
 /// How long an answer may be.
 pub const ANSWER: usize = 40;
@@ -40,11 +40,10 @@ impl Row {
 }
 
 // The code of a refusal, a letter and a digit.
-#[tactic(auto, unfolding(world_calls::specs::CallRefusalText::row_of))]
 fn code_of(refusal: CallRefusal) -> [u8; 2]
     ensures { result ≡ call_refusal_text refusal }
 {
-    let row = REFUSALS[refusal as usize];
+    let row = refusal.row();
     [row.letter, row.digit]
 }
 

@@ -9,9 +9,9 @@ use crate::kind::Slots;
 use crate::value::{Value, byte_in, bytes_in, long_number_at, number_at, status_in};
 use crate::word::Word;
 use base::ShortBytes;
-use world_calls::{Call, CompletionRecord};
 use ccb::{CamStatus, CcbId, Completion, Place, QueueId};
 use std::alloc::{AllocError, Global};
+use world_calls::{Call, CompletionRecord};
 
 /// The word of a call.
 pub fn word_of(call: &Call) -> Word

@@ -2,7 +2,7 @@
 // spelled, and on `world_calls` for refusals.
 
 ghost use Rattle.std.specs.Prelude.{◌≡◌};
-ghost use Rattle.trace_lines.specs.Rows.{is_among, is_named, is_refusal, row_of, word_named};
+ghost use Rattle.trace_lines.specs.Rows.{is_named, may_be, row_of, word_named};
 
 use crate::kind::{Kind, Slots};
 use crate::word::Word;
@@ -33,8 +33,6 @@ pub struct Row {
     pub word: Word,
     pub fields: Slots<Kind>,
     pub form: Form,
-    /// By what it may be refused.
-    pub refusals: [Option<CallRefusal>; 5],
 }
 
 /// The lines, in the order of their words. The comment of a row names its fields and answers for people.
@@ -49,13 +47,6 @@ pub const LINES: [Row; 10] = [
             fourth: None,
         },
         form: Form::Ccb,
-        refusals: [
-            Some(CallRefusal::Unknown),
-            Some(CallRefusal::Limit),
-            None,
-            None,
-            None,
-        ],
     },
     // dispatch Q = ccb C
     Row {
@@ -67,13 +58,6 @@ pub const LINES: [Row; 10] = [
             fourth: None,
         },
         form: Form::Ccb,
-        refusals: [
-            Some(CallRefusal::Unknown),
-            Some(CallRefusal::Frozen),
-            Some(CallRefusal::NoOpening),
-            Some(CallRefusal::NothingWaits),
-            Some(CallRefusal::ControllerFrozen),
-        ],
     },
     // complete C STATUS SCSI SENSE = done, or run R freeze F
     Row {
@@ -85,13 +69,6 @@ pub const LINES: [Row; 10] = [
             fourth: Some(Kind::Sense),
         },
         form: Form::Completed,
-        refusals: [
-            Some(CallRefusal::Unknown),
-            Some(CallRefusal::Limit),
-            Some(CallRefusal::NotActive),
-            None,
-            None,
-        ],
     },
     // advance R N STOP = R0
     Row {
@@ -103,7 +80,6 @@ pub const LINES: [Row; 10] = [
             fourth: None,
         },
         form: Form::R0,
-        refusals: [None; 5],
     },
     // gfreeze Q G = freeze F
     Row {
@@ -115,13 +91,6 @@ pub const LINES: [Row; 10] = [
             fourth: None,
         },
         form: Form::Freeze,
-        refusals: [
-            Some(CallRefusal::Unknown),
-            Some(CallRefusal::Limit),
-            None,
-            None,
-            None,
-        ],
     },
     // cfreeze C G = freeze F
     Row {
@@ -133,13 +102,6 @@ pub const LINES: [Row; 10] = [
             fourth: None,
         },
         form: Form::Freeze,
-        refusals: [
-            Some(CallRefusal::Unknown),
-            Some(CallRefusal::Limit),
-            None,
-            None,
-            None,
-        ],
     },
     // grelease F = LEFT
     Row {
@@ -151,7 +113,6 @@ pub const LINES: [Row; 10] = [
             fourth: None,
         },
         form: Form::Left,
-        refusals: [None; 5],
     },
     // clock T = WENT
     Row {
@@ -163,13 +124,6 @@ pub const LINES: [Row; 10] = [
             fourth: None,
         },
         form: Form::Went,
-        refusals: [
-            Some(CallRefusal::Limit),
-            Some(CallRefusal::GoesBack),
-            None,
-            None,
-            None,
-        ],
     },
     // park R = ok
     Row {
@@ -181,7 +135,6 @@ pub const LINES: [Row; 10] = [
             fourth: None,
         },
         form: Form::Ok,
-        refusals: [None; 5],
     },
     // resume R = ok
     Row {
@@ -193,7 +146,6 @@ pub const LINES: [Row; 10] = [
             fourth: None,
         },
         form: Form::Ok,
-        refusals: [Some(CallRefusal::Unknown), None, None, None, None],
     },
 ];
 
@@ -227,17 +179,17 @@ impl Row {
 
     /// Whether the line may be refused so.
     pub fn may_be(&self, refusal: CallRefusal) -> bool
-        ensures { result ≡ is_among self.now.refusals refusal }
+        ensures { result ≡ may_be self.now refusal }
     {
-        self.refusals.iter().any(|slot| is_refusal(*slot, refusal))
-    }
-}
-
-fn is_refusal(slot: Option<CallRefusal>, refusal: CallRefusal) -> bool
-    ensures { result ≡ is_refusal slot refusal }
-{
-    match slot {
-        Some(there) => there as u8 == refusal as u8,
-        None => false,
+        let calls = refusal.row().calls;
+        match self.word {
+            Word::Submit => calls.submit,
+            Word::Dispatch => calls.dispatch,
+            Word::Complete => calls.complete,
+            Word::FreezeQueue | Word::FreezeController => calls.freeze,
+            Word::Clock => calls.clock,
+            Word::Resume => calls.resume,
+            Word::Advance | Word::ReleaseFreeze | Word::Park => false,
+        }
     }
 }

@@ -4,7 +4,7 @@ use Rattle.ccb.specs.declared.CcbId.{CcbId}
 use Rattle.freeze_ledger.specs.declared.freeze.Freeze.{Freeze}
 use Rattle.world_calls.specs.declared.call_answer.CallAnswer.{CallAnswer}
 use Rattle.world_calls.specs.declared.call_answer.CallAnswer.TheVariants as answers
-use Rattle.world_calls.specs.declared.call_refusal.CallRefusal.{CallRefusal}
+use Rattle.ccb.specs.declared.call_refusal.CallRefusal.{CallRefusal}
 
 -- a CCB that was submitted or started
 abbrev pub ccb_answer : Result CcbId CallRefusal → CallAnswer

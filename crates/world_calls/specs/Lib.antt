@@ -1,4 +1,3 @@
 pub mod Kept
-pub mod CallRefusalText
 pub mod Answered
 pub mod Versions

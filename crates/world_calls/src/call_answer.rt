@@ -1,7 +1,6 @@
 // What a call of the engine is answered. It relies on `call_refusal` for why one is refused.
 
-use crate::call_refusal::CallRefusal;
-use ccb::CcbId;
+use ccb::{CallRefusal, CcbId};
 
 /// The answer to a call.
 #[derive(Clone, Copy, Debug, PartialEq, Eq)]

@@ -4,7 +4,6 @@
 
 mod call;
 mod call_answer;
-mod call_refusal;
 mod completion_record;
 mod notice;
 mod notices;
@@ -15,7 +14,7 @@ mod traced_bytes;
 
 pub use call::Call;
 pub use call_answer::CallAnswer;
-pub use call_refusal::{CallRefusal, REFUSALS, RefusalRow};
+pub use ccb::CallRefusal;
 pub use completion_record::CompletionRecord;
 pub use notice::Notice;
 pub use notices::{Notices, Silent};

@@ -1,7 +1,7 @@
 use Rattle.std.proofs.lemmas.Grind.{put_two}
 use Rattle.std.proofs.Common.{refl}
-use Rattle.world_calls.proofs.Codes.{code_is}
-use Rattle.world_calls.proofs.call_refusal.CallRefusalDisplay.fmt.Goals as goal
+use Rattle.ccb.proofs.Codes.{code_is}
+use Rattle.ccb.proofs.call_refusal.CallRefusalDisplay.fmt.Goals as goal
 
 pub returns-clause-writes : goal.returns-clause-writes
 returns-clause-writes g c = λ plain ok.

@@ -1,27 +1,31 @@
 -- How a code is spelled, and which one a word is.
-use Rattle.std.specs.Prelude.{ℕ, Option, None, Some, List, [], ◌∷◌, bytes_eq, find, slice_index_or}
+use Rattle.std.specs.Prelude.{ℕ, Option, None, Some, List, [], ◌∷◌, ◌==◌, ◌+◌, ◌-◌, ◌/◌, ◌%◌, bytes_eq, find, if◌then◌else◌, map, nat_lt}
+use Rattle.std.specs.List.{range_with_len}
 use Rattle.explain_codes.specs.declared.code.Code.{Code}
-use Rattle.explain_codes.specs.contracts.code.Code as code
-use Rattle.explain_codes.specs.declared.code.Spelling.{Spelling}
-use Rattle.explain_codes.specs.declared.code.TheConstants.{CODES, SPELLINGS}
-use denote.Enum.Declared.{tag_of}
+use Rattle.explain_codes.specs.declared.code.Series.{Series}
+use Rattle.explain_codes.specs.declared.code.TheConstants.{SERIES}
 
--- the spelling of a code
-unfoldable pub spelling_of : Code → Spelling
-spelling_of name = slice_index_or SPELLINGS (tag_of code.the_type name) (0, 0, None)
-
--- the second digit, where there is one
-abbrev pub second_digit : Option ℕ → List ℕ
-second_digit None = []
-second_digit (Some digit) = digit ∷ []
-
-abbrev pub spelled : Spelling → List ℕ
-spelled s = s.0 ∷ s.1 ∷ second_digit s.2
+-- the digits of a number of one or two
+abbrev pub digits_of : ℕ → List ℕ
+digits_of number = if nat_lt number 10 then (48 + number) ∷ [] else (48 + number / 10) ∷ (48 + number % 10) ∷ []
 
 -- its name: a letter and its digits
 abbrev pub name_of : Code → List ℕ
-name_of name = spelled (spelling_of name)
+name_of code = code.letter ∷ digits_of code.number
 
--- the code of a name
+-- the codes of a letter, from 1
+abbrev pub codes_of : Series → List Code
+codes_of series = map (λ number. record { letter = series.letter; number = number }) (range_with_len 1 (series.end - 1))
+
+-- the codes of a letter, if it has any
+unfoldable pub series_of : ℕ → Option Series
+series_of letter = find (λ series. series.letter == letter) SERIES
+
+abbrev pub code_in : Option Series → List ℕ → Option Code
+code_in None word = None
+code_in (Some series) word = find (λ code. bytes_eq (name_of code) word) (codes_of series)
+
+-- the code of a name, which is among the codes of its first letter
 abbrev pub code_named : List ℕ → Option Code
-code_named word = find (λ name. bytes_eq (name_of name) word) CODES
+code_named [] = None
+code_named (letter ∷ rest) = code_in (series_of letter) (letter ∷ rest)

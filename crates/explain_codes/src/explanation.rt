@@ -1,12 +1,15 @@
-// What there is to say of a code, and how it is printed. The rows stand in `programs`, `policies`, `files` and `world_calls`; docs/FORMATS.md
+// What there is to say of a code, and how it is printed. The rows stand in `programs`, `policies`, `files` and `calls`; docs/FORMATS.md
 // and docs/POLICIES.md have the same words, and a test sees that each example gives its code, and that what is mended does not.
 
+use crate::calls::{CALLS, QUEUES, SHARED};
 use crate::code::Code;
-use crate::{calls, files, policies, programs};
+use crate::files::{MANIFESTS, SCENARIOS, TRACES};
+use crate::policies::POLICIES;
+use crate::programs::{BYTES, SHAPES, TEXTS};
+use cli_text_page::Page;
 use std::alloc::Global;
 use std::io;
 use std::io::Write;
-use cli_text_page::Page;
 
 /// By what an example is shown.
 #[derive(Clone, Copy, PartialEq, Eq)]
@@ -38,6 +41,8 @@ pub struct Explanation {
     pub meaning: &'static str,
     /// What most often is the cause, or what to do.
     pub cause: &'static str,
+    /// What to do about it, where a manifest that is checked gives it.
+    pub advice: Option<&'static str>,
     pub shown: Shown,
     /// The smallest text that gives the code.
     pub example: &'static str,
@@ -53,62 +58,38 @@ pub const POLICY: &str =
 pub const POLICY_BYTES: &str =
     "15 02 02 00 00 00 00 00\nbf 21 00 00 00 00 00 00\n85 00 00 00 02 00 00 00\nb7 01 00 00 01 00 00 00\n85 00 00 00 04 00 00 00\nb7 00 00 00 00 00 00 00\n95 00 00 00 00 00 00 00";
 
+// What there is to say of no code.
+const NOTHING: Explanation = Explanation {
+    meaning: "",
+    cause: "",
+    advice: None,
+    shown: Shown::Call,
+    example: "",
+    mended: "",
+};
+
 impl Code {
+    // The rows of its letter.
+    fn rows(self) -> &'static [Explanation] {
+        match self.letter {
+            b'A' => TEXTS,
+            b'E' => BYTES,
+            b'S' => SHAPES,
+            b'V' => POLICIES,
+            b'M' => MANIFESTS,
+            b'N' => SCENARIOS,
+            b'C' => CALLS,
+            b'Q' => QUEUES,
+            b'X' => TRACES,
+            b'L' => SHARED,
+            _ => &[],
+        }
+    }
+
     /// What there is to say of it.
     pub fn explanation(self) -> Explanation {
-        match self {
-            Code::A1 | Code::A2 | Code::A3 | Code::A4 | Code::A5 | Code::A6 | Code::A7 =>
-                programs::of_text(self),
-            Code::E1
-            | Code::E2
-            | Code::E3
-            | Code::E4
-            | Code::E5
-            | Code::E6
-            | Code::E7
-            | Code::E8
-            | Code::E9
-            | Code::E10 => programs::of_bytes(self),
-            Code::S1
-            | Code::S2
-            | Code::S3
-            | Code::S4
-            | Code::S5
-            | Code::S6
-            | Code::S7
-            | Code::S8
-            | Code::S9 => programs::of_shape(self),
-            Code::V1
-            | Code::V2
-            | Code::V3
-            | Code::V4
-            | Code::V5
-            | Code::V6
-            | Code::V7
-            | Code::V8
-            | Code::V9
-            | Code::V10
-            | Code::V11
-            | Code::V12
-            | Code::V13
-            | Code::V14 => policies::of_policy(self),
-            Code::M1
-            | Code::M2
-            | Code::M3
-            | Code::M4
-            | Code::M5
-            | Code::M6
-            | Code::M7
-            | Code::M8
-            | Code::M9 => files::of_manifest(self),
-            Code::N1 | Code::N2 => files::of_scenario(self),
-            Code::C1 | Code::C2 | Code::C3 | Code::C4 | Code::C5 | Code::C6 => world_calls::of_engine(
-                self,
-            ),
-            Code::Q1 | Code::Q2 | Code::Q3 | Code::Q4 | Code::Q5 => world_calls::of_queue(self),
-            Code::X1 | Code::X2 | Code::X3 => files::of_trace(self),
-            Code::L1 | Code::L2 => world_calls::of_sharing(self),
-        }
+        let place = usize::from(self.number.saturating_sub(1));
+        self.rows().get(place).copied().unwrap_or(NOTHING)
     }
 }
 

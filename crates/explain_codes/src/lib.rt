@@ -9,5 +9,5 @@ mod files;
 mod policies;
 mod programs;
 
-pub use code::{CODES, Code, SPELLINGS, Spelling};
-pub use explain_manifest::{Explanation, POLICY, POLICY_BYTES, Shown, print};
+pub use code::{Code, SERIES, Series};
+pub use explanation::{Explanation, POLICY, POLICY_BYTES, Shown, print};

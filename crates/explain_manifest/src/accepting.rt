@@ -1,7 +1,7 @@
 // What is known of a manifest's programs that are accepted: the budget's path, the stack, and each helper call with its arguments and
 // the freezes held. It relies on `explain_path` for the path and for what is known.
 
-use crate::arguments::{helper_of, signature};
+use crate::arguments::helper_of;
 use crate::kinds::{put_held, put_registers};
 use crate::listing::Listing;
 use crate::places::value_span;
@@ -11,14 +11,14 @@ use crate::steps::mattering;
 use bpf_accepted::Accepted;
 use bpf_insn::{Insn, Program, Reg};
 use call_shape::shape;
+use check_register_kinds::{Kind, Region};
+use cli_text_page::Page;
+use explain_layout::{Layout, Span, layout};
 use explain_path::{Log, Sighting, longest_path};
 use helpers::Helper;
 use manifest::{Manifest, NamedProgram};
 use manifest_form::Source;
-use explain_layout::{Layout, Span, layout};
-use check_register_kinds::{Kind, Region};
 use std::alloc::{AllocError, Global};
-use cli_text_page::Page;
 use toml::Value;
 
 /// How many bytes a frame has.
@@ -231,7 +231,7 @@ fn print_call(
         page.fill(", line {}", &[written.standing.line as u64]);
     }
     page.text(": ");
-    page.text(signature(helper));
+    page.text(helper.signature());
     page.text(": ");
     let registers = mattering(insn);
     if registers.count() > 0 {

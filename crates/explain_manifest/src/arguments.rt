@@ -2,29 +2,11 @@
 
 use crate::kinds::put_kind;
 use bpf_insn::{Callee, Insn, Reg};
-use explain_path::Log;
 use check_description::Description;
-use helpers::{Asked, Helper, HelperLimits};
 use check_register_kinds::{Certainty, Kind};
 use cli_text_page::Page;
-
-/// How the helpers are written for people, in the order of their numbers.
-const SIGNATURES: [&str; 14] = [
-    "freeze(queue)",
-    "release(freeze)",
-    "release_after(freeze, ms)",
-    "requeue(n)",
-    "finish(code)",
-    "table_get(table, index)",
-    "table_put(table, index, word)",
-    "table_add(table, index, word)",
-    "queue_info(ptr)",
-    "trace(ptr, length)",
-    "now()",
-    "set_openings(n)",
-    "freeze_controller()",
-    "controller_frozen()",
-];
+use explain_path::Log;
+use helpers::{ArgKind, Helper, HelperLimits};
 
 /// The helper that an instruction calls, if it calls one.
 pub fn helper_of(insn: Insn) -> Option<Helper> {
@@ -34,13 +16,8 @@ pub fn helper_of(insn: Insn) -> Option<Helper> {
     }
 }
 
-/// How a helper is written for people.
-pub fn signature(helper: Helper) -> &'static str {
-    SIGNATURES[helper as usize]
-}
-
 /// The arguments that a helper takes, each with what is asked of it.
-pub fn asked(helper: Helper) -> [(Reg, Option<Asked>); 3] {
+pub fn asked(helper: Helper) -> [(Reg, Option<ArgKind>); 3] {
     let asks = helper.asks();
     [
         (Reg::R1, asks.first),
@@ -58,7 +35,7 @@ pub fn put_breach(
     helper: Helper,
 ) {
     page.fill("helper {}, ", &[u64::from(helper.number())]);
-    page.text(signature(helper));
+    page.text(helper.signature());
     for (reg, asked) in asked(helper) {
         let Some(asked) = asked else {
             continue;
@@ -78,15 +55,15 @@ pub fn put_breach(
 }
 
 // Puts what is asked of an argument.
-fn put_asked(page: &mut Page, limits: &HelperLimits, known: &Description, asked: Asked) {
+fn put_asked(page: &mut Page, limits: &HelperLimits, known: &Description, asked: ArgKind) {
     match asked {
-        Asked::HeldFreeze => page.text("a freeze that the run holds, and sure not to be 0"),
-        Asked::Word => page.text("a number"),
-        Asked::Room { bytes } => page.fill(
+        ArgKind::HeldFreeze => page.text("a freeze that the run holds, and sure not to be 0"),
+        ArgKind::Word => page.text("a number"),
+        ArgKind::Room { bytes } => page.fill(
             "an address with {} bytes of a live frame behind it",
             &[u64::from(bytes)],
         ),
-        Asked::Bytes => page.text(
+        ArgKind::Bytes => page.text(
             "the address of so many written bytes of a live frame as r2 may say",
         ),
         _ => put_range(page, range(limits, known, asked), asked),
@@ -94,31 +71,31 @@ fn put_asked(page: &mut Page, limits: &HelperLimits, known: &Description, asked:
 }
 
 // Puts a range that is asked for.
-fn put_range(page: &mut Page, range: Option<(u64, u64)>, asked: Asked) {
+fn put_range(page: &mut Page, range: Option<(u64, u64)>, asked: ArgKind) {
     page.text(match asked {
-        Asked::Queue => "a queue",
-        Asked::Table => "a table",
-        Asked::Index => "an index",
+        ArgKind::Queue => "a queue",
+        ArgKind::Table => "a table",
+        ArgKind::Index => "an index",
         _ => "a number",
     });
     match range {
         Some((least, most)) if least == most => page.fill(", which is {}", &[least]),
         Some((least, most)) => page.fill(", {} to {}", &[least, most]),
         None => page.text(match asked {
-            Asked::Index => " of a table that is known by one number in r1",
+            ArgKind::Index => " of a table that is known by one number in r1",
             _ => ", of which there is none",
         }),
     }
 }
 
 // The numbers that are asked for, where they are a range.
-fn range(limits: &HelperLimits, known: &Description, asked: Asked) -> Option<(u64, u64)> {
+fn range(limits: &HelperLimits, known: &Description, asked: ArgKind) -> Option<(u64, u64)> {
     match asked {
-        Asked::Queue => up_to(u64::from(limits.queues)),
-        Asked::Table => up_to(limits.table_lengths.as_slice().len() as u64),
-        Asked::Index => up_to(words_of(limits, known.kind(Reg::R1))?),
-        Asked::Within { least, most } => Some((least, most)),
-        Asked::HeldFreeze | Asked::Word | Asked::Room { .. } | Asked::Bytes => None,
+        ArgKind::Queue => up_to(u64::from(limits.queues)),
+        ArgKind::Table => up_to(limits.table_lengths.as_slice().len() as u64),
+        ArgKind::Index => up_to(words_of(limits, known.kind(Reg::R1))?),
+        ArgKind::Within { least, most } => Some((least, most)),
+        ArgKind::HeldFreeze | ArgKind::Word | ArgKind::Room { .. } | ArgKind::Bytes => None,
     }
 }
 
@@ -135,11 +112,11 @@ fn words_of(limits: &HelperLimits, table: Kind) -> Option<u64> {
 }
 
 // Whether an argument is as asked, as far as that is told by its register alone.
-fn is_fit(known: &Description, limits: &HelperLimits, asked: Asked, kind: Kind) -> bool {
+fn is_fit(known: &Description, limits: &HelperLimits, asked: ArgKind, kind: Kind) -> bool {
     match asked {
-        Asked::HeldFreeze => is_sure(known, kind),
-        Asked::Word => kind.is_number(),
-        Asked::Room { .. } | Asked::Bytes => matches!(kind, Kind::Address(_, _)),
+        ArgKind::HeldFreeze => is_sure(known, kind),
+        ArgKind::Word => kind.is_number(),
+        ArgKind::Room { .. } | ArgKind::Bytes => matches!(kind, Kind::Address(_, _)),
         _ => match range(limits, known, asked) {
             Some((least, most)) => kind.lies_within(least, most),
             None => false,

@@ -6,11 +6,11 @@ use crate::kinds::{put_held, put_kind, put_place, put_registers};
 use crate::program::Told;
 use crate::steps::mattering;
 use bpf_insn::{Callee, Insn, LoadForm, Operand, Reg, StoreSize};
-use explain_path::{Open, Registers};
 use check_description::Description;
-use helpers::Helper;
 use check_register_kinds::{Cause, Kind, Region};
 use cli_text_page::Page;
+use explain_path::{Open, Registers};
+use helpers::Helper;
 
 /// Puts what breaks the rule, where that is known before the instruction.
 pub fn put_values(page: &mut Page, told: &Told<'_>, cause: Cause, insn: Insn, known: &Description) {

@@ -1,8 +1,7 @@
-// What a fault's code means, in the lines of a report. It relies on `explain_codes` for the table, and on `mending` for what to do.
+// What a fault's code means, and what to do about it, in the lines of a report. It relies on `explain_codes` for the table.
 
-use crate::mending::mend;
-use explain_codes::Code;
 use cli_text_page::Page;
+use explain_codes::Code;
 
 /// The code with which a fault's text begins.
 pub fn code_in(text: &str) -> Option<Code> {
@@ -20,10 +19,11 @@ pub fn put_rule(page: &mut Page, code: Code) {
 
 /// Puts its commonest cause, and how it is usually mended.
 pub fn put_mending(page: &mut Page, code: Code) {
+    let row = code.explanation();
     page.text("  = most often: ");
-    page.text(code.explanation().cause);
+    page.text(row.cause);
     page.text("\n  = to mend it: ");
-    page.text(mend(code));
+    page.text(row.advice.unwrap_or("see `camr explain` with the code"));
     page.text("\n");
 }
 

@@ -1,7 +1,7 @@
 // A line of a text with a mark under the part that is meant. It relies on `explain_layout` for lines.
 
-use explain_layout::{Span, line_at};
 use cli_text_page::{Page, is_shown};
+use explain_layout::{Span, line_at};
 
 /// Puts where a part of a text stands, its line, and a mark under what of the part stands in that line. Columns count
 /// characters of the text, from 1; marks stand under what is shown for them.

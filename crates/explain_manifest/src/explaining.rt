@@ -6,9 +6,9 @@ ghost use Rattle.manifest.specs.Seen.{named_seen};
 
 use crate::{accepting, refusing};
 use base::OrMemory;
+use cli_text_page::Page;
 use manifest::{Manifest, ManifestFault};
 use std::alloc::{AllocError, Global};
-use cli_text_page::Page;
 
 /// A verdict, and what there is to say beside it: lines of text.
 #[derive(Drop)]

@@ -4,12 +4,12 @@
 use crate::excerpt;
 use crate::keys::{KEYS, Key, Presence, Wants, called, find, is_table};
 use crate::places::{table_span, value_span};
+use cli_text_page::Page;
+use explain_layout::{Entry, Layout, Span};
 use manifest::ManifestFault;
 use manifest_form::{Plan, has_lawful_numbers};
-use explain_layout::{Entry, Layout, Span};
 use std::alloc::{AllocError, Global};
 use strsim::levenshtein;
-use cli_text_page::Page;
 use toml::Value;
 use toml_parser::{ParseError, Scalar, quoted, starts_string, unquoted};
 

@@ -2,11 +2,11 @@
 // is known, and on `explain_path` for where a freeze was taken.
 
 use bpf_insn::Reg;
-use explain_path::{Log, Registers};
 use check_description::Description;
 use check_register_kinds::{Certainty, FreezeName, HeldFreeze, Kind, Offsets, Region};
-use scalar_domain::Scalar;
 use cli_text_page::Page;
+use explain_path::{Log, Registers};
+use scalar_domain::Scalar;
 
 /// What distinguishes the signed order of words from the unsigned one.
 const SIGN: u64 = 1 << 63;

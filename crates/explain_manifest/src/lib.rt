@@ -14,7 +14,6 @@ mod form;
 mod keys;
 mod kinds;
 mod listing;
-mod mending;
 mod places;
 mod program;
 mod refusing;

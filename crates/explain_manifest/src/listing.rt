@@ -4,9 +4,9 @@
 use base::OrMemory;
 use bpf_asm::{disassemble, tokens};
 use bpf_insn::Program;
+use cli_text_page::Page;
 use explain_layout::{Span, line_at};
 use std::alloc::{AllocError, Global};
-use cli_text_page::Page;
 
 /// How many bytes a slot has, and how many digits these are.
 const SLOT_BYTES: usize = 8;

@@ -8,12 +8,12 @@ use crate::{codes, excerpt, steps};
 use base::OrMemory;
 use bpf_insn::{Insn, Program};
 use call_shape::{Onward, ShapeFault};
+use check_register_kinds::Cause;
+use cli_text_page::Page;
+use explain_layout::Span;
 use explain_path::{Log, path_to};
 use helpers::HelperLimits;
-use explain_layout::Span;
-use check_register_kinds::Cause;
 use std::alloc::{AllocError, Global};
-use cli_text_page::Page;
 use verifier::{Refusal, verify_before};
 
 /// A program that is told of, with what is needed for that.

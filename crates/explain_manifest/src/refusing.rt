@@ -9,13 +9,13 @@ use base::OrMemory;
 use bpf_asm::{AsmFault, assemble};
 use bpf_decode::{DecodeFault, decode};
 use bpf_insn::Program;
+use cli_text_page::Page;
+use explain_layout::{Layout, Span, layout};
 use helpers::{HelperLimits, HelperSet, TableLengths};
 use manifest::ManifestFault;
 use manifest_form::{Plan, ProgramEntry, Source};
-use explain_layout::{Layout, Span, layout};
 use std::alloc::{AllocError, Global};
 use std::fmt::Display;
-use cli_text_page::Page;
 use toml::Value;
 use verifier::Refusal;
 

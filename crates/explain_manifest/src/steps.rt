@@ -1,13 +1,13 @@
 // A path through a program in words: each instruction on it, with what is known of the registers that it reads. It relies on
 // `explain_path` for the path, and on `listing` for how instructions are written.
 
-use crate::arguments::{helper_of, signature};
+use crate::arguments::helper_of;
 use crate::kinds::{put_held, put_registers};
 use crate::program::Told;
 use bpf_insn::{Callee, Insn, Reg, jump_target};
+use cli_text_page::Page;
 use explain_path::{Path, Registers, Sighting};
 use helpers::Helper;
-use cli_text_page::Page;
 
 /// How many instructions a path may have that is told whole.
 const WHOLE: usize = 48;
@@ -111,7 +111,7 @@ fn put_way(page: &mut Page, slot: usize, insn: Insn, next: Option<usize>) {
         _ => {
             if let Some(helper) = helper_of(insn) {
                 page.text("  ");
-                page.text(signature(helper));
+                page.text(helper.signature());
             }
         }
     }

@@ -9,7 +9,7 @@ use Rattle.world_calls.specs.declared.call.Call.{Call}
 use Rattle.world_calls.specs.declared.call.Call.TheVariants.{GuestFreeze, GuestRelease}
 use Rattle.world_calls.specs.declared.call_answer.CallAnswer.{CallAnswer}
 use Rattle.world_calls.specs.declared.call_answer.CallAnswer.TheVariants as answers
-use Rattle.world_calls.specs.declared.call_refusal.CallRefusal.{CallRefusal}
+use Rattle.ccb.specs.declared.call_refusal.CallRefusal.{CallRefusal}
 use Rattle.world_calls.specs.declared.record.Record.{Record}
 use Rattle.world_calls.specs.declared.record.Record.TheVariants.{Called, Advance}
 use Rattle.world_calls.specs.declared.record.StoppedAt.{StoppedAt}
@@ -32,7 +32,7 @@ use Rattle.engine_core.specs.declared.answers.ReleaseFault.{ReleaseFault}
 use Rattle.engine_core.specs.declared.answers.ReleaseFault.TheVariants.{NotHeld, OutOfMemory as release_memory}
 use Rattle.engine_core.specs.Faults.{FaultIs, HoldsUnlessTold}
 use Rattle.engine_core.specs.EngineState.{EngineState, IsRun, Records, GuestHolds}
-use Rattle.engine_core.specs.Unrecorded.{AreTokens, guests_of}
+use Rattle.engine_core.specs.ByNumber.{AreTokens, guests_of}
 use Rattle.engine_core.proofs.Guests.{AreOthers, IsOthers, guests_stay, advance_is_others, guest_among, guest_entered, guest_left, tokens_rise}
 use Rattle.engine_core.proofs.Holding.{its_entry}
 use Rattle.host_embedding.specs.declared.call_result.CallResult.{CallResult}

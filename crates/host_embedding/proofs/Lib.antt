@@ -3,3 +3,4 @@ pub mod Going
 pub mod Lines
 pub mod Guests
 pub mod Taking
+mod Results

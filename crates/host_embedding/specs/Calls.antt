@@ -12,7 +12,7 @@ use Rattle.world_calls.specs.declared.record.Record.{Record}
 use Rattle.world_calls.specs.declared.record.Record.TheVariants.{Called, Advance}
 use Rattle.engine_core.specs.Answers.{stopped_at}
 use Rattle.engine_core.specs.EngineState.{EngineState, Records}
-use Rattle.engine_core.specs.Unrecorded.{guests_of}
+use Rattle.engine_core.specs.ByNumber.{guests_of}
 use Rattle.engine_core.specs.RunState.{RunState, StoppedState, before_stop, IsOut, IsOutUnder}
 use Rattle.host_embedding.specs.declared.call_result.CallResult.{CallResult}
 use Rattle.host_embedding.specs.declared.call_result.CallResult.TheVariants.{Done, OutOfMemory, Refused, NotOut, NoToken, NotStretched}
@@ -109,7 +109,7 @@ IsParked NotOut (Some run) held old new = (held ≡ Out run) × (new ≡ old) ×
 IsParked result (Some run) held old new = ⊥
 
 -- as many records more as there were advances
-pub record GoesOn (old new : EngineState) : Type 0 where
+pub record HasMoreRecords (old new : EngineState) : Type 0 where
   pub more : List Record
   pub history : new.history ≡ old.history ++ more
   pub setup : new.setup ≡ old.setup

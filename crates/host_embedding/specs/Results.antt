@@ -1,7 +1,9 @@
 -- The numbers and the texts of results, and which result stands for which fault.
-use Rattle.std.specs.Prelude.{ℕ, List, codes}
-use Rattle.world_calls.specs.declared.call_refusal.CallRefusal.{CallRefusal}
-use Rattle.world_calls.specs.declared.call_refusal.CallRefusal.TheVariants as refused
+use Rattle.std.specs.Prelude.{ℕ, ◌==◌, List, Option, codes, find}
+use Rattle.std.specs.Option.{option_map}
+use Rattle.ccb.specs.declared.call_refusal.CallRefusal.{CallRefusal}
+use Rattle.ccb.specs.declared.call_refusal.TheConstants.{REFUSALS}
+use Rattle.ccb.specs.CallRefusalText.{refusal_text, row_of}
 use Rattle.engine_core.specs.declared.answers.CallFault.{CallFault}
 use Rattle.engine_core.specs.declared.answers.CallFault.TheVariants as fault
 use Rattle.engine_core.specs.declared.answers.ReleaseFault.{ReleaseFault}
@@ -11,15 +13,13 @@ use Rattle.engine_core.specs.declared.answers.AdvanceFault.TheVariants as advanc
 use Rattle.host_embedding.specs.declared.call_result.CallResult.{CallResult}
 use Rattle.host_embedding.specs.declared.call_result.CallResult.TheVariants.{Done, OutOfMemory, Refused, NotOut, NotHeld, NoToken, NoCompletion, Spent, NotStretched, NotUtf8, Faulty, NoRoom, NoText, Null, TooLong}
 
+-- the number of a refusal stands in its row
 abbrev pub number_of_refusal : CallRefusal → ℕ
-number_of_refusal refused.Unknown = 2
-number_of_refusal refused.Limit = 3
-number_of_refusal refused.NotActive = 4
-number_of_refusal refused.GoesBack = 5
-number_of_refusal refused.Frozen = 6
-number_of_refusal refused.NoOpening = 7
-number_of_refusal refused.NothingWaits = 8
-number_of_refusal refused.ControllerFrozen = 9
+number_of_refusal refusal = (row_of refusal).number
+
+-- the refusal whose row has that number
+unfoldable pub refusal_numbered : ℕ → Option CallRefusal
+refusal_numbered number = option_map (λ row. row.refusal) (find (λ row. number_of_refusal row.refusal == number) REFUSALS)
 
 abbrev pub number_of : CallResult → ℕ
 number_of Done = 0
@@ -38,22 +38,11 @@ number_of NoText = 19
 number_of Null = 20
 number_of TooLong = 21
 
--- the text of a refusal, which begins with its code
-abbrev pub text_of_refusal : CallRefusal → List ℕ
-text_of_refusal refused.Unknown = codes "C1: no such queue, controller, CCB or parked run"
-text_of_refusal refused.Limit = codes "C2: a limit is reached"
-text_of_refusal refused.NotActive = codes "C3: the CCB is not active"
-text_of_refusal refused.GoesBack = codes "C5: the clock would go back"
-text_of_refusal refused.Frozen = codes "Q2: the queue is frozen"
-text_of_refusal refused.NoOpening = codes "Q3: the queue has no opening"
-text_of_refusal refused.NothingWaits = codes "Q4: no CCB of the queue waits"
-text_of_refusal refused.ControllerFrozen = codes "Q5: the queue's controller is frozen"
-
 -- the text of a result
 abbrev pub text_of : CallResult → List ℕ
 text_of Done = codes "done"
 text_of OutOfMemory = codes "memory was refused, and nothing changed"
-text_of (Refused refusal) = text_of_refusal refusal
+text_of (Refused refusal) = refusal_text refusal
 text_of NotOut = codes "C4: the run is not out in this engine"
 text_of NotHeld = codes "C6: no guest's freeze is the token's"
 text_of NoToken = codes "no token of that number is held here"

@@ -1,10 +1,11 @@
-// What a call answers a host, as one of few values, each with a number and a text that stay. It relies on `engine_core` for why
-// a call is not carried out.
+// What a call answers a host, as one of few values, each with a number and a text that stay. It relies on `ccb` for the
+// refusals, and on `engine_core` for why a call is not carried out.
 
-ghost use Rattle.std.specs.Prelude.{◌≡◌, ◌<◌, ◌≤◌, MatchOption};
-ghost use Rattle.host_embedding.specs.Results.{number_of, number_of_refusal, result_of, released_result, advanced_result, text_of, text_of_refusal};
+ghost use Rattle.std.specs.Prelude.{◌≡◌, ◌==◌, ◌<◌, ◌≤◌, MatchOption};
+ghost use Rattle.host_embedding.specs.Results.{number_of, number_of_refusal, refusal_numbered, result_of, released_result, advanced_result, text_of};
 
-use engine_core::{AdvanceFault, CallFault, CallRefusal, ReleaseFault};
+use ccb::{CallRefusal, REFUSALS};
+use engine_core::{AdvanceFault, CallFault, ReleaseFault};
 
 /// How many results there are.
 pub const RESULTS: u32 = 22;
@@ -44,36 +45,22 @@ pub enum CallResult {
     TooLong,
 }
 
-// The number of a refusal, as a result.
-fn refusal_number(refusal: CallRefusal) -> u32
-    ensures { result ≡ number_of_refusal refusal }
+// Whether the refusal's row has that number.
+fn has_number(refusal: CallRefusal, number: u32) -> bool
+    ensures { result ≡ (number_of_refusal refusal == number) }
 {
-    match refusal {
-        CallRefusal::Unknown => 2,
-        CallRefusal::Limit => 3,
-        CallRefusal::NotActive => 4,
-        CallRefusal::GoesBack => 5,
-        CallRefusal::Frozen => 6,
-        CallRefusal::NoOpening => 7,
-        CallRefusal::NothingWaits => 8,
-        CallRefusal::ControllerFrozen => 9,
-    }
+    u32::from(refusal.row().number) == number
 }
 
-// A refusal's text, which begins with its code.
-fn refusal_text(refusal: CallRefusal) -> &'static str
-    ensures { result.now ≡ text_of_refusal refusal }
+// The refusal whose row has that number.
+#[tactic(auto, unfolding(crate::specs::Results::refusal_numbered))]
+fn refusal_numbered(number: u32) -> Option<CallRefusal>
+    ensures { result ≡ refusal_numbered number }
 {
-    match refusal {
-        CallRefusal::Unknown => "C1: no such queue, controller, CCB or parked run",
-        CallRefusal::Limit => "C2: a limit is reached",
-        CallRefusal::NotActive => "C3: the CCB is not active",
-        CallRefusal::GoesBack => "C5: the clock would go back",
-        CallRefusal::Frozen => "Q2: the queue is frozen",
-        CallRefusal::NoOpening => "Q3: the queue has no opening",
-        CallRefusal::NothingWaits => "Q4: no CCB of the queue waits",
-        CallRefusal::ControllerFrozen => "Q5: the queue's controller is frozen",
-    }
+    REFUSALS
+        .iter()
+        .find(|row| has_number(row.refusal, number))
+        .map(|row| row.refusal)
 }
 
 impl CallResult {
@@ -85,7 +72,7 @@ impl CallResult {
         match self {
             CallResult::Done => 0,
             CallResult::OutOfMemory => 1,
-            CallResult::Refused(refusal) => refusal_number(refusal),
+            CallResult::Refused(refusal) => u32::from(refusal.row().number),
             CallResult::NotOut => 10,
             CallResult::NotHeld => 11,
             CallResult::NoToken => 12,
@@ -108,14 +95,6 @@ impl CallResult {
         Some(match number {
             0 => CallResult::Done,
             1 => CallResult::OutOfMemory,
-            2 => CallResult::Refused(CallRefusal::Unknown),
-            3 => CallResult::Refused(CallRefusal::Limit),
-            4 => CallResult::Refused(CallRefusal::NotActive),
-            5 => CallResult::Refused(CallRefusal::GoesBack),
-            6 => CallResult::Refused(CallRefusal::Frozen),
-            7 => CallResult::Refused(CallRefusal::NoOpening),
-            8 => CallResult::Refused(CallRefusal::NothingWaits),
-            9 => CallResult::Refused(CallRefusal::ControllerFrozen),
             10 => CallResult::NotOut,
             11 => CallResult::NotHeld,
             12 => CallResult::NoToken,
@@ -128,7 +107,10 @@ impl CallResult {
             19 => CallResult::NoText,
             20 => CallResult::Null,
             21 => CallResult::TooLong,
-            _ => return None,
+            _ => match refusal_numbered(number) {
+                Some(refusal) => CallResult::Refused(refusal),
+                None => return None,
+            },
         })
     }
 
@@ -139,7 +121,7 @@ impl CallResult {
         match self {
             CallResult::Done => "done",
             CallResult::OutOfMemory => "memory was refused, and nothing changed",
-            CallResult::Refused(refusal) => refusal_text(refusal),
+            CallResult::Refused(refusal) => refusal.text(),
             CallResult::NotOut => "C4: the run is not out in this engine",
             CallResult::NotHeld => "C6: no guest's freeze is the token's",
             CallResult::NoToken => "no token of that number is held here",

@@ -11,7 +11,7 @@ ghost use Rattle.world_calls.specs.declared.call_answer.CallAnswer.TheVariants a
 ghost use Rattle.world.specs.TotalsOf.{totals_in};
 ghost use Rattle.engine_core.specs.EngineState.{IsRun, Records};
 ghost use Rattle.engine_core.specs.Faults.{FaultIs};
-ghost use Rattle.engine_core.specs.Unrecorded.{guests_of};
+ghost use Rattle.engine_core.specs.ByNumber.{guests_of};
 ghost use Rattle.host_embedding.specs.Calls.{IsCalled, IsFrozen, IsReleased};
 
 use crate::call_result::CallResult;

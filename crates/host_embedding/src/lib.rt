@@ -6,11 +6,11 @@ mod call_result;
 mod engine_handle;
 mod run_calls;
 mod run_handle;
+mod text_lines;
 mod texts;
-mod trace_lines;
 
 pub use call_result::CallResult;
 pub use engine_handle::EngineHandle;
 pub use run_handle::{HeldRun, RunHandle};
+pub use text_lines::PutLines;
 pub use texts::put_front;
-pub use trace_lines::PutLines;

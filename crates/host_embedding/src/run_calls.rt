@@ -3,7 +3,7 @@
 
 ghost use Rattle.std.specs.Prelude.{◌≡◌, ◌≢◌, true, false};
 ghost use Rattle.world_calls.specs.declared.call.Call.TheVariants.{Complete};
-ghost use Rattle.host_embedding.specs.Calls.{IsAdvanced, IsCompleted, IsDriven, IsParked, IsResumed, GoesOn};
+ghost use Rattle.host_embedding.specs.Calls.{IsAdvanced, IsCompleted, IsDriven, IsParked, IsResumed, HasMoreRecords};
 ghost use Rattle.host_embedding.specs.Held.{is_same_run, out_of};
 
 use crate::call_result::CallResult;
@@ -45,7 +45,7 @@ impl EngineHandle {
     pub fn advance(&mut self, run: &mut RunHandle, r0: &mut u64, ended: &mut bool) -> CallResult
         ensures recorded { IsAdvanced result run.old.held run.new.held self.old self.new r0.new ended.new }
         ensures kept { result ≢ CallResult.Done → (r0.new ≡ r0.old) × (ended.new ≡ ended.old) }
-        ensures goes { GoesOn self.old self.new }
+        ensures goes { HasMoreRecords self.old self.new }
         ensures ended { result ≡ CallResult.Done → ended.new ≡ true → run.new.held ≡ HeldRun.Spent }
         ensures same { is_same_run run.old run.new }
     {
@@ -80,7 +80,7 @@ impl EngineHandle {
     /// after the last stop that was taken over, or as it was, and `ended` is false.
     #[tactic(auto, using(crate::proofs::Going::goes_then, crate::proofs::Going::goes_none, crate::proofs::Driving::ends_spent, crate::proofs::Driving::ends_open))]
     pub fn drive(&mut self, run: &mut RunHandle, r0: &mut u64, ended: &mut bool) -> CallResult
-        ensures recorded { GoesOn self.old self.new }
+        ensures recorded { HasMoreRecords self.old self.new }
         ensures driven { IsDriven result run.old.held run.new.held self.old self.new r0.old r0.new ended.new }
         ensures unended { result ≢ CallResult.Done → ended.new ≡ false }
         ensures ended { result ≡ CallResult.Done → ended.new ≡ true → run.new.held ≡ HeldRun.Spent }

@@ -2,11 +2,10 @@
 // which of them are wanted, and on `cli_text_page` for the page that the lines are put on.
 #![tactic(auto)]
 
-mod filling;
 mod fitting;
 mod line;
 mod names;
 mod writing;
 
-pub use names::{failure_of, helper_name, name_of_code, refusal_words, status_name};
+pub use names::{failure_of, name_of_code, status_name};
 pub use writing::account;

@@ -1,10 +1,9 @@
-// The line of an event: when, where, and what. It relies on `filling` for the text, and on `names` for names.
+// The line of an event: when, where, and what. It relies on `show_events` for its words, and on `names` for names.
 
-use crate::filling::Filling;
-use crate::names::{failure_of, name_of_code, refusal_words, status_name};
+use crate::names::{failure_of, name_of_code, status_name};
 use ccb::{CamStatus, Place};
 use cli_text_page::Page;
-use show_events::{Cause, Event, Programs, Subject};
+use show_events::{Cause, Event, Programs, Subject, Values};
 
 /// How many digits a time has at least, and the bytes after it.
 const TIME: usize = 6;
@@ -45,25 +44,18 @@ fn put_place(subject: &Subject, width: usize, page: &mut Page) {
 
 // The text of the event, with its values.
 fn put_text(event: &Event, programs: &Programs<'_>, page: &mut Page) {
-    let filling = Filling::of(&event.happening);
-    for (place, part) in filling.words.split('%').enumerate() {
+    for (place, part) in event.happening.words().split('%').enumerate() {
         if place == 0 {
             page.text(part);
         } else {
-            put_value(part, event, &filling, programs, page);
+            put_value(part, event, programs, page);
         }
     }
     page.text("\n");
 }
 
 // The value that stands for the first letter of a part, and the words after it.
-fn put_value(
-    part: &str,
-    event: &Event,
-    filling: &Filling,
-    programs: &Programs<'_>,
-    page: &mut Page,
-) {
+fn put_value(part: &str, event: &Event, programs: &Programs<'_>, page: &mut Page) {
     let subject = &event.subject;
     match part.as_bytes().first() {
         Some(b'c') => page.fill("ccb {}", &[u64::from(subject.ccb.unwrap_or(0))]),
@@ -73,28 +65,29 @@ fn put_value(
             let program = programs.of(event.queue().unwrap_or(u32::MAX));
             page.foreign(programs.name(program));
         }
-        Some(letter) => put_filled(*letter, filling, page),
+        Some(letter) => put_held(*letter, &event.values, page),
         None => {}
     }
     page.text(part.get(1..).unwrap_or(""));
 }
 
-// The value of the filling that stands for that letter.
-fn put_filled(letter: u8, filling: &Filling, page: &mut Page) {
+// The value of the event that stands for that letter.
+fn put_held(letter: u8, values: &Values, page: &mut Page) {
     match letter {
-        b'1' => page.number(filling.numbers[0]),
-        b'2' => page.number(filling.numbers[1]),
-        b'3' => page.number(filling.numbers[2]),
-        b'4' => page.number(filling.numbers[3]),
-        b't' => put_times(filling.frozen, page),
-        b'z' => put_state(filling.frozen, page),
-        b'g' => page.number(u64::from(filling.guest)),
-        b's' => page.text(status_name(filling.status)),
-        b'v' => put_failure(filling, page),
-        b'k' => put_code(filling.code, page),
-        b'x' => page.text(refusal_words(filling.refusal)),
-        b'w' => put_cause(filling.cause, page),
-        b'b' => put_traced(filling.bytes.as_slice(), page),
+        b'1' => page.number(values.numbers[0]),
+        b'2' => page.number(values.numbers[1]),
+        b'3' => page.number(values.numbers[2]),
+        b'4' => page.number(values.numbers[3]),
+        b'5' => page.number(values.numbers[4]),
+        b't' => put_times(values.frozen, page),
+        b'z' => put_state(values.frozen, page),
+        b'g' => page.number(u64::from(values.guest)),
+        b's' => page.text(status_name(values.status)),
+        b'v' => put_failure(values, page),
+        b'k' => put_code(values.code, page),
+        b'x' => page.text(values.refusal.cause()),
+        b'w' => put_cause(values.cause, page),
+        b'b' => put_traced(values.bytes.as_slice(), page),
         _ => {}
     }
 }
@@ -116,16 +109,16 @@ fn put_state(frozen: u32, page: &mut Page) {
 }
 
 // What became of a CCB that failed: with the SCSI status and the sense bytes that came, if any did.
-fn put_failure(filling: &Filling, page: &mut Page) {
-    page.text(failure_of(filling.status));
-    if filling.status == CamStatus::ScsiStatusError || filling.scsi != 0 {
+fn put_failure(values: &Values, page: &mut Page) {
+    page.text(failure_of(values.status));
+    if values.status == CamStatus::ScsiStatusError || values.scsi != 0 {
         page.text(" (");
-        page.byte(filling.scsi);
+        page.byte(values.scsi);
         page.text(")");
     }
-    if !filling.bytes.is_empty() {
+    if !values.bytes.is_empty() {
         page.text(" with sense ");
-        put_bytes(filling.bytes.as_slice(), page);
+        put_bytes(values.bytes.as_slice(), page);
     }
 }
 

@@ -1,8 +1,6 @@
-// The names of statuses, final codes, refusals and helpers in words. It relies on `ccb`, `world_calls` and `helpers` for these.
+// The names of statuses and final codes in words. It relies on `ccb` for these.
 
-use world_calls::CallRefusal;
 use ccb::CamStatus;
-use helpers::Helper;
 
 /// The name of a status, in words.
 pub fn status_name(status: CamStatus) -> &'static str {
@@ -41,39 +39,5 @@ pub fn name_of_code(code: u8) -> &'static str {
     match CamStatus::from_code(code) {
         Some(status) => status_name(status),
         None => "",
-    }
-}
-
-/// Why a call was refused, in words.
-pub fn refusal_words(refusal: CallRefusal) -> &'static str {
-    match refusal {
-        CallRefusal::Unknown => "there is none of that number",
-        CallRefusal::Limit => "a limit is reached",
-        CallRefusal::NotActive => "it is not active",
-        CallRefusal::GoesBack => "the clock would go back",
-        CallRefusal::Frozen => "the queue is frozen",
-        CallRefusal::NoOpening => "no opening is free",
-        CallRefusal::NothingWaits => "none waits",
-        CallRefusal::ControllerFrozen => "the controller is frozen",
-    }
-}
-
-/// The name of a helper, as policies have it.
-pub fn helper_name(helper: Helper) -> &'static str {
-    match helper {
-        Helper::Freeze => "freeze",
-        Helper::Release => "release",
-        Helper::ReleaseAfter => "release_after",
-        Helper::Requeue => "requeue",
-        Helper::Finish => "finish",
-        Helper::TableGet => "table_get",
-        Helper::TablePut => "table_put",
-        Helper::TableAdd => "table_add",
-        Helper::QueueInfo => "queue_info",
-        Helper::Trace => "trace",
-        Helper::Now => "now",
-        Helper::SetOpenings => "set_openings",
-        Helper::FreezeController => "freeze_controller",
-        Helper::ControllerFrozen => "controller_frozen",
     }
 }

@@ -2,13 +2,13 @@
 
 use crate::fitting::fits;
 use crate::line::put_line;
-use world_calls::{Record, Trace};
+use cli_text_page::Page;
 use engine_config::Config;
+use show_events::{Event, Filter, NamedAccepted, Programs, Walk};
 use std::alloc::{AllocError, Global};
 use std::io;
 use std::io::Write;
-use cli_text_page::Page;
-use show_events::{Event, Filter, NamedAccepted, Programs, Walk};
+use world_calls::{Record, Trace};
 
 /// Writes a line for each event of a trace of this configuration that fits the filter: the clock in milliseconds, the queue or the
 /// controller, and what happened. If none fits it says so. The programs are the manifest's, with their names. The trace is one that a

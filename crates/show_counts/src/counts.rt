@@ -9,9 +9,9 @@ use crate::cells::{Found, Rows};
 use crate::first::first_told;
 use crate::tally::tally;
 use crate::told::Tells;
-use world_calls::Record;
 use base_chunked_list::ChunkedList;
 use std::alloc::{AllocError, Global};
+use world_calls::Record;
 
 /// How many columns a table of status codes or of final codes has: a code is below it.
 pub const CODES: u32 = 64;

@@ -6,9 +6,9 @@ ghost use Rattle.show_counts.specs.Told.{told_by};
 
 use crate::cells::at;
 use crate::told::Tells;
-use world_calls::Record;
 use base_chunked_list::ChunkedList;
 use std::alloc::{AllocError, Global};
+use world_calls::Record;
 
 /// By each number what the first record tells of it that tells anything. It takes eight bytes a number, up to the greatest.
 pub(crate) fn first_told(

@@ -6,9 +6,9 @@ ghost use Rattle.show_counts.specs.Told.{told_by};
 
 use crate::cells::{Found, Rows, cell_by};
 use crate::told::Tells;
-use world_calls::Record;
 use base_chunked_list::ChunkedList;
 use std::alloc::{AllocError, Global};
+use world_calls::Record;
 
 /// How many records stand in each of so many cells.
 pub(crate) fn tally(

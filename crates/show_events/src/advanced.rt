@@ -2,14 +2,15 @@
 // world, and on `helpers` for what a helper does.
 
 use crate::called::some_freeze;
-use crate::event::{Cause, Event, Happening, Subject};
+use crate::event::{Cause, Event, Subject, Values};
+use crate::happening::Happening;
 use crate::walk::Walk;
 use base::ShortBytes;
-use world_calls::StoppedAt;
 use ccb::{CamStatus, CcbId, Place, QueueId};
 use engine_core::{QueueInfo, RunInfo};
-use helpers::{Arguments, Deed, Helper};
+use helpers::{Arguments, Helper, HelperEffect};
 use std::alloc::AllocError;
+use world_calls::StoppedAt;
 
 /// A run at its stop: its number, what is recorded of it, and what the call of a helper asks.
 #[derive(Clone, Copy)]
@@ -30,6 +31,36 @@ impl Caller {
             run: Some(self.number),
             freeze: None,
         }
+    }
+
+    // What a helper was asked that answered this: R1 to R3, R0, and what R0 was before R3 was added to it.
+    fn values(&self, r0: u64) -> Values {
+        let asked = self.asked;
+        Values {
+            numbers: [
+                asked.first,
+                asked.second,
+                asked.third,
+                r0,
+                r0.wrapping_sub(asked.third),
+            ],
+            ..Values::none()
+        }
+    }
+}
+
+// What a queue has.
+fn queue_values(info: QueueInfo) -> Values {
+    Values {
+        numbers: [
+            u64::from(info.active),
+            u64::from(info.waiting),
+            u64::from(info.openings),
+            0,
+            0,
+        ],
+        frozen: info.frozen,
+        ..Values::none()
     }
 }
 
@@ -52,8 +83,11 @@ impl Walk<'_> {
         match stop {
             StoppedAt::Helper(helper) => self.helped(&caller, *helper, r0, events),
             StoppedAt::Trace(_, bytes) => {
-                let bytes = ShortBytes::new(bytes.as_slice()).unwrap_or(ShortBytes::none());
-                self.tell(caller.subject(), Happening::Traced(bytes), events)
+                let values = Values {
+                    bytes: ShortBytes::new(bytes.as_slice()).unwrap_or(ShortBytes::none()),
+                    ..Values::none()
+                };
+                self.tell(caller.subject(), Happening::Traced, values, events)
             }
             StoppedAt::Finish(_, code) => self.finished(&caller, *code, events),
             StoppedAt::Exit => self.ended(&caller, r0, events),
@@ -101,62 +135,38 @@ impl Walk<'_> {
         r0: u64,
         events: &mut Vec<Event>,
     ) -> Result<(), AllocError> {
-        match helper.row().deed {
-            Deed::Freeze => {
+        let effect = helper.row().effect;
+        match effect {
+            HelperEffect::Freeze => {
                 let queue = u32::try_from(caller.asked.first).unwrap_or(u32::MAX);
                 self.taken(caller, Place::Device(QueueId(queue)), r0, events)
             }
-            Deed::FreezeController => {
+            HelperEffect::FreezeController => {
                 let controller = caller.it.controller;
                 self.taken(caller, Place::Controller(controller), r0, events)
             }
-            Deed::GiveBack => self.given_back(caller, events),
-            Deed::HandOver => self.handed_over(caller, events),
-            Deed::Requeue => self.requeued(caller, events),
-            Deed::TellController => {
+            HelperEffect::GiveBack => self.given_back(caller, events),
+            HelperEffect::HandOver => self.handed_over(caller, events),
+            HelperEffect::Requeue => self.requeued(caller, events),
+            HelperEffect::TellController => {
                 let mut subject = caller.subject();
                 subject.place = Some(Place::Controller(caller.it.controller));
-                self.tell(subject, Happening::ControllerTold { frozen: r0 }, events)
+                let values = Values::frozen(u32::try_from(r0).unwrap_or(u32::MAX), 0);
+                self.tell(subject, Happening::Helped(effect), values, events)
             }
-            deed => {
-                let happening = self.told(caller, deed, r0);
-                self.tell(caller.subject(), happening, events)
+            HelperEffect::TellQueue => {
+                let values = queue_values(self.told_of(caller.it.queue));
+                self.tell(caller.subject(), Happening::Helped(effect), values, events)
+            }
+            _ => {
+                let values = caller.values(r0);
+                self.tell(caller.subject(), Happening::Helped(effect), values, events)
             }
         }
     }
 
-    // What a call does that only reads or writes words, or a queue's openings.
-    fn told(&self, caller: &Caller, deed: Deed, r0: u64) -> Happening {
-        let asked = caller.asked;
-        match deed {
-            Deed::GetWord => Happening::WordRead {
-                table: asked.first,
-                index: asked.second,
-                word: r0,
-            },
-            Deed::PutWord => Happening::WordPut {
-                table: asked.first,
-                index: asked.second,
-                old: r0,
-                new: asked.third,
-            },
-            Deed::AddWord => Happening::WordAdded {
-                table: asked.first,
-                index: asked.second,
-                old: r0.wrapping_sub(asked.third),
-                new: r0,
-            },
-            Deed::SetOpenings => Happening::OpeningsSet {
-                old: r0,
-                new: asked.first,
-            },
-            Deed::TellQueue => Happening::QueueTold(self.told_of(caller.it.queue)),
-            _ => Happening::ClockTold,
-        }
-    }
-
-    // What a queue has.
-    fn told_of(&self, queue: QueueId) -> QueueInfo {
+    /// What a queue has; nothing if there is no such queue.
+    pub(crate) fn told_of(&self, queue: QueueId) -> QueueInfo {
         self.engine.queue_info(queue).unwrap_or(QueueInfo {
             frozen: 0,
             active: 0,
@@ -181,11 +191,11 @@ impl Walk<'_> {
         subject.freeze = some_freeze(freeze);
         let frozen = self.frozen(place);
         let happening = if freeze == 0 {
-            Happening::NotFrozenByRun { frozen }
+            Happening::NotFrozenByRun
         } else {
-            Happening::FrozenByRun { frozen }
+            Happening::FrozenByRun
         };
-        self.tell(subject, happening, events)
+        self.tell(subject, happening, Values::frozen(frozen, 0), events)
     }
 
     // Why the run is there: its CCB failed.
@@ -211,7 +221,8 @@ impl Walk<'_> {
         subject.place = Some(times.place);
         let frozen = self.frozen(times.place);
         let held = self.engine.clock().saturating_sub(times.since);
-        self.tell(subject, Happening::GivenBackByRun { frozen, held }, events)
+        let values = Values::frozen(frozen, held);
+        self.tell(subject, Happening::GivenBackByRun, values, events)
     }
 
     fn handed_over(&mut self, caller: &Caller, events: &mut Vec<Event>) -> Result<(), AllocError> {
@@ -222,16 +233,15 @@ impl Walk<'_> {
             subject.place = Some(times.place);
         }
         let due = self.engine.clock().saturating_add(caller.asked.second);
-        self.tell(subject, Happening::LeftToTimer { due }, events)
+        let values = Values::numbers(due, 0);
+        self.tell(subject, Happening::LeftToTimer, values, events)
     }
 
     fn requeued(&mut self, caller: &Caller, events: &mut Vec<Event>) -> Result<(), AllocError> {
         let _ = self.times.move_ccb(caller.it.ccb.0, self.engine.clock())?;
-        let happening = Happening::Requeued {
-            before: caller.retries,
-            now: self.retries(caller.it.ccb),
-        };
-        self.tell(caller.subject(), happening, events)
+        let now = self.retries(caller.it.ccb);
+        let values = Values::numbers(u64::from(caller.retries), u64::from(now));
+        self.tell(caller.subject(), Happening::Requeued, values, events)
     }
 
     fn finished(
@@ -241,7 +251,11 @@ impl Walk<'_> {
         events: &mut Vec<Event>,
     ) -> Result<(), AllocError> {
         let _ = self.times.drop_ccb(caller.it.ccb.0, self.engine.clock());
-        self.tell(caller.subject(), Happening::Finished { code }, events)
+        let values = Values {
+            code,
+            ..Values::none()
+        };
+        self.tell(caller.subject(), Happening::Finished, values, events)
     }
 
     fn ended(
@@ -254,10 +268,7 @@ impl Walk<'_> {
             Some(times) => times.instructions,
             None => 0,
         };
-        self.tell(
-            caller.subject(),
-            Happening::Ended { r0, instructions },
-            events,
-        )
+        let values = Values::numbers(instructions, r0);
+        self.tell(caller.subject(), Happening::Ended, values, events)
     }
 }

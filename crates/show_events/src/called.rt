@@ -1,11 +1,12 @@
 // What the record of a call tells. It relies on `walk` for the world, and on `timers` for a clock reading.
 
-use crate::event::{Cause, Event, Happening, Subject};
+use crate::event::{Cause, Event, Subject, Values};
+use crate::happening::Happening;
 use crate::times::RunTimes;
 use crate::walk::Walk;
-use world_calls::{Call, CallAnswer, CallRefusal, CompletionRecord};
 use ccb::{CcbId, Place, QueueId};
 use std::alloc::AllocError;
+use world_calls::{Call, CallAnswer, CompletionRecord};
 
 impl Walk<'_> {
     /// Goes behind the record of a call, and tells it.
@@ -47,7 +48,12 @@ impl Walk<'_> {
             }
             Call::Park { run } => {
                 let _ = self.engine.call(call)?;
-                self.tell(self.run_subject(*run), Happening::Parked, events)
+                self.tell(
+                    self.run_subject(*run),
+                    Happening::Parked,
+                    Values::none(),
+                    events,
+                )
             }
             Call::Resume { run } => {
                 let _ = self.engine.call(call)?;
@@ -88,10 +94,12 @@ impl Walk<'_> {
             CallAnswer::Ccb(ccb) => {
                 let _ = self.times.move_ccb(ccb.0, self.engine.clock())?;
                 subject.ccb = Some(ccb.0);
-                self.tell(subject, Happening::Submitted { priority, retries }, events)
+                let values = Values::numbers(u64::from(priority), u64::from(retries));
+                self.tell(subject, Happening::Submitted, values, events)
             }
             CallAnswer::Refused(refusal) => {
-                self.tell(subject, Happening::NotSubmitted(refusal), events)
+                let values = Values::refused(refusal);
+                self.tell(subject, Happening::NotSubmitted, values, events)
             }
             _ => Ok(()),
         }
@@ -113,23 +121,34 @@ impl Walk<'_> {
                 let waited = self.times.move_ccb(ccb.0, self.engine.clock())?;
                 let attempt = self.engine.ccb(ccb).map_or(0, |it| it.ccb().attempts);
                 subject.ccb = Some(ccb.0);
-                self.tell(subject, Happening::Started { waited, attempt }, events)
+                let values = Values::numbers(u64::from(attempt), waited);
+                self.tell(subject, Happening::Started, values, events)
             }
             CallAnswer::Refused(refusal) => {
-                let frozen = self.frozen(self.what_stops(place, refusal));
-                self.tell(subject, Happening::NotStarted { refusal, frozen }, events)
+                let frozen = self.frozen(self.what_stops(queue));
+                let happening = if frozen > 0 {
+                    Happening::NotStartedFrozen
+                } else {
+                    Happening::NotStarted
+                };
+                let values = Values {
+                    frozen,
+                    ..Values::refused(refusal)
+                };
+                self.tell(subject, happening, values, events)
             }
             _ => Ok(()),
         }
     }
 
-    // What is frozen where a start is refused: the queue, or the controller that it is under.
-    fn what_stops(&self, queue: Place, refusal: CallRefusal) -> Place {
-        match (queue, refusal) {
-            (Place::Device(it), CallRefusal::ControllerFrozen) => {
-                Place::Controller(self.config.controller(it))
-            }
-            _ => queue,
+    // What is frozen if a start is refused for a freeze: the queue itself; or, if the queue could start a CCB, the controller that
+    // it is under.
+    fn what_stops(&self, queue: QueueId) -> Place {
+        let info = self.told_of(queue);
+        if info.frozen == 0 && info.waiting > 0 && info.active < info.openings {
+            Place::Controller(self.config.controller(queue))
+        } else {
+            Place::Device(queue)
         }
     }
 
@@ -150,7 +169,8 @@ impl Walk<'_> {
         match answer {
             CallAnswer::Done => {
                 let active = self.times.drop_ccb(ccb, self.engine.clock());
-                self.tell(subject, Happening::Completed { active }, events)
+                let values = Values::numbers(active, 0);
+                self.tell(subject, Happening::Completed, values, events)
             }
             CallAnswer::Started { run, freeze } => {
                 subject.run = Some(run);
@@ -158,7 +178,11 @@ impl Walk<'_> {
                 self.failed(completion, subject, run, freeze, events)
             }
             CallAnswer::Refused(refusal) => {
-                self.tell(subject, Happening::NotCompleted { status, refusal }, events)
+                let values = Values {
+                    status,
+                    ..Values::refused(refusal)
+                };
+                self.tell(subject, Happening::NotCompleted, values, events)
             }
             _ => Ok(()),
         }
@@ -190,15 +214,18 @@ impl Walk<'_> {
             self.times.take(freeze, place, cause, clock)?;
             frozen = self.frozen(place);
         }
-        let happening = Happening::Failed {
+        let happening = if freeze == 0 {
+            Happening::FailedAtLimit
+        } else {
+            Happening::Failed
+        };
+        let values = Values {
             status,
             scsi: completion.scsi(),
-            sense: completion.sense(),
-            active,
-            frozen,
-            has_freeze: freeze != 0,
+            bytes: completion.sense(),
+            ..Values::frozen(frozen, active)
         };
-        self.tell(subject, happening, events)
+        self.tell(subject, happening, values, events)
     }
 
     fn frozen_by_guest(
@@ -218,14 +245,18 @@ impl Walk<'_> {
                     .take(freeze, place, Cause::Guest(guest), self.engine.clock())?;
                 subject.freeze = Some(freeze);
                 let frozen = self.frozen(place);
-                self.tell(subject, Happening::FrozenByGuest { guest, frozen }, events)
+                let values = Values {
+                    guest,
+                    ..Values::frozen(frozen, 0)
+                };
+                self.tell(subject, Happening::FrozenByGuest, values, events)
             }
             CallAnswer::Refused(refusal) => {
-                self.tell(
-                    subject,
-                    Happening::NotFrozenByGuest { guest, refusal },
-                    events,
-                )
+                let values = Values {
+                    guest,
+                    ..Values::refused(refusal)
+                };
+                self.tell(subject, Happening::NotFrozenByGuest, values, events)
             }
             _ => Ok(()),
         }
@@ -249,12 +280,11 @@ impl Walk<'_> {
         };
         let frozen = self.frozen(times.place);
         let held = self.engine.clock().saturating_sub(times.since);
-        let happening = Happening::GivenBackByGuest {
+        let values = Values {
             guest,
-            frozen,
-            held,
+            ..Values::frozen(frozen, held)
         };
-        self.tell(subject, happening, events)
+        self.tell(subject, Happening::GivenBackByGuest, values, events)
     }
 
     fn resumed(
@@ -263,11 +293,11 @@ impl Walk<'_> {
         run: u32,
         events: &mut Vec<Event>,
     ) -> Result<(), AllocError> {
-        let happening = match answer {
-            CallAnswer::Refused(refusal) => Happening::NotResumed(refusal),
-            _ => Happening::Resumed,
+        let (happening, values) = match answer {
+            CallAnswer::Refused(refusal) => (Happening::NotResumed, Values::refused(refusal)),
+            _ => (Happening::Resumed, Values::none()),
         };
-        self.tell(self.run_subject(run), happening, events)
+        self.tell(self.run_subject(run), happening, values, events)
     }
 }
 

@@ -1,10 +1,10 @@
-// An event of a trace: when it was, what it is about, and what happened. It relies on `world_calls`, `ccb` and `freeze_ledger` for what
-// these name, and on `engine_core` for what a queue has.
+// An event of a trace: when it was, what it is about, what happened, and with which values. It relies on `happening` for what may
+// happen, and on `ccb` and `world_calls` for what the values name.
 
+use crate::happening::Happening;
 use base::ShortBytes;
-use world_calls::CallRefusal;
 use ccb::{CamStatus, Place};
-use engine_core::QueueInfo;
+use world_calls::CallRefusal;
 
 /// What an event is about. What it is not about is absent.
 #[derive(Clone, Copy, Default)]
@@ -32,134 +32,61 @@ pub enum Cause {
     Guest(u32),
 }
 
-/// What happened. Times are milliseconds of the trace's clock; `frozen` is how often the event's place is frozen behind it.
+/// The values of an event, as far as it has them: which ones, `Happening` says of each.
 #[derive(Clone, Copy)]
-pub enum Happening {
-    /// The CCB waits.
-    Submitted {
-        priority: u32,
-        retries: u32,
-    },
-    NotSubmitted(CallRefusal),
-    /// The CCB is active, for the so manieth time, and waited so long.
-    Started {
-        waited: u64,
-        attempt: u32,
-    },
-    NotStarted {
-        refusal: CallRefusal,
-        frozen: u32,
-    },
-    /// The CCB is finished without an error, and was active so long.
-    Completed {
-        active: u64,
-    },
-    /// The CCB failed, and was active so long: the run begins, with the freeze if there is one.
-    Failed {
-        status: CamStatus,
-        scsi: u8,
-        sense: ShortBytes,
-        active: u64,
-        frozen: u32,
-        has_freeze: bool,
-    },
-    NotCompleted {
-        status: CamStatus,
-        refusal: CallRefusal,
-    },
-    /// A guest took the freeze.
-    FrozenByGuest {
-        guest: u32,
-        frozen: u32,
-    },
-    NotFrozenByGuest {
-        guest: u32,
-        refusal: CallRefusal,
-    },
-    /// A guest gave the freeze back, which was there so long.
-    GivenBackByGuest {
-        guest: u32,
-        frozen: u32,
-        held: u64,
-    },
-    /// The clock was read, and no timer came.
-    ClockRead,
-    NotRead(CallRefusal),
-    /// The timer of the freeze came, which was there so long.
-    TimerCame {
-        frozen: u32,
-        held: u64,
-        cause: Cause,
-    },
-    Parked,
-    Resumed,
-    NotResumed(CallRefusal),
-    /// The run took the freeze.
-    FrozenByRun {
-        frozen: u32,
-    },
-    /// The run asked for a freeze, and got none.
-    NotFrozenByRun {
-        frozen: u32,
-    },
-    /// The run gave the freeze back, which was there so long.
-    GivenBackByRun {
-        frozen: u32,
-        held: u64,
-    },
-    /// The run left the freeze to a timer, which is due at that reading.
-    LeftToTimer {
-        due: u64,
-    },
-    /// The run made the CCB wait again, which had so many retries before and has so many now.
-    Requeued {
-        before: u32,
-        now: u32,
-    },
-    /// The run finished the CCB with that code.
-    Finished {
-        code: u8,
-    },
-    /// The run read a word of a table.
-    WordRead {
-        table: u64,
-        index: u64,
-        word: u64,
-    },
-    /// The run wrote a word of a table.
-    WordPut {
-        table: u64,
-        index: u64,
-        old: u64,
-        new: u64,
-    },
-    /// The run added to a word of a table.
-    WordAdded {
-        table: u64,
-        index: u64,
-        old: u64,
-        new: u64,
-    },
-    /// The run was told what its queue has.
-    QueueTold(QueueInfo),
-    /// The run put these bytes into the trace.
-    Traced(ShortBytes),
-    /// The run read the clock.
-    ClockTold,
-    /// The run's queue had so many openings, and has so many now.
-    OpeningsSet {
-        old: u64,
-        new: u64,
-    },
-    /// The run was told how often its controller is frozen.
-    ControllerTold {
-        frozen: u64,
-    },
-    /// The run ended with that R0, after so many instructions in all.
-    Ended {
-        r0: u64,
-        instructions: u64,
-    },
+pub struct Values {
+    pub numbers: [u64; 5],
+    /// How often the event's place is frozen after it.
+    pub frozen: u32,
+    /// A guest, by the number that it chose.
+    pub guest: u32,
+    pub status: CamStatus,
+    pub scsi: u8,
+    pub code: u8,
+    pub refusal: CallRefusal,
+    pub cause: Cause,
+    pub bytes: ShortBytes,
+}
+
+impl Values {
+    /// Those of an event that has none.
+    pub(crate) fn none() -> Self {
+        Values {
+            numbers: [0; 5],
+            frozen: 0,
+            guest: 0,
+            status: CamStatus::RequestInProgress,
+            scsi: 0,
+            code: 0,
+            refusal: CallRefusal::Unknown,
+            cause: Cause::Guest(0),
+            bytes: ShortBytes::none(),
+        }
+    }
+
+    /// Up to two numbers alone.
+    pub(crate) fn numbers(first: u64, second: u64) -> Self {
+        Values {
+            numbers: [first, second, 0, 0, 0],
+            ..Values::none()
+        }
+    }
+
+    /// A refusal alone.
+    pub(crate) fn refused(refusal: CallRefusal) -> Self {
+        Values {
+            refusal,
+            ..Values::none()
+        }
+    }
+
+    /// How often the place is frozen, and a time.
+    pub(crate) fn frozen(frozen: u32, time: u64) -> Self {
+        Values {
+            frozen,
+            ..Values::numbers(time, 0)
+        }
+    }
 }
 
 /// Something that happened.
@@ -169,6 +96,7 @@ pub struct Event {
     pub clock: u64,
     pub subject: Subject,
     pub happening: Happening,
+    pub values: Values,
 }
 
 impl Event {

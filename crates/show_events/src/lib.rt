@@ -6,13 +6,15 @@ mod advanced;
 mod called;
 mod event;
 mod filter;
+mod happening;
 mod programs;
 mod timers;
 mod times;
 mod walk;
 
-pub use event::{Cause, Event, Happening, Subject};
+pub use event::{Cause, Event, Subject, Values};
 pub use filter::Filter;
+pub use happening::Happening;
 pub use programs::{NamedAccepted, Programs};
 pub use times::{FreezeTimes, RunTimes};
 pub use walk::Walk;

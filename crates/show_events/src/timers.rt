@@ -1,11 +1,12 @@
 // What a clock reading tells: which timers came. It relies on `walk` for the world, which says what is there still.
 
-use crate::event::{Cause, Event, Happening, Subject};
+use crate::event::{Cause, Event, Subject, Values};
+use crate::happening::Happening;
 use crate::times::FreezeTimes;
 use crate::walk::Walk;
-use world_calls::CallAnswer;
 use ccb::Place;
 use std::alloc::AllocError;
+use world_calls::CallAnswer;
 
 impl Walk<'_> {
     /// The clock was read, and the engine is behind it.
@@ -15,10 +16,16 @@ impl Walk<'_> {
         events: &mut Vec<Event>,
     ) -> Result<(), AllocError> {
         match answer {
-            CallAnswer::Removed(0) => self.tell(Subject::default(), Happening::ClockRead, events),
+            CallAnswer::Removed(0) => self.tell(
+                Subject::default(),
+                Happening::ClockRead,
+                Values::none(),
+                events,
+            ),
             CallAnswer::Removed(_) => self.timers_came(events),
             CallAnswer::Refused(refusal) => {
-                self.tell(Subject::default(), Happening::NotRead(refusal), events)
+                let values = Values::refused(refusal);
+                self.tell(Subject::default(), Happening::NotRead, values, events)
             }
             _ => Ok(()),
         }
@@ -91,11 +98,12 @@ impl Walk<'_> {
             run,
             freeze: Some(number),
         };
-        let happening = Happening::TimerCame {
-            frozen: self.frozen(times.place).saturating_add(more),
-            held: self.engine.clock().saturating_sub(times.since),
+        let frozen = self.frozen(times.place).saturating_add(more);
+        let held = self.engine.clock().saturating_sub(times.since);
+        let values = Values {
             cause: times.cause,
+            ..Values::frozen(frozen, held)
         };
-        self.tell(subject, happening, events)
+        self.tell(subject, Happening::TimerCame, values, events)
     }
 }

@@ -1,21 +1,22 @@
 // The walk along a trace: an engine is led through its records, and each record is told as events. It relies on `engine_core` for the
 // world, and on `called`, `advanced` and `timers` for what a record tells.
 
-use crate::event::{Event, Happening, Subject};
+use crate::event::{Event, Subject, Values};
+use crate::happening::Happening;
 use crate::times::{FreezeTimes, RunTimes, Times};
-use world_calls::Record;
 use ccb::Place;
 use engine_config::Config;
-use engine_core::Unrecorded;
+use engine_core::NumberedEngine;
 use freeze_ledger::Holder;
 use std::alloc::{AllocError, Global};
 use std::collections::BTreeMap;
+use world_calls::Record;
 
 /// The world behind some records of a trace, with what only time tells.
 #[derive(Drop)]
 pub struct Walk<'a> {
     pub(crate) config: &'a Config,
-    pub(crate) engine: Unrecorded<'a>,
+    pub(crate) engine: NumberedEngine<'a>,
     pub(crate) times: Times,
     // those freezes whose timers came with the last clock reading
     pub(crate) came: Vec<u32>,
@@ -26,7 +27,7 @@ impl<'a> Walk<'a> {
     pub fn open(alloc: Global, config: &'a Config) -> Result<Self, AllocError> {
         Ok(Walk {
             config,
-            engine: Unrecorded::open(alloc, config)?,
+            engine: NumberedEngine::open(alloc, config)?,
             times: Times::new(alloc),
             came: Vec::new(alloc),
         })
@@ -48,7 +49,7 @@ impl<'a> Walk<'a> {
     }
 
     /// The engine behind the records.
-    pub fn engine(&self) -> &Unrecorded<'a> {
+    pub fn engine(&self) -> &NumberedEngine<'a> {
         &self.engine
     }
 
@@ -98,12 +99,14 @@ impl<'a> Walk<'a> {
         &self,
         subject: Subject,
         happening: Happening,
+        values: Values,
         events: &mut Vec<Event>,
     ) -> Result<(), AllocError> {
         events.push(Event {
             clock: self.engine.clock(),
             subject,
             happening,
+            values,
         })?;
         Ok(())
     }

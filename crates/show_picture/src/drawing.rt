@@ -5,11 +5,11 @@ use crate::lanes::{LEFT, Lanes};
 use crate::scale::{COLUMNS, Scale};
 use crate::stretch::{ROWS, Row, Stretch, What};
 use crate::widths::{LEAST, MOST, Widths, width_of};
+use cli_text_page::Page;
 use std::alloc::{AllocError, Global};
 use std::io;
 use std::io::Write;
 use std::mem::replace;
-use cli_text_page::Page;
 
 /// The rows of a lane.
 const ALL_ROWS: [Row; ROWS] = [

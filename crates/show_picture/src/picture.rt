@@ -5,13 +5,13 @@ use crate::frame::{begin, end};
 use crate::lanes::Lanes;
 use crate::scale::Scale;
 use crate::tracking::Tracking;
-use world_calls::{Record, Trace};
+use cli_text_page::Page;
 use engine_config::Config;
+use show_events::{Event, NamedAccepted, Programs, Walk};
 use std::alloc::{AllocError, Global};
 use std::io;
 use std::io::Write;
-use cli_text_page::Page;
-use show_events::{Event, NamedAccepted, Programs, Walk};
+use world_calls::{Record, Trace};
 
 /// Writes the picture of a trace of this configuration as SVG: a lane for each queue and each controller, over the clock in milliseconds,
 /// or over the records if the clock never moved. In a lane stand the stretches for which a CCB was active, one waited, and

@@ -2,9 +2,9 @@
 
 use crate::drawing::Drawing;
 use crate::stretch::{Row, Stretch, What};
+use show_events::{Event, Happening};
 use std::alloc::{AllocError, Global};
 use std::collections::BTreeMap;
-use show_events::{Event, Happening};
 
 /// What is so at a moment, by the numbers of CCBs and of freezes: as a stretch that has no end yet.
 #[derive(Drop)]
@@ -25,31 +25,32 @@ impl Tracking {
     /// Takes what an event at that place of the clock says: the stretch that ends with it, if one does.
     pub(crate) fn see(&mut self, event: &Event, at: u64) -> Result<Option<Stretch>, AllocError> {
         match event.happening {
-            Happening::Submitted { .. } | Happening::Requeued { .. } => {
+            Happening::Submitted | Happening::Requeued => {
                 self.begin_ccb(event, Row::Waiting, at)
             }
-            Happening::Started { .. } => self.begin_ccb(event, Row::Active, at),
-            Happening::Completed { .. } => Ok(self.end_ccb(event, at)),
-            Happening::Failed { has_freeze, .. } => {
-                if has_freeze {
-                    self.begin_freeze(event, Row::HeldByRun, of_run(event), at)?;
-                }
+            Happening::Started => self.begin_ccb(event, Row::Active, at),
+            Happening::Completed | Happening::FailedAtLimit => Ok(self.end_ccb(event, at)),
+            Happening::Failed => {
+                self.begin_freeze(event, Row::HeldByRun, of_run(event), at)?;
                 Ok(self.end_ccb(event, at))
             }
-            Happening::FrozenByRun { .. } => {
+            Happening::FrozenByRun => {
                 self.begin_freeze(event, Row::HeldByRun, of_run(event), at)?;
                 Ok(None)
             }
-            Happening::FrozenByGuest { guest, .. } => {
+            Happening::FrozenByGuest => {
                 let freeze = event.subject.freeze.unwrap_or(0);
-                let what = What::OfGuest { freeze, guest };
+                let what = What::OfGuest {
+                    freeze,
+                    guest: event.values.guest,
+                };
                 self.begin_freeze(event, Row::HeldByGuest, what, at)?;
                 Ok(None)
             }
-            Happening::LeftToTimer { .. } => self.leave_to_timer(event, at),
-            Happening::GivenBackByRun { .. }
-            | Happening::GivenBackByGuest { .. }
-            | Happening::TimerCame { .. } => Ok(self.end_freeze(event, at)),
+            Happening::LeftToTimer => self.leave_to_timer(event, at),
+            Happening::GivenBackByRun | Happening::GivenBackByGuest | Happening::TimerCame => Ok(
+                self.end_freeze(event, at),
+            ),
             _ => Ok(None),
         }
     }

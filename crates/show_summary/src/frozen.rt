@@ -60,17 +60,18 @@ impl FrozenPlaces {
             return;
         };
         let freeze = event.subject.freeze.unwrap_or(0);
+        let count = event.values.frozen;
         match event.happening {
-            Happening::Failed {
-                frozen: 1,
-                has_freeze: true,
-                ..
+            Happening::Failed | Happening::FrozenByGuest | Happening::FrozenByRun => {
+                if count == 1 {
+                    frozen.begin(event.clock, freeze);
+                }
             }
-            | Happening::FrozenByGuest { frozen: 1, .. }
-            | Happening::FrozenByRun { frozen: 1 } => frozen.begin(event.clock, freeze),
-            Happening::GivenBackByGuest { frozen: 0, .. }
-            | Happening::GivenBackByRun { frozen: 0, .. }
-            | Happening::TimerCame { frozen: 0, .. } => frozen.end(event.clock),
+            Happening::GivenBackByGuest | Happening::GivenBackByRun | Happening::TimerCame => {
+                if count == 0 {
+                    frozen.end(event.clock);
+                }
+            }
             _ => {}
         }
     }

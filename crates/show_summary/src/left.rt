@@ -1,9 +1,9 @@
 // What a summary says of what is left: runs, freezes with their holders, and CCBs. It relies on `show_events` for the world.
 
 use ccb::{CcbId, Place};
+use cli_text_page::Page;
 use engine_core::CcbState;
 use freeze_ledger::Holder;
-use cli_text_page::Page;
 use show_events::{FreezeTimes, RunTimes, Walk};
 
 /// Puts what is left, a line each.

@@ -1,7 +1,8 @@
 // How many openings queues had over time. It relies on `show_events` for when they change.
 
-use engine_config::Config;
 use cli_text_page::Page;
+use engine_config::Config;
+use helpers::HelperEffect;
 use show_events::{Event, Happening};
 
 /// How many changes of a queue are told one by one.
@@ -47,9 +48,10 @@ impl AllOpenings {
 
     /// Takes what an event says.
     pub(crate) fn see(&mut self, event: &Event) {
-        let Happening::OpeningsSet { old, new } = event.happening else {
+        let Happening::Helped(HelperEffect::SetOpenings) = event.happening else {
             return;
         };
+        let (new, old) = (event.values.numbers[0], event.values.numbers[3]);
         let queue = event.queue().unwrap_or(u32::MAX);
         if old != new {
             if let Some(openings) = self.queues.get_mut(queue as usize) {

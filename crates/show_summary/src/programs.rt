@@ -56,16 +56,12 @@ impl AllInstructions {
 
     /// Takes what an event says.
     pub(crate) fn see(&mut self, event: &Event, programs: &Programs<'_>) {
-        let Happening::Ended {
-            r0: _,
-            instructions,
-        } = event.happening
-        else {
+        let Happening::Ended = event.happening else {
             return;
         };
         let place = programs.of(event.queue().unwrap_or(u32::MAX));
         if let Some(program) = self.programs.get_mut(place) {
-            program.add(instructions);
+            program.add(event.values.numbers[0]);
         }
     }
 

@@ -3,8 +3,8 @@
 use crate::places::print_frozen;
 use crate::sums::Sums;
 use ccb::{Place, QueueId};
-use helpers::Helper;
 use cli_text_page::Page;
+use helpers::Helper;
 use show_account::name_of_code;
 use show_counts::{CODES, Counts, HELPERS};
 

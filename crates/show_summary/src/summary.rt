@@ -4,16 +4,15 @@ use crate::left::print_left;
 use crate::places::print_controllers;
 use crate::queues::{cell, print_queue};
 use crate::sums::Sums;
-use world_calls::Trace;
+use cli_text_page::Page;
 use engine_config::Config;
 use helpers::Helper;
+use show_counts::{Counts, HELPERS};
+use show_events::NamedAccepted;
 use std::alloc::Global;
 use std::io;
 use std::io::Write;
-use cli_text_page::Page;
-use show_account::helper_name;
-use show_counts::{Counts, HELPERS};
-use show_events::NamedAccepted;
+use world_calls::Trace;
 
 /// Writes the summary of a trace of this configuration: a table for each queue, each controller and each program, and what is left at
 /// its end. Times are milliseconds of its clock. The programs are the manifest's, with their names; where two have the same
@@ -81,7 +80,7 @@ fn print_calls(sums: &Sums<'_>, program: usize, page: &mut Page) {
 fn name_of(helper: u32) -> &'static str {
     let number = i32::try_from(helper).unwrap_or(0);
     match Helper::with_number(number) {
-        Some(helper) => helper_name(helper),
+        Some(helper) => helper.name(),
         None => "",
     }
 }

@@ -4,11 +4,11 @@
 use crate::frozen::FrozenPlaces;
 use crate::openings::AllOpenings;
 use crate::programs::AllInstructions;
-use world_calls::Trace;
 use engine_config::Config;
-use std::alloc::{AllocError, Global};
 use show_counts::{Counts, count_records};
 use show_events::{Event, NamedAccepted, Programs, Walk};
+use std::alloc::{AllocError, Global};
+use world_calls::Trace;
 
 /// The sums of a trace, and the world at its end.
 #[derive(Drop)]

@@ -1,19 +1,16 @@
--- A text goes on behind what waited: pages, texts one behind the other, and records by their places.
-use Rattle.std.proofs.Common.{◌≡◌, ℕ, ◌+◌, ◌-◌, ◌<◌, Option, Some, None, Result, Ok, Err, List, [], ◌++◌, length, take, drop, get_or, refl, sym, ap, ◌∙◌, append_assoc, append-nil, subst, arith, inr, ◌⊎◌}
+-- A text goes on after what waited: pages, and texts one after the other.
+use Rattle.std.proofs.Common.{◌≡◌, ℕ, Option, Some, None, Result, Ok, Err, List, [], ◌++◌, take, drop, refl, sym, ap, ◌∙◌, append_assoc, append-nil, subst, inr, ◌⊎◌}
 use Rattle.std.specs.Prelude.{OnErr, OnOk}
-use Rattle.std.proofs.lemmas.List.{get_or-drop, length-drop, take-append-drop, take_all}
+use Rattle.std.proofs.lemmas.List.{take-append-drop}
 use Rattle.std.specs.Fmt.{option_append}
 use Rattle.std.specs.Io.KnownBytes.{Appends}
 use Rattle.std.proofs.KnownBytes.{Appends-trans, Appends-nil}
 use Rattle.trace_lines.specs.Written.{IsPut}
 use Rattle.trace_lines.proofs.Tests.{same_text, parts_of}
-use Rattle.world_calls.specs.declared.record.Record.{Record}
-use Rattle.world_calls.specs.declared.trace.Version.{Version}
 use Rattle.trace.specs.declared.page.Page.{Page}
-use Rattle.trace.specs.Growing.{Goes, GoesOn, IsFront, StopsIn}
+use Rattle.trace.specs.Growing.{Goes, PrintsOn, IsFront, StopsIn}
 use Rattle.trace.specs.Pages.{Passed, IsCut}
-use Rattle.trace.specs.TraceText.{record_text, records_text}
-use Rattle.trace.proofs.Printing.{append_nothing, first_of_all, no_records, nothing_append, one_more}
+use Rattle.trace.proofs.Printing.{append_nothing, nothing_append}
 
 -- where a write failed, no more than a front of what waited and of the text is out
 abbrev pub Fronts : Option (List ℕ) → List ℕ → Option (List ℕ) → Option (List ℕ) → Type 0
@@ -111,7 +108,7 @@ fronts_handed text before mid old between new first second =
     subst (λ (t : Option (List ℕ)). Fronts t before old new) (append_nothing text) (fronts_behind text (Some []) before mid old between new first second)
 
 pub goes_on_handed : {T E : Type 0} (text : Option (List ℕ)) (r : Result T E) (before mid waiting : List ℕ) (old between new : Option (List ℕ)) → Goes text before old mid between
-    → GoesOn (Some []) mid between r waiting new → OnOk r (waiting ≡ []) → GoesOn text before old r [] new
+    → PrintsOn (Some []) mid between r waiting new → OnOk r (waiting ≡ []) → PrintsOn text before old r [] new
 goes_on_handed text (Ok done) before mid waiting old between new first second all = subst (λ (t : List ℕ). Goes text before old t new) all (goes_handed text before mid waiting old between new first second)
 goes_on_handed text (Err fault) before mid waiting old between new first second all = fronts_handed text before mid old between new first second
 
@@ -137,48 +134,22 @@ stops_behind text before mid old between new first second =
       };
     }
 
+-- at a text behind one that went on
+pub stops_on : (a b : Option (List ℕ)) (before mid : List ℕ) (old between new : Option (List ℕ)) → Goes a before old mid between → StopsIn b mid between new → StopsIn (option_append a b) before old new
+stops_on a b before mid old between new first second =
+    let is : option_append a b ≡ Some (first.more ++ second.more) = rw (first.is, second.is) refl in
+    record {
+      more = first.more ++ second.more;
+      is = is;
+      front = fronts_behind a b before mid old between new first (λ more same. subst (λ (t : List ℕ). IsFront (mid ++ t) between new) (same_text second.more more (sym second.is ∙ same)) second.front) (first.more ++ second.more) is;
+    }
+
 -- or where what was handed on was all that waited, with the text in it
 pub stops_put : (text : Option (List ℕ)) (before mid waiting : List ℕ) (old between new : Option (List ℕ)) → Goes (Some []) before old mid between → IsPut text mid waiting → Fronts (Some []) waiting between new → StopsIn text before old new
 stops_put text before mid waiting old between new room put fronts =
     stops_behind text before waiting old between new (goes_behind_room text before mid waiting old between room put) (stops_at [] waiting between new fronts)
 
 pub stops_ended : {T E : Type 0} (text : Option (List ℕ)) (r : Result T E) (before mid waiting left : List ℕ) (old between new : Option (List ℕ)) → Goes (Some []) before old mid between → IsPut text mid waiting
-    → GoesOn (Some []) waiting between r left new → OnErr r (StopsIn (Some []) before old new ⊎ StopsIn text before old new)
+    → PrintsOn (Some []) waiting between r left new → OnErr r (StopsIn (Some []) before old new ⊎ StopsIn text before old new)
 stops_ended text (Ok done) before mid waiting left old between new room put goes = tt
 stops_ended text (Err fault) before mid waiting left old between new room put goes = inr (stops_put text before mid waiting old between new room put goes)
-
--- ---- records by their places
-
--- the record at a place among those that are new
-pub news_there : (records : List Record) (from printed all place : ℕ) (entry : Record) → from ≡ printed → all ≡ length records → place < all - from → entry ≡ get_or records (from + place) entry
-    → (place < length (drop printed records)) × (entry ≡ get_or (drop printed records) place entry)
-news_there records from printed all place entry same many within is = (
-  omega (arith, length-drop printed records),
-  subst (λ (n : ℕ). entry ≡ get_or records (n + place) entry) same is ∙ sym (get_or-drop printed records place entry),
-)
-
-module _ (version : Version) (records : List Record) where
-  pub no_news : (waiting : List ℕ) (old : Option (List ℕ)) → Goes (records_text version (take 0 records)) waiting old waiting old
-  no_news waiting old = subst (λ (t : Option (List ℕ)). Goes t waiting old waiting old) (sym (no_records version)) (goes_none waiting old)
-
-  -- the record at this place went on
-  pub one_more_goes : (place : ℕ) (entry : Record) (before mid waiting : List ℕ) (old between new : Option (List ℕ)) → place < length records → entry ≡ get_or records place entry
-      → Goes (records_text version (take place records)) before old mid between → Goes (record_text version entry) mid between waiting new
-      → Goes (records_text version (take (place + 1) records)) before old waiting new
-  one_more_goes place entry before mid waiting old between new within is first second =
-      subst (λ (t : Option (List ℕ)). Goes t before old waiting new) (sym (one_more version records place entry within is))
-      (goes_both (records_text version (take place records)) (record_text version entry) before mid waiting old between new first second)
-
-  -- a write failed at it
-  pub one_more_fails : (place : ℕ) (entry : Record) (before mid : List ℕ) (old between new : Option (List ℕ)) → place < length records → entry ≡ get_or records place entry
-      → Goes (records_text version (take place records)) before old mid between → Fronts (record_text version entry) mid between new
-      → Fronts (records_text version records) before old new
-  one_more_fails place entry before mid old between new within is first second =
-      let here = fronts_behind (records_text version (take place records)) (record_text version entry) before mid old between new first second in
-      subst (λ (t : Option (List ℕ)). Fronts t before old new)
-      (ap (λ (t : Option (List ℕ)). option_append t (records_text version (drop (place + 1) records))) (sym (one_more version records place entry within is)) ∙ sym (first_of_all version records (place + 1)))
-      (fronts_before (option_append (records_text version (take place records)) (record_text version entry)) (records_text version (drop (place + 1) records)) before old new here)
-
-  pub all_gone : (place : ℕ) (before waiting : List ℕ) (old new : Option (List ℕ)) → place ≡ length records → Goes (records_text version (take place records)) before old waiting new → Goes (records_text version records) before old waiting new
-  all_gone place before waiting old new is gone =
-      subst (λ (entries : List Record). Goes (records_text version entries) before old waiting new) (take_all place records (omega arith)) gone

@@ -13,7 +13,7 @@ use Rattle.world_calls.specs.declared.trace.Version.{Version}
 use Rattle.trace.specs.declared.fault.PrintFault.{PrintFault}
 use Rattle.trace.specs.declared.page.Page.{Page}
 use Rattle.trace.specs.Pages.{Passed, IsCut, Flushes}
-use Rattle.trace.specs.Printed.{IsOut, IsBegun, Prints}
+use Rattle.trace.specs.Printed.{IsPrinted, IsBegun, Prints}
 use Rattle.trace.specs.Sinks.{HasFailed}
 use Rattle.trace.specs.TraceText.{header, record_text, records_text, lines_text, totals_text, trace_text}
 
@@ -231,7 +231,7 @@ begun version text page old new failed fails written first none cut = record {
 
 -- all went out
 pub all_out : (version : Version) (text : Option (List ℕ)) (before page : Page) (old new : Option (List ℕ)) (failed fails : ℕ) → before.text ≡ header version → page.text ≡ []
-    → Passed text before old failed page new fails → IsOut (option_append (Some (header version)) text) old failed new fails
+    → Passed text before old failed page new fails → IsPrinted (option_append (Some (header version)) text) old failed new fails
 all_out version text before page old new failed fails first empty passed = record {
   bytes = header version ++ passed.more;
   is = rw passed.is refl;

@@ -10,7 +10,7 @@ use Rattle.trace_lines.specs.Written.{IsPut}
 use Rattle.trace_lines.proofs.Tests.{parts_of}
 use Rattle.base.specs.declared.or_memory.OrMemory.{OrMemory}
 use Rattle.trace.specs.declared.fault.TraceFault.{TraceFault}
-use Rattle.trace.specs.HasText.{AllHaveText, Fits, HasText}
+use Rattle.trace.specs.HasText.{AllHaveText, NumbersFit, HasText}
 use Rattle.trace.specs.Reading.{SaysLines}
 use Rattle.trace.specs.TraceText.{line_of, record_text, records_text, totals_text}
 use Rattle.trace.specs.Versions.{is_of}
@@ -30,7 +30,7 @@ chosen false told some = absurd (let bad : false ≡ true = some in cc)
 
 module _ (version : Version) where
   -- a record that has a text is of the version, and that is its line
-  pub has_line : (entry : Record) → HasText version entry → Fits entry → IsSome (line_of entry) × (record_text version entry ≡ with_newline (line_of entry))
+  pub has_line : (entry : Record) → HasText version entry → NumbersFit entry → IsSome (line_of entry) × (record_text version entry ≡ with_newline (line_of entry))
   has_line entry has fits = chosen (is_of version entry) (line_of entry) (has fits)
 
   -- the record at a place has one

@@ -41,13 +41,13 @@ StopFits (stopped.Trace helper bytes) = All (λ byte. byte < 256) bytes
 StopFits (stopped.Finish helper code) = Unit {0}
 StopFits stopped.Exit = Unit {0}
 
-abbrev pub Fits : Record → Type 0
-Fits (Called answer call) = CallFits call × AnswerFits answer
-Fits (Advance run instructions stop r0) = (run < 2 ^ 32) × StopFits stop × (r0 < 2 ^ 64)
+abbrev pub NumbersFit : Record → Type 0
+NumbersFit (Called answer call) = CallFits call × AnswerFits answer
+NumbersFit (Advance run instructions stop r0) = (run < 2 ^ 32) × StopFits stop × (r0 < 2 ^ 64)
 
 -- with numbers and bytes that are such, the record has a text
 abbrev pub HasText : Version → Record → Type 0
-HasText version entry = Fits entry → IsSome (record_text version entry)
+HasText version entry = NumbersFit entry → IsSome (record_text version entry)
 
 abbrev pub AllHaveText : Version → List Record → Type 0
 AllHaveText version records = AllByRecursion (HasText version) records

@@ -11,7 +11,7 @@ use Rattle.trace.specs.Sinks.{HasFailed}
 use Rattle.trace.specs.TraceText.{records_text, trace_text}
 
 -- all of the text is out, no write failed, and this is the trace's text
-pub record IsOut (text : Option (List ℕ)) (old : Option (List ℕ)) (failed : ℕ) (new : Option (List ℕ)) (fails : ℕ) : Type 0 where
+pub record IsPrinted (text : Option (List ℕ)) (old : Option (List ℕ)) (failed : ℕ) (new : Option (List ℕ)) (fails : ℕ) : Type 0 where
   pub bytes : List ℕ
   pub is : text ≡ Some bytes
   pub told : Appends old new bytes
@@ -24,7 +24,7 @@ pub record IsBegun (text : Option (List ℕ)) (old : Option (List ℕ)) (failed 
 
 -- what is said of a trace and a sink
 abbrev pub Prints : {T : Type 0} → Trace → Option (List ℕ) → ℕ → Result T PrintFault → Option (List ℕ) → ℕ → Type 0
-Prints trace old failed (Ok done) new fails = IsOut (trace_text trace) old failed new fails
+Prints trace old failed (Ok done) new fails = IsPrinted (trace_text trace) old failed new fails
 Prints trace old failed (Err fault) new fails = IsBegun (trace_text trace) old failed fault.written new fails
 
 -- what is said of records, a page and a sink

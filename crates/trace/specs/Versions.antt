@@ -1,5 +1,7 @@
 -- Which records a text of a version may have: in the first nothing is told of controllers, but that there is none of a number.
-use Rattle.std.specs.Prelude.{Bool, false, not, true}
+use Rattle.std.specs.Prelude.{Bool, false, nat_lt, not, true}
+use Rattle.ccb.specs.CallRefusalText.{row_of}
+use Rattle.ccb.specs.declared.call_refusal.CallRefusal.{CallRefusal}
 use Rattle.ccb.specs.declared.place.Place.TheVariants.{Controller}
 use Rattle.helpers.specs.Table.{is_there}
 use Rattle.helpers.specs.declared.limits.HelperSet.TheVariants.{Queues}
@@ -7,7 +9,7 @@ use Rattle.world_calls.specs.declared.call.Call.{Call}
 use Rattle.world_calls.specs.declared.call.Call.TheVariants.{GuestFreeze}
 use Rattle.world_calls.specs.declared.call_answer.CallAnswer.{CallAnswer}
 use Rattle.world_calls.specs.declared.call_answer.CallAnswer.TheVariants.{Refused}
-use Rattle.world_calls.specs.declared.call_refusal.CallRefusal.TheVariants.{ControllerFrozen, Unknown}
+use Rattle.ccb.specs.declared.call_refusal.CallRefusal.TheVariants.{Unknown}
 use Rattle.world_calls.specs.declared.record.Record.{Record}
 use Rattle.world_calls.specs.declared.record.Record.TheVariants.{Called, Advance}
 use Rattle.world_calls.specs.declared.record.StoppedAt.{StoppedAt}
@@ -20,15 +22,19 @@ abbrev pub is_unknown : CallAnswer → Bool
 is_unknown (Refused Unknown) = true
 is_unknown answer = false
 
--- it was refused, since a controller is frozen
-abbrev pub is_held : CallAnswer → Bool
-is_held (Refused ControllerFrozen) = true
-is_held answer = false
+-- the first version does not have the refusal
+abbrev pub is_later : CallRefusal → Bool
+is_later refusal = nat_lt 1 (row_of refusal).since
 
--- no controller was frozen, nor found frozen
+-- it was refused for such a reason
+abbrev pub is_later_refusal : CallAnswer → Bool
+is_later_refusal (Refused refusal) = is_later refusal
+is_later_refusal answer = false
+
+-- no controller was frozen, and the call was not refused for such a reason
 abbrev pub is_answer_of_one : Call → CallAnswer → Bool
 is_answer_of_one (GuestFreeze (Controller controller) guest) answer = is_unknown answer
-is_answer_of_one call answer = not (is_held answer)
+is_answer_of_one call answer = not (is_later_refusal answer)
 
 -- the helper is one of those that there are where queues alone freeze
 abbrev pub is_stop_of_one : StoppedAt → Bool

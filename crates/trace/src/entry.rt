@@ -9,9 +9,9 @@ ghost use Rattle.trace.specs.TraceText.{entry_text, line_of};
 ghost use Rattle.trace.specs.Versions.{is_of};
 
 use crate::version::is_of;
+use std::alloc::{AllocError, Global};
 use trace_lines::{Slots, Stop, Value, Word, call_of, long_number, number_at, read_line, stop_in};
 use world_calls::{Record, StoppedAt, TracedBytes, Version};
-use std::alloc::{AllocError, Global};
 
 /// The record of a line, which stands without its line feed. None where it is that of no record which a text of the version may have. It
 /// takes memory for sense bytes and traced bytes alone.

@@ -2,14 +2,14 @@
 // anything. It relies on `world_calls` for records.
 
 ghost use Rattle.std.specs.Prelude.{◌<◌, ◌^◌, All};
-ghost use Rattle.trace.specs.HasText.{AnswerFits, CallFits, Fits, StopFits};
+ghost use Rattle.trace.specs.HasText.{AnswerFits, CallFits, NumbersFit, StopFits};
 
-use world_calls::{Call, CallAnswer, Record, StoppedAt};
 use ccb::Place;
+use world_calls::{Call, CallAnswer, Record, StoppedAt};
 
 /// The numbers of a record are below 2^32, or 2^64, and its bytes are bytes.
 pub(crate) fn fits(entry: &Record)
-    ensures { Fits entry.now }
+    ensures { NumbersFit entry.now }
 {
     match entry {
         Record::Called { call, answer } => {

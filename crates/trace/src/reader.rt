@@ -11,9 +11,9 @@ use crate::fault::{TraceError, TraceFault};
 use crate::sums::read_totals;
 use crate::version::header;
 use base::OrMemory;
-use world_calls::{Trace, Version};
 use base_chunked_list::ChunkedList;
 use std::alloc::Global;
+use world_calls::{Trace, Version};
 
 /// Reads a whole trace. Besides the list's chunks it takes memory for sense bytes and traced bytes alone.
 pub fn read(alloc: Global, text: &str) -> Result<Trace, TraceError>

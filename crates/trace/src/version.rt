@@ -3,11 +3,11 @@
 
 ghost use Rattle.std.specs.Prelude.{◌≡◌};
 ghost use Rattle.trace.specs.TraceText.{header};
-ghost use Rattle.trace.specs.Versions.{is_answer_of_one, is_held, is_of, is_stop_of_one, is_unknown};
+ghost use Rattle.trace.specs.Versions.{is_answer_of_one, is_later_refusal, is_of, is_stop_of_one, is_unknown};
 
-use world_calls::{Call, CallAnswer, CallRefusal, Record, StoppedAt, Version};
 use ccb::Place;
 use helpers::HelperSet;
+use world_calls::{Call, CallAnswer, CallRefusal, Record, StoppedAt, Version};
 
 /// The first line, with its line feed.
 pub fn header(version: Version) -> &'static str
@@ -32,16 +32,16 @@ pub(crate) fn is_of(version: Version, entry: &Record) -> bool
     }
 }
 
-// Whether no controller was frozen, nor found frozen.
+// Whether no controller was frozen, and the call was not refused for a reason that the first version does not have.
 fn is_answer_of_one(call: &Call, answer: CallAnswer) -> bool
     ensures { result ≡ is_answer_of_one call.now answer }
 {
     match call {
         Call::GuestFreeze { place, .. } => match place {
-            Place::Device(_) => !is_held(answer),
+            Place::Device(_) => !is_later_refusal(answer),
             Place::Controller(_) => is_unknown(answer),
         },
-        _ => !is_held(answer),
+        _ => !is_later_refusal(answer),
     }
 }
 
@@ -52,11 +52,14 @@ fn is_unknown(answer: CallAnswer) -> bool
     matches!(answer, CallAnswer::Refused(CallRefusal::Unknown))
 }
 
-// Whether it was refused, since a controller is frozen.
-fn is_held(answer: CallAnswer) -> bool
-    ensures { result ≡ is_held answer }
+// Whether it was refused for a reason that the first version does not have.
+fn is_later_refusal(answer: CallAnswer) -> bool
+    ensures { result ≡ is_later_refusal answer }
 {
-    matches!(answer, CallAnswer::Refused(CallRefusal::ControllerFrozen))
+    match answer {
+        CallAnswer::Refused(refusal) => refusal.row().since > 1,
+        _ => false,
+    }
 }
 
 // Whether the helper is one of those that there are where queues alone freeze.

@@ -15,20 +15,20 @@ use Rattle.world_calls.specs.declared.call.Call.{Call}
 use Rattle.world_calls.specs.declared.call.Call.TheVariants as calls
 use Rattle.world_calls.specs.declared.call_answer.CallAnswer.{CallAnswer}
 use Rattle.world_calls.specs.declared.call_answer.CallAnswer.TheVariants as answers
-use Rattle.world_calls.specs.declared.call_refusal.CallRefusal.{CallRefusal}
-use Rattle.world_calls.specs.CallRefusalText.{call_refusal_text}
+use Rattle.ccb.specs.declared.call_refusal.CallRefusal.{CallRefusal}
+use Rattle.ccb.specs.CallRefusalText.{row_of as refusal_row}
 use Rattle.world_calls.specs.declared.record.Record.TheVariants.{Called}
 use Rattle.trace_lines.specs.Answers.{answer_text}
 use Rattle.trace_lines.specs.Calls.{values_of, word_of, word_text}
 use Rattle.trace_lines.specs.Lines.{fields_text, line_text}
-use Rattle.trace_lines.specs.Rows.{is_among, row_of}
+use Rattle.trace_lines.specs.Rows.{row_of}
 use Rattle.trace_lines.specs.Texts.{field_text, is_byte, pair_text, sense_text, status_text}
 use Rattle.trace_lines.specs.declared.table.Row.{Row}
 use Rattle.trace_lines.specs.declared.word.Word.TheVariants as words
 use Rattle.trace.specs.HasText.{AnswerFits, CallFits}
 use Rattle.world.specs.World.{Setup, LiveCcb, LiveRun, World}
 use Rattle.world.specs.Lookups.{ccb_of, next_waiting, run_of}
-use Rattle.world.specs.Event.{called, Reply, replies, went_on, result}
+use Rattle.world.specs.Event.{called, Reply, refused, replies, went_on, result}
 use Rattle.world.specs.FreezeSteps.{guest_releases, is_guest}
 use Rattle.world.specs.CcbSteps.{completes, is_success, recovers, starts}
 use Rattle.world.specs.ParkSteps.{parks, resumes}
@@ -45,17 +45,17 @@ HasReply row (replies answer) = AnswerFits answer → IsSome (answer_text row an
 HasReply row went_on = ⊥
 HasReply row (result r0) = ⊥
 
-by_reply : (row : Row) (told : Reply × World) (reply : Reply) (after : World) → HasReply row told.0 → Some told ≡ Some (reply, after) → HasReply row reply
-by_reply row told reply after has e = subst (HasReply row) (sym (ap (λ (x : Reply × World). x.0) (some_is told (reply, after) e))) has
+by_reply : (P : Reply → Type 0) (told : Reply × World) (reply : Reply) (after : World) → P told.0 → Some told ≡ Some (reply, after) → P reply
+by_reply P told reply after has e = subst P (sym (ap (λ (x : Reply × World). x.0) (some_is told (reply, after) e))) has
 
 -- where a test says what is done, if anything
-by_test : (row : Row) (test : Bool) (told : Reply × World) (reply : Reply) (after : World) → HasReply row told.0 → cond test (Some told) None ≡ Some (reply, after) → HasReply row reply
-by_test row true told reply after has e = by_reply row told reply after has e
-by_test row false told reply after has e = absurd (let bad : None ≡ Some (reply, after) = e in cc)
+by_test : (P : Reply → Type 0) (test : Bool) (told : Reply × World) (reply : Reply) (after : World) → P told.0 → cond test (Some told) None ≡ Some (reply, after) → P reply
+by_test P true told reply after has e = by_reply P told reply after has e
+by_test P false told reply after has e = absurd (let bad : None ≡ Some (reply, after) = e in cc)
 
-pub by_found : {X : Type 0} (row : Row) (does : X → Reply × World) (found : Option X) (reply : Reply) (after : World) → ((x : X) → HasReply row (does x).0) → option_map does found ≡ Some (reply, after) → HasReply row reply
-by_found row does None reply after has e = absurd (let bad : None ≡ Some (reply, after) = e in cc)
-by_found row does (Some x) reply after has e = by_reply row (does x) reply after (has x) e
+pub by_found : (P : Reply → Type 0) {X : Type 0} (does : X → Reply × World) (found : Option X) (reply : Reply) (after : World) → ((x : X) → P (does x).0) → option_map does found ≡ Some (reply, after) → P reply
+by_found P does None reply after has e = absurd (let bad : None ≡ Some (reply, after) = e in cc)
+by_found P does (Some x) reply after has e = by_reply P (does x) reply after (has x) e
 
 starts_a_run : (run freeze : ℕ) → HasReply (row_of words.Complete) (replies (answers.Started run freeze))
 unfolding row_of
@@ -76,52 +76,52 @@ completed setup world outcome live false success = rw success (recovered setup w
 released : (world : World) (found : Option Freeze) (reply : Reply) (after : World) → guest_releases world found ≡ Some (reply, after) → HasReply (row_of words.ReleaseFreeze) reply
 unfolding row_of
 released world None reply after e = absurd (let bad : None ≡ Some (reply, after) = e in cc)
-released world (Some freeze) reply after e = by_test (row_of words.ReleaseFreeze) (is_guest freeze.holder) _ reply after (λ fits. some_number _ fits) e
+released world (Some freeze) reply after e = by_test (HasReply (row_of words.ReleaseFreeze)) (is_guest freeze.holder) _ reply after (λ fits. some_number _ fits) e
 
 parked : (world : World) (found : Option LiveRun) (reply : Reply) (after : World) → parks world found ≡ Some (reply, after) → HasReply (row_of words.Park) reply
 unfolding row_of
 parked world None reply after e = absurd (let bad : None ≡ Some (reply, after) = e in cc)
-parked world (Some run) reply after e = by_test (row_of words.Park) run.out _ reply after (λ fits. refl) e
+parked world (Some run) reply after e = by_test (HasReply (row_of words.Park)) run.out _ reply after (λ fits. refl) e
 
 performed : (setup : Setup) (world : World) (call : Call) (reply : Reply) (after : World) → performs setup world call ≡ Some (reply, after) → HasReply (row_of (word_of call)) reply
 unfolding row_of
-performed setup world (calls.Submit queue priority retries) reply after e = by_reply (row_of words.Submit) _ reply after (λ fits. some_named (codes "ccb ") _ fits) e
-performed setup world (calls.Dispatch queue) reply after e = by_found (row_of words.Dispatch) (starts world) (next_waiting queue.0 world.transport.live) reply after (λ live fits. some_named (codes "ccb ") _ fits) e
+performed setup world (calls.Submit queue priority retries) reply after e = by_reply (HasReply (row_of words.Submit)) _ reply after (λ fits. some_named (codes "ccb ") _ fits) e
+performed setup world (calls.Dispatch queue) reply after e = by_found (HasReply (row_of words.Dispatch)) (starts world) (next_waiting queue.0 world.transport.live) reply after (λ live fits. some_named (codes "ccb ") _ fits) e
 performed setup world (calls.Complete outcome) reply after e =
-    by_found (row_of words.Complete) (completes setup world outcome) (ccb_of outcome.ccb.0 world.transport.live) reply after (λ live. completed setup world outcome live (is_success outcome.status) refl) e
-performed setup world (calls.GuestFreeze (Device queue) guest) reply after e = by_reply (row_of words.FreezeQueue) _ reply after (λ fits. some_named (codes "freeze ") _ fits) e
-performed setup world (calls.GuestFreeze (Controller controller) guest) reply after e = by_reply (row_of words.FreezeController) _ reply after (λ fits. some_named (codes "freeze ") _ fits) e
+    by_found (HasReply (row_of words.Complete)) (completes setup world outcome) (ccb_of outcome.ccb.0 world.transport.live) reply after (λ live. completed setup world outcome live (is_success outcome.status) refl) e
+performed setup world (calls.GuestFreeze (Device queue) guest) reply after e = by_reply (HasReply (row_of words.FreezeQueue)) _ reply after (λ fits. some_named (codes "freeze ") _ fits) e
+performed setup world (calls.GuestFreeze (Controller controller) guest) reply after e = by_reply (HasReply (row_of words.FreezeController)) _ reply after (λ fits. some_named (codes "freeze ") _ fits) e
 performed setup world (calls.GuestRelease freeze) reply after e = released world (entry_of freeze world.transport.freezes) reply after e
-performed setup world (calls.Clock reading) reply after e = by_reply (row_of words.Clock) _ reply after (λ fits. some_number _ fits) e
+performed setup world (calls.Clock reading) reply after e = by_reply (HasReply (row_of words.Clock)) _ reply after (λ fits. some_number _ fits) e
 performed setup world (calls.Park run) reply after e = parked world (run_of run world.runs.list) reply after e
-performed setup world (calls.Resume run) reply after e = by_found (row_of words.Resume) (resumes world) (run_of run world.runs.list) reply after (λ live fits. refl) e
+performed setup world (calls.Resume run) reply after e = by_found (HasReply (row_of words.Resume)) (resumes world) (run_of run world.runs.list) reply after (λ live fits. refl) e
 
 -- ---- why it is refused
 
-abbrev AreAmong : Row → List (Bool × CallRefusal) → Type 0
-AreAmong row [] = Unit {0}
-AreAmong row (x ∷ xs) = (is_among row.refusals x.1 ≡ true) × AreAmong row xs
+-- each refusal is such a reply
+abbrev pub AreEach : (Reply → Type 0) → List (Bool × CallRefusal) → Type 0
+AreEach P [] = Unit {0}
+AreEach P (x ∷ xs) = P (refused x.1) × AreEach P xs
 
-among : (setup : Setup) (world : World) (call : Call) → AreAmong (row_of (word_of call)) (refusals_of setup world call)
-unfolding row_of
-among setup world (calls.Submit queue priority retries) = (refl, (refl, tt))
-among setup world (calls.Dispatch queue) = (refl, (refl, (refl, (refl, (refl, tt)))))
-among setup world (calls.Complete outcome) = (refl, (refl, (refl, tt)))
-among setup world (calls.GuestFreeze (Device queue) guest) = (refl, (refl, tt))
-among setup world (calls.GuestFreeze (Controller controller) guest) = (refl, (refl, tt))
+among : (setup : Setup) (world : World) (call : Call) → AreEach (HasReply (row_of (word_of call))) (refusals_of setup world call)
+unfolding row_of refusal_row
+among setup world (calls.Submit queue priority retries) = (λ fits. refl, (λ fits. refl, tt))
+among setup world (calls.Dispatch queue) = (λ fits. refl, (λ fits. refl, (λ fits. refl, (λ fits. refl, (λ fits. refl, tt)))))
+among setup world (calls.Complete outcome) = (λ fits. refl, (λ fits. refl, (λ fits. refl, tt)))
+among setup world (calls.GuestFreeze (Device queue) guest) = (λ fits. refl, (λ fits. refl, tt))
+among setup world (calls.GuestFreeze (Controller controller) guest) = (λ fits. refl, (λ fits. refl, tt))
 among setup world (calls.GuestRelease freeze) = tt
-among setup world (calls.Clock reading) = (refl, (refl, tt))
+among setup world (calls.Clock reading) = (λ fits. refl, (λ fits. refl, tt))
 among setup world (calls.Park run) = tt
-among setup world (calls.Resume run) = (refl, tt)
+among setup world (calls.Resume run) = (λ fits. refl, tt)
 
 -- the first that holds, or else what is done
-pub told : (row : Row) (xs : List (Bool × CallRefusal)) (world : World) (does : Option (Reply × World)) (reply : Reply) (after : World) → AreAmong row xs → (does ≡ Some (reply, after) → HasReply row reply) → unless_refused xs world does ≡ Some (reply, after) → HasReply row reply
-told row [] world does reply after are otherwise e = otherwise e
-told row (x ∷ xs) world does reply after are otherwise e =
+pub told : (P : Reply → Type 0) (xs : List (Bool × CallRefusal)) (world : World) (does : Option (Reply × World)) (reply : Reply) (after : World) → AreEach P xs → (does ≡ Some (reply, after) → P reply) → unless_refused xs world does ≡ Some (reply, after) → P reply
+told P [] world does reply after are otherwise e = otherwise e
+told P (x ∷ xs) world does reply after are otherwise e =
     elim (cases_Bool x.0) [
-      | inl holds ↦
-          by_reply row (replies (answers.Refused x.1), world) reply after (λ fits. some_where (is_among row.refusals x.1) (call_refusal_text x.1) are.0) (sym (cond-true x.0 _ _ holds) ∙ e)
-      | inr fails ↦ told row xs world does reply after are.1 otherwise (sym (cond-false x.0 _ _ fails) ∙ e)
+      | inl holds ↦ by_reply P (refused x.1, world) reply after are.0 (sym (cond-true x.0 _ _ holds) ∙ e)
+      | inr fails ↦ told P xs world does reply after are.1 otherwise (sym (cond-false x.0 _ _ fails) ∙ e)
     ]
 
 -- ---- what is asked
@@ -168,7 +168,7 @@ can_be setup before call reply after e =
 -- and the answer is one of its line
 pub answered : (setup : Setup) (before : World) (call : Call) (answer : CallAnswer) (after : World) → WorldStep setup before (called call) (replies answer) after → HasReply (row_of (word_of call)) (replies answer)
 answered setup before call answer after e =
-    told (row_of (word_of call)) (refusals_of setup before call) before (performs setup before call) (replies answer) after (among setup before call) (performed setup before call (replies answer) after)
+    told (HasReply (row_of (word_of call))) (refusals_of setup before call) before (performs setup before call) (replies answer) after (among setup before call) (performed setup before call (replies answer) after)
     (sym (cond-true (is_call call) _ None (can_be setup before call (replies answer) after e)) ∙ e)
 
 pub call_has : (setup : Setup) (before : World) (call : Call) (answer : CallAnswer) (after : World) → WorldStep setup before (called call) (replies answer) after → HasLine (Called answer call)

@@ -117,7 +117,7 @@ module _ (m after : MachineState) (whole : Whole m) where
       bytes = little_bytes (byte_len (store_width size)) word
 
       of_frames : (o : Option (List (List (Option ℕ)))) → frames_with 0 m.frames address bytes ≡ o
-          → option_map (λ (next : MachineState). record next { place = m.place + 1 }) (option_map (λ (frames : List (List (Option ℕ))). record m { frames = frames }) o) ≡ Some after → Whole after
+          → option_map (λ (next : MachineState). record next { pc = m.pc + 1 }) (option_map (λ (frames : List (List (Option ℕ))). record m { frames = frames }) o) ≡ Some after → Whole after
       of_frames None is made = absurd (let bad : None ≡ Some after = made in cc)
       of_frames (Some frames) is made = made_whole _ after (with_whole 0 m.frames address bytes frames whole is) made
 
@@ -167,7 +167,7 @@ changed_whole (changes.Writes bytes) arguments answer m whole = after_whole m.fr
 
 pub reached_whole : (program : List Slot) (n : ℕ) (m : MachineState) → Reached program n m → AreWhole m.frames
 reached_whole program zero m entry = subst Whole (sym entry.is) (unwritten_whole, tt)
-reached_whole program (suc n) m (before, reached, inl step) = step_whole before m (reached_whole program n before reached) (insn_at program before.place) step
+reached_whole program (suc n) m (before, reached, inl step) = step_whole before m (reached_whole program n before reached) (insn_at program before.pc) step
 reached_whole program (suc n) m (before, reached, inr (request, answer, asks, allowed)) =
     subst Whole (sym allowed.1) (changed_whole (row_of request.helper).machine request.arguments answer (after_call before answer.r0) (reached_whole program n before reached))
 

@@ -6,7 +6,7 @@ use Rattle.std.proofs.lemmas.Bool.{lt-ltb}
 use Rattle.world_calls.specs.declared.record.Record.{Record}
 use Rattle.trace_lines.specs.Answers.{named_number_text}
 use Rattle.trace_lines.specs.Texts.{long_number_text, number_text, where_true}
-use Rattle.trace.specs.HasText.{Fits}
+use Rattle.trace.specs.HasText.{NumbersFit}
 use Rattle.trace.specs.TraceText.{line_of}
 
 pub some_append : (a b : Option (List ℕ)) → IsSome a → IsSome b → IsSome (option_append a b)
@@ -37,7 +37,7 @@ some_line word a b c d p q r s = some_append (Some word) _ refl (some_append a _
 
 -- a record's line, where its numbers and bytes are such
 abbrev pub HasLine : Record → Type 0
-HasLine entry = Fits entry → IsSome (with_newline (line_of entry))
+HasLine entry = NumbersFit entry → IsSome (with_newline (line_of entry))
 
 -- what was asked and what was told, with the line feed
 pub some_entry : (asked told : Option (List ℕ)) → IsSome asked → IsSome told → IsSome (with_newline (option_append asked (option_append (Some (codes " = ")) told)))

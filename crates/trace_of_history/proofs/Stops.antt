@@ -10,8 +10,8 @@ use Rattle.bpf_insn.specs.declared.insn.Insn.TheVariants.{Alu, InPlace, SignExte
 use Rattle.bpf_insn.specs.declared.insn.Callee.TheVariants as callees
 use Rattle.bpf_insn.specs.declared.program.Slot.{Slot}
 use Rattle.bpf_insn.specs.Program.{insn_at}
-use Rattle.helpers.specs.declared.columns.Asked.{Asked}
-use Rattle.helpers.specs.declared.columns.Asked.TheVariants.{Within}
+use Rattle.helpers.specs.declared.columns.ArgKind.{ArgKind}
+use Rattle.helpers.specs.declared.columns.ArgKind.TheVariants.{Within}
 use Rattle.helpers.specs.declared.columns.Tells.{Tells}
 use Rattle.helpers.specs.declared.columns.Tells.TheVariants as tells
 use Rattle.helpers.specs.declared.limits.HelperLimits.{HelperLimits}
@@ -93,7 +93,7 @@ few_code limits m request is rule =
     let asked : (asks request.helper).first ≡ Some (Within 0 63) = subst (λ (t : Tells). TellsOf t (row_of request.helper)) is (told request.helper) in
     let parts = and_parts (meets_need m (row_of request.helper).needs) _ rule in
     let first = and_parts (meets limits m request.arguments (asks request.helper).first request.arguments.first) _ parts.1 in
-    (and_parts (nat_le 0 request.arguments.first) (nat_le request.arguments.first 63) (subst (λ (o : Option Asked). meets limits m request.arguments o request.arguments.first ≡ true) asked first.0)).1
+    (and_parts (nat_le 0 request.arguments.first) (nat_le request.arguments.first 63) (subst (λ (o : Option ArgKind). meets limits m request.arguments o request.arguments.first ≡ true) asked first.0)).1
 
 module _ (limits : HelperLimits) (m : MachineState) (request : Request) (whole : AreWhole m.frames) (names : Names m request) (rule : meets_rule limits m request ≡ true) where
   plain_some : (helper : Helper) (t : Tells) → (row_of request.helper).tells ≡ t → plain helper ≡ told_by t request → IsSome (stop_text (spelled (stopped.Helper helper)))
@@ -128,12 +128,12 @@ module _ (limits : HelperLimits) (m : MachineState) (request : Request) (whole :
 pub called_some : (limits : HelperLimits) (program : List Slot) (m : MachineState) (request : Request) → AreWhole m.frames → request_at program m ≡ Some request → meets_rule limits m request ≡ true
     → (stop : StoppedAt) → stop_of stop ≡ call (told_of request) → StopFits stop → IsSome (stop_text (spelled stop))
 called_some limits program m request whole asks_it rule (stopped.Helper helper) e fits =
-    let names = by_place m request (insn_at program m.place) asks_it in
+    let names = by_place m request (insn_at program m.pc) asks_it in
     plain_some limits m request whole names rule helper (row_of request.helper).tells refl (let same : plain helper ≡ told_of request = cc in same)
 called_some limits program m request whole asks_it rule (stopped.Trace helper bytes) e fits =
-    let names = by_place m request (insn_at program m.place) asks_it in
+    let names = by_place m request (insn_at program m.pc) asks_it in
     traced_some limits m request whole names rule helper bytes (row_of request.helper).tells refl (let same : traces helper bytes ≡ told_of request = cc in same) fits
 called_some limits program m request whole asks_it rule (stopped.Finish helper code) e fits =
-    let names = by_place m request (insn_at program m.place) asks_it in
+    let names = by_place m request (insn_at program m.pc) asks_it in
     finished_some limits m request whole names rule helper code (row_of request.helper).tells refl (let same : finishes helper code ≡ told_of request = cc in same)
 called_some limits program m request whole asks_it rule stopped.Exit e fits = refl

@@ -1,5 +1,6 @@
 -- A record of a history is one that a text of the configuration's version may have.
-use Rattle.std.proofs.Common.{◌≡◌, ℕ, zero, suc, not, Bool, true, false, cond, Some, List, [], ◌∷◌, take, drop, replicate, refl, ap, sym, subst, ◌∙◌, arith, nat_lt, codes}
+use Rattle.std.proofs.Common.{◌≡◌, ◌&&◌, ℕ, zero, suc, not, Bool, true, false, cond, List, [], ◌∷◌, take, drop, replicate, refl, ap, sym, subst, ◌∙◌, arith, nat_lt, rules}
+use Rattle.std.specs.Prelude.{IsSome}
 use Rattle.std.specs.List.{AllByRecursion}
 use Rattle.std.proofs.lemmas.Bool.{cond-true, cond-false, le-leb}
 use Rattle.std.proofs.lemmas.Bool.Decides.{nat_tests}
@@ -24,18 +25,21 @@ use Rattle.world_calls.specs.declared.call.Call.{Call}
 use Rattle.world_calls.specs.declared.call.Call.TheVariants as calls
 use Rattle.world_calls.specs.declared.call_answer.CallAnswer.{CallAnswer}
 use Rattle.world_calls.specs.declared.call_answer.CallAnswer.TheVariants as answers
-use Rattle.world_calls.specs.declared.call_refusal.CallRefusal.{CallRefusal}
-use Rattle.world_calls.specs.declared.call_refusal.CallRefusal.TheVariants as refusals
+use Rattle.ccb.specs.CallRefusalText.{call_refusal_text, row_of as refusal_row}
+use Rattle.ccb.specs.declared.call_refusal.CallRefusal.{CallRefusal}
+use Rattle.ccb.specs.declared.call_refusal.CallRefusal.TheVariants as refusals
 use Rattle.world_calls.specs.declared.record.Record.{Record}
 use Rattle.world_calls.specs.declared.record.Record.TheVariants.{Called, Advance}
 use Rattle.world_calls.specs.declared.record.StoppedAt.{StoppedAt}
 use Rattle.world_calls.specs.declared.record.StoppedAt.TheVariants as stopped
 use Rattle.world_calls.specs.declared.trace.Version.{Version}
 use Rattle.world_calls.specs.declared.trace.Version.TheVariants.{One, Two}
-use Rattle.trace_lines.specs.Rows.{is_among, row_of}
-use Rattle.trace_lines.specs.declared.table.Row.{Row}
+use Rattle.trace_lines.specs.Calls.{word_of}
+use Rattle.trace_lines.specs.Rows.{may_be, row_of}
+use Rattle.trace_lines.specs.Texts.{where_true}
+use Rattle.trace_lines.specs.declared.word.Word.{Word}
 use Rattle.trace_lines.specs.declared.word.Word.TheVariants as words
-use Rattle.trace.specs.Versions.{is_answer_of_one, is_held, is_of, is_stop_of_one, is_unknown as is_answered_unknown}
+use Rattle.trace.specs.Versions.{is_answer_of_one, is_later, is_later_refusal, is_of, is_stop_of_one, is_unknown as is_answered_unknown}
 use Rattle.world.specs.World.{Setup, World, queue_setup, version_of}
 use Rattle.world.specs.Lawful.{AreUnder, IsLawful}
 use Rattle.world.specs.Limits.{NamesNoOther}
@@ -53,7 +57,6 @@ use Rattle.world_laws.proofs.Sound.{IsSound}
 use Rattle.world_laws.proofs.Steps.Rules.{rule_parts}
 use Rattle.world_laws.proofs.Steps.Running.{some_is, call_parts}
 use Rattle.trace_of_history.proofs.Calls.{HasReply, answered, by_found, told}
-use Rattle.trace_of_history.proofs.Somes.{some_named}
 
 -- ---- where queues alone freeze
 
@@ -97,35 +100,46 @@ module _ (setup : Setup) (lawful : IsLawful setup) (alone : setup.limits.helpers
       let places = sound.kept.freezes.places names_no_other in
       ap (nat_lt 0) (none_names controller world.transport.freezes (recursion_from_All (λ (freeze : Freeze). is_unknown setup freeze.place ≡ false) world.transport.freezes places))
 
--- ---- no call is refused since a controller is frozen
+-- ---- no call is refused for a reason that the first version does not have
 
--- a line that is never so refused has no such answer
-not_held : (row : Row) → is_among row.refusals refusals.ControllerFrozen ≡ false → (answer : CallAnswer) → HasReply row (replies answer) → is_held answer ≡ false
-not_held row never (answers.Refused refusals.Unknown) has = refl
-not_held row never (answers.Refused refusals.Limit) has = refl
-not_held row never (answers.Refused refusals.NotActive) has = refl
-not_held row never (answers.Refused refusals.GoesBack) has = refl
-not_held row never (answers.Refused refusals.Frozen) has = refl
-not_held row never (answers.Refused refusals.NoOpening) has = refl
-not_held row never (answers.Refused refusals.NothingWaits) has = refl
-not_held row never (answers.Refused refusals.ControllerFrozen) has = absurd (let bad : false ≡ true = rw never at has tt in cc)
-not_held row never (answers.Ccb ccb) has = refl
-not_held row never answers.Done has = refl
-not_held row never (answers.Started run freeze) has = refl
-not_held row never (answers.Freeze freeze) has = refl
-not_held row never (answers.Left count) has = refl
-not_held row never (answers.Removed count) has = refl
-not_held row never answers.Ok has = refl
+-- the reply is an answer, and no such refusal
+abbrev IsOfFirst : Reply → Type 0
+IsOfFirst (replies answer) = is_later_refusal answer ≡ false
+IsOfFirst went_on = ⊥
+IsOfFirst (result r0) = ⊥
+
+where_some : (test : Bool) (text : List ℕ) → IsSome (where_true test text) → test ≡ true
+where_some true text some = refl
+where_some false text some = absurd (let bad : false ≡ true = some in cc)
+
+never : (may later : Bool) → (may && later) ≡ false → may ≡ true → later ≡ false
+never true later e may = e
+never false later e may = absurd (let bad : false ≡ true = may in cc)
+
+-- the word is not that of a queue's start
+abbrev is_other : Word → Bool
+is_other words.Dispatch = false
+is_other word = true
+
+-- only a queue's start may be refused for such a reason
+starts_alone : (word : Word) (refusal : CallRefusal) → (is_other word && may_be (row_of word) refusal && is_later refusal) ≡ false
+unfolding row_of refusal_row
+starts_alone word refusal = search rules
+
+first_alone : (word : Word) → is_other word ≡ true → (answer : CallAnswer) → HasReply (row_of word) (replies answer) → IsOfFirst (replies answer)
+first_alone word other (answers.Refused refusal) has =
+    never (may_be (row_of word) refusal) (is_later refusal) (sym (ap (λ (b : Bool). b && may_be (row_of word) refusal && is_later refusal) other) ∙ starts_alone word refusal) (where_some (may_be (row_of word) refusal) (call_refusal_text refusal) (has tt))
+first_alone word other (answers.Ccb ccb) has = refl
+first_alone word other answers.Done has = refl
+first_alone word other (answers.Started run freeze) has = refl
+first_alone word other (answers.Freeze freeze) has = refl
+first_alone word other (answers.Left count) has = refl
+first_alone word other (answers.Removed count) has = refl
+first_alone word other answers.Ok has = refl
 
 not_so : (test : Bool) → test ≡ false → not test ≡ true
 not_so true e = absurd (let bad : true ≡ false = e in cc)
 not_so false e = refl
-
--- the row of a queue's start, without that refusal
-without_held : Row
-without_held = record (row_of words.Dispatch) {
-  refusals = Some refusals.Unknown ∷ Some refusals.Frozen ∷ Some refusals.NoOpening ∷ Some refusals.NothingWaits ∷ [];
-}
 
 -- a reply that what is named is not there
 abbrev TellsUnknown : Reply → Type 0
@@ -134,14 +148,14 @@ TellsUnknown went_on = ⊥
 TellsUnknown (result r0) = ⊥
 
 module _ (setup : Setup) (lawful : IsLawful setup) (alone : setup.limits.helpers ≡ Queues) (before : World) (sound : IsSound setup before) where
-  -- where none is frozen, a start is refused as by the tests before that
-  dispatched : (queue : QueueId) (reply : Reply) (after : World) → WorldStep setup before (called (calls.Dispatch queue)) reply after → HasReply without_held reply
-  unfolding without_held row_of
+  -- where no controller is frozen, a start is refused as by the tests before that
+  dispatched : (queue : QueueId) (reply : Reply) (after : World) → WorldStep setup before (called (calls.Dispatch queue)) reply after → IsOfFirst reply
+  unfolding refusal_row
   dispatched queue reply after e =
       let controller = (queue_setup setup queue.0).controller in
       let tests : List (Bool × CallRefusal) = refusals_of setup before (calls.Dispatch queue) in
-      told without_held (take 4 tests) before (unless_refused (drop 4 tests) before (performs setup before (calls.Dispatch queue))) reply after (refl, (refl, (refl, (refl, tt))))
-      (λ last. by_found without_held (starts before) (next_waiting queue.0 before.transport.live) reply after (λ live fits. some_named (codes "ccb ") _ fits) (sym (cond-false _ _ _ (none_frozen setup lawful alone before sound controller)) ∙ last))
+      told IsOfFirst (take 4 tests) before (unless_refused (drop 4 tests) before (performs setup before (calls.Dispatch queue))) reply after (refl, (refl, (refl, (refl, tt))))
+      (λ last. by_found IsOfFirst (starts before) (next_waiting queue.0 before.transport.live) reply after (λ live. refl) (sym (cond-false _ _ _ (none_frozen setup lawful alone before sound controller)) ∙ last))
       e
 
   -- a controller's freeze is refused, since there is none
@@ -149,17 +163,19 @@ module _ (setup : Setup) (lawful : IsLawful setup) (alone : setup.limits.helpers
   frozen_none controller guest reply after e =
       subst TellsUnknown (sym (ap (λ (x : Reply × World). x.0) (some_is (refused refusals.Unknown, before) (reply, after) (sym (cond-true _ _ _ (every_is_unknown setup lawful alone controller)) ∙ e)))) refl
 
+  by_line : (asked : Call) (answer : CallAnswer) (after : World) → is_other (word_of asked) ≡ true → WorldStep setup before (called asked) (replies answer) after → not (is_later_refusal answer) ≡ true
+  by_line asked answer after other e = not_so (is_later_refusal answer) (first_alone (word_of asked) other answer (answered setup before asked answer after e))
+
   answer_of_one : (asked : Call) (answer : CallAnswer) (after : World) → WorldStep setup before (called asked) (replies answer) after → is_answer_of_one asked answer ≡ true
-  unfolding without_held row_of
-  answer_of_one (calls.Submit queue priority retries) answer after e = not_so (is_held answer) (not_held (row_of words.Submit) refl answer (answered setup before (calls.Submit queue priority retries) answer after e))
-  answer_of_one (calls.Dispatch queue) answer after e = not_so (is_held answer) (not_held without_held refl answer (dispatched queue (replies answer) after e))
-  answer_of_one (calls.Complete outcome) answer after e = not_so (is_held answer) (not_held (row_of words.Complete) refl answer (answered setup before (calls.Complete outcome) answer after e))
-  answer_of_one (calls.GuestFreeze (Device queue) guest) answer after e = not_so (is_held answer) (not_held (row_of words.FreezeQueue) refl answer (answered setup before (calls.GuestFreeze (Device queue) guest) answer after e))
+  answer_of_one (calls.Submit queue priority retries) answer after e = by_line (calls.Submit queue priority retries) answer after refl e
+  answer_of_one (calls.Dispatch queue) answer after e = not_so (is_later_refusal answer) (dispatched queue (replies answer) after e)
+  answer_of_one (calls.Complete outcome) answer after e = by_line (calls.Complete outcome) answer after refl e
+  answer_of_one (calls.GuestFreeze (Device queue) guest) answer after e = by_line (calls.GuestFreeze (Device queue) guest) answer after refl e
   answer_of_one (calls.GuestFreeze (Controller controller) guest) answer after e = frozen_none controller guest (replies answer) after e
-  answer_of_one (calls.GuestRelease freeze) answer after e = not_so (is_held answer) (not_held (row_of words.ReleaseFreeze) refl answer (answered setup before (calls.GuestRelease freeze) answer after e))
-  answer_of_one (calls.Clock reading) answer after e = not_so (is_held answer) (not_held (row_of words.Clock) refl answer (answered setup before (calls.Clock reading) answer after e))
-  answer_of_one (calls.Park run) answer after e = not_so (is_held answer) (not_held (row_of words.Park) refl answer (answered setup before (calls.Park run) answer after e))
-  answer_of_one (calls.Resume run) answer after e = not_so (is_held answer) (not_held (row_of words.Resume) refl answer (answered setup before (calls.Resume run) answer after e))
+  answer_of_one (calls.GuestRelease freeze) answer after e = by_line (calls.GuestRelease freeze) answer after refl e
+  answer_of_one (calls.Clock reading) answer after e = by_line (calls.Clock reading) answer after refl e
+  answer_of_one (calls.Park run) answer after e = by_line (calls.Park run) answer after refl e
+  answer_of_one (calls.Resume run) answer after e = by_line (calls.Resume run) answer after refl e
 
 -- ---- a run calls helpers that there are
 

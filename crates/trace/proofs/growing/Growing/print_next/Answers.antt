@@ -21,11 +21,6 @@ returns-in_err-make_room-clause-stops g c =
     let p = err_from_is_err_and c.from_residual.result c.from_residual.ensures.1 in
     rw p.1 (stops_at [] _ _ _ c.in_err-make_room.ensures.text)
 
-pub returns-in_err-make_room-clause-still : goal.returns-in_err-make_room-clause-still
-returns-in_err-make_room-clause-still g c =
-    let p = err_from_is_err_and c.from_residual.result c.from_residual.ensures.1 in
-    rw p.1 c.make_room.ensures.printed
-
 pub returns-in_err-make_room-clause-left : goal.returns-in_err-make_room-clause-left
 returns-in_err-make_room-clause-left g c =
     let p = err_from_is_err_and c.from_residual.result c.from_residual.ensures.1 in

@@ -1,6 +1,6 @@
 use Rattle.std.proofs.Common.{◌≡◌, ◌≤◌, drop, length, take}
 use Rattle.host_embedding.specs.Lines.{AddsLines, IsWithin}
-use Rattle.host_embedding.proofs.trace_lines.put_records.Given as goal
+use Rattle.host_embedding.proofs.text_lines.put_records.Given as goal
 
 abbrev pub invariant-loop-number : goal.invariant-loop-number
 invariant-loop-number l = record {

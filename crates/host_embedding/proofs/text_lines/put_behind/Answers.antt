@@ -1,6 +1,6 @@
 use Rattle.std.proofs.Common.{arith, length, ap, ◌+◌, ◌-◌}
 use Rattle.std.proofs.lemmas.Slice.{drop-put_mid}
-use Rattle.host_embedding.proofs.trace_lines.put_behind.Goals as goal
+use Rattle.host_embedding.proofs.text_lines.put_behind.Goals as goal
 
 pub returns-clause-behind : goal.returns-clause-behind
 returns-clause-behind c =

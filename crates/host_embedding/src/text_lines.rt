@@ -9,10 +9,10 @@ ghost use Rattle.host_embedding.specs.Lines.{AddsLines, FindsNoRoom, HasNoLine, 
 
 use crate::call_result::CallResult;
 use crate::engine_handle::EngineHandle;
-use trace_lines::{NoText, Text};
-use world_calls::Record;
 use base_chunked_list::ChunkedList;
 use trace::{header, print_entry, print_totals};
+use trace_lines::{NoText, Text};
+use world_calls::Record;
 
 /// What of a trace was put into a place.
 #[derive(Clone, Copy, Debug, PartialEq, Eq)]

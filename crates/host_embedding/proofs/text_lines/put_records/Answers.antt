@@ -1,6 +1,6 @@
 use Rattle.std.proofs.Common.{rules, arith}
 use Rattle.host_embedding.proofs.Lines.{adds_none, adds_one, same_behind}
-use Rattle.host_embedding.proofs.trace_lines.put_records.Goals as goal
+use Rattle.host_embedding.proofs.text_lines.put_records.Goals as goal
 
 pub loop-number-init : goal.loop-number-init
 loop-number-init c = record {

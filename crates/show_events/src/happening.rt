@@ -1,0 +1,111 @@
+// What may happen along a trace: each event's name, with the words that tell it. It relies on `helpers` for what a helper does.
+
+use helpers::HelperEffect;
+
+/// What happened. Times are milliseconds of the trace's clock.
+#[derive(Clone, Copy)]
+pub enum Happening {
+    /// The CCB waits: its priority, and its retries.
+    Submitted,
+    NotSubmitted,
+    /// The CCB is active: for the so manieth time, and how long it waited.
+    Started,
+    NotStarted,
+    /// No CCB is started, since its queue or its controller is frozen.
+    NotStartedFrozen,
+    /// The CCB is finished without an error: how long it was active.
+    Completed,
+    /// The CCB failed: how long it was active. The run begins, with the freeze.
+    Failed,
+    /// The CCB failed, and the run begins without a freeze.
+    FailedAtLimit,
+    NotCompleted,
+    /// A guest took the freeze.
+    FrozenByGuest,
+    NotFrozenByGuest,
+    /// A guest gave the freeze back: how long it was there.
+    GivenBackByGuest,
+    /// The clock was read, and no timer came.
+    ClockRead,
+    NotRead,
+    /// The timer of the freeze came: how long the freeze was there.
+    TimerCame,
+    Parked,
+    Resumed,
+    NotResumed,
+    /// The run took the freeze.
+    FrozenByRun,
+    /// The run asked for a freeze, and got none.
+    NotFrozenByRun,
+    /// The run gave the freeze back: how long it was there.
+    GivenBackByRun,
+    /// The run left the freeze to a timer: the reading at which it is due.
+    LeftToTimer,
+    /// The run made the CCB wait again: how many retries it had before, and has now.
+    Requeued,
+    /// The run finished the CCB with the code.
+    Finished,
+    /// The run put the bytes into the trace.
+    Traced,
+    /// The run called a helper that does no more than read or write numbers: R1, R2 and R3 at the call, R0 after it, and R0 less R3.
+    /// Of a queue that is read: how many of its CCBs are active, how many wait, and its openings.
+    Helped(HelperEffect),
+    /// The run ended: how many instructions it had in all, and R0.
+    Ended,
+}
+
+// In the words of a happening stand, each after a `%`:
+//
+// - `c`, `r`, `f`: the CCB, the run and the freeze that it is about, with the word for it;
+// - `1` to `5`: numbers; `t`: so many times; `z`: that the place is frozen so many times still, or thawed;
+// - `s`: a status by its name; `v`: what became of the CCB; `k`: a final code by its name; `x`: why not;
+// - `g`: a guest; `n`: the name of the queue's program; `w`: why the freeze was there; `b`: bytes, as digits and as text.
+impl Happening {
+    /// The words that tell it, with a letter after a `%` for each value.
+    pub fn words(self) -> &'static str {
+        match self {
+            Happening::Submitted => "%c waits: priority %1, retries %2",
+            Happening::NotSubmitted => "no ccb is submitted: %x",
+            Happening::Started => "%c starts: attempt %1, it waited %2 ms",
+            Happening::NotStarted => "no ccb starts: %x",
+            Happening::NotStartedFrozen => "no ccb starts: %x, %t",
+            Happening::Completed => "%c is finished: request completed (01) after %1 ms",
+            Happening::Failed => "%c %v after %1 ms: frozen %t by %f, and %r of %n begins",
+            Happening::FailedAtLimit =>
+                "%c %v after %1 ms: no freeze at a limit, and %r of %n begins",
+            Happening::NotCompleted => "no completion of %c (%s): %x",
+            Happening::FrozenByGuest => "frozen %t: guest %g took %f",
+            Happening::NotFrozenByGuest => "no freeze for guest %g: %x",
+            Happening::GivenBackByGuest => "%z: guest %g gave %f back after %1 ms",
+            Happening::ClockRead => "no timer came",
+            Happening::NotRead => "not read: %x",
+            Happening::TimerCame => "%z: the timer of %f came (%1 ms after %w)",
+            Happening::Parked => "%r is parked",
+            Happening::Resumed => "%r goes on",
+            Happening::NotResumed => "%r does not go on: %x",
+            Happening::FrozenByRun => "frozen %t: %r took %f",
+            Happening::NotFrozenByRun => "no freeze for %r: a limit is reached",
+            Happening::GivenBackByRun => "%z: %r gave %f back after %1 ms",
+            Happening::LeftToTimer => "%f of %r is left to a timer, which comes at %1 ms",
+            Happening::Requeued => "%c waits again: %r requeued it, retries %1, then %2",
+            Happening::Finished => "%c is finished: %r finished it, %k",
+            Happening::Traced => "%r traced %b",
+            Happening::Helped(effect) => words_of_effect(effect),
+            Happening::Ended => "%r ended: %1 instructions, R0 is %2",
+        }
+    }
+}
+
+// The words for a helper that does no more than read or write numbers.
+fn words_of_effect(effect: HelperEffect) -> &'static str {
+    match effect {
+        HelperEffect::GetWord => "%r read word %2 of table %1: %4",
+        HelperEffect::PutWord => "%r put word %2 of table %1: %4, then %3",
+        HelperEffect::AddWord => "%r added to word %2 of table %1: %5, then %4",
+        HelperEffect::TellQueue =>
+            "%r read its queue: frozen %t, %1 active, %2 waiting, %3 openings",
+        HelperEffect::SetOpenings => "%r set the openings: %4, then %1",
+        HelperEffect::TellController => "%r read how often it is frozen: %t",
+        _ => "%r read the clock",
+    }
+}

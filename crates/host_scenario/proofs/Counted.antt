@@ -9,9 +9,9 @@ use Rattle.world_calls.specs.declared.record.Record.{Record}
 use Rattle.world_calls.specs.declared.record.Record.TheVariants.{Called, Advance}
 use Rattle.monitor.specs.declared.knowledge.Pair.{Pair}
 use Rattle.monitor.specs.LegalHistory.{made_by, records}
-use Rattle.scenario.specs.declared.steps.Command.{Command}
-use Rattle.scenario.specs.declared.steps.Command.TheVariants.{Submit, Dispatch, Complete, Drain, GuestFreeze, GuestRelease, Clock}
-use Rattle.scenario.specs.declared.steps.Step.{Step}
+use Rattle.scenario.specs.declared.command.Command.{Command}
+use Rattle.scenario.specs.declared.command.Command.TheVariants as commands
+use Rattle.scenario.specs.Commands.{Step}
 use Rattle.workers.specs.Recorded.{completion_in, completions_of}
 use Rattle.host_scenario.specs.Asked.{AreOf, by_host, call_in, call_of, calls_of, is_by_host, is_hosts, with_call}
 
@@ -29,14 +29,13 @@ head_is x y xs ys e = cc
 tail_is : {X : Type 0} (x y : X) (xs ys : List X) → x ∷ xs ≡ y ∷ ys → xs ≡ ys
 tail_is x y xs ys e = cc
 
+hosts_by : (it call : Call) (own : Bool) → is_hosts it ≡ own → (if own then Some it else None) ≡ Some call → is_hosts call ≡ true
+hosts_by it call true own is = ap is_hosts (sym (some_is it call is)) ∙ own
+hosts_by it call false own is = absurd cc
+
 hosts : (command : Command) (call : Call) → call_of command ≡ Some call → is_hosts call ≡ true
-hosts (Submit queue priority retries) call is = subst (λ (it : Call). is_hosts it ≡ true) (some_is _ call is) refl
-hosts (Dispatch queue) call is = subst (λ (it : Call). is_hosts it ≡ true) (some_is _ call is) refl
-hosts (Complete completion) call is = absurd cc
-hosts Drain call is = absurd cc
-hosts (GuestFreeze place guest) call is = subst (λ (it : Call). is_hosts it ≡ true) (some_is _ call is) refl
-hosts (GuestRelease freeze) call is = subst (λ (it : Call). is_hosts it ≡ true) (some_is _ call is) refl
-hosts (Clock reading) call is = subst (λ (it : Call). is_hosts it ≡ true) (some_is _ call is) refl
+hosts (commands.Call it) call is = hosts_by it call (is_hosts it) refl is
+hosts commands.Drain call is = absurd cc
 
 of_record : (made : Record) (call : Call) → is_hosts call ≡ true → call_in made ≡ Some call → IsHosts made
 of_record (Called answer its) call host is = subst (λ (it : Call). is_hosts it ≡ true) (sym (some_is its call is)) host

@@ -2,7 +2,7 @@
 use Rattle.std.proofs.Common.{◌≡◌, ℕ, zero, suc, ◌+◌, ◌<◌, ◌≤◌, Bool, true, false, not, ◌&&◌, if◌then◌else◌, List, [], ◌∷◌, drop, get_or, length, refl, ap, sym, ◌∙◌, arith}
 use Rattle.std.proofs.lemmas.List.{drop-drop, drop_more, drop_all}
 use Rattle.world_calls.specs.declared.record.Record.{Record}
-use Rattle.scenario.specs.declared.steps.Step.{Step}
+use Rattle.scenario.specs.Commands.{Step}
 use Rattle.host_scenario.specs.Asked.{is_by_host}
 use Rattle.host_scenario.specs.Turns.{Turn, after_first, are_in_turn, are_settled, at_host, doing, from_host, is_no_record, leading, may_do, may_end, turn_after}
 use Rattle.host_scenario.specs.declared.turns.Doing.TheVariants.{Calls, Drains}

@@ -1,3 +1,4 @@
+mod Carried
 mod Counted
 mod Followed
 mod Holding
@@ -6,4 +7,6 @@ mod Passes
 mod Ranges
 mod Steps
 mod Taken
+mod Turned
+mod Walked
 mod Whole

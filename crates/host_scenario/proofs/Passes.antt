@@ -6,14 +6,14 @@ use Rattle.std.proofs.lemmas.List.Elements.{All-nil, All-cons, All-head, All-tai
 use Rattle.ccb.specs.Completion.{Outcome}
 use Rattle.world_calls.specs.declared.record.Record.{Record}
 use Rattle.inbox.specs.declared.account.Account.{Account}
-use Rattle.inbox.specs.InboxLists.{Puts}
+use Rattle.inbox.specs.InboxLists.{IsPut}
 use Rattle.inbox.specs.Seats.{new_account}
 use Rattle.inbox.specs.Views.{InboxView, PassView, new_passes}
 use Rattle.world.specs.World.{Setup}
 use Rattle.engine_lock.specs.Sharing.{IsNewCaller}
-use Rattle.workers.specs.Recorded.{AreRecorded, IsRecorded, completions_of}
+use Rattle.workers.specs.Recorded.{AreRecorded, IsSeatRecorded, completions_of}
 use Rattle.workers.specs.Serving.{SeatState}
-use Rattle.host_scenario.specs.Served.{HasRecorded, IsKept, from}
+use Rattle.host_scenario.specs.Served.{HasRecorded, InboxIsKept, from}
 
 -- ---- as they are made
 
@@ -85,7 +85,7 @@ rising_many inbox n (suc count) = omega (arith, rising_many inbox (n + 1) count)
 pub kept_new : (setup : Setup) (begun : List Record) (inbox : InboxView) (workers : ℕ) (puts takes rest : List PassView) (put take : PassView) (seats : List SeatState)
     → inbox.shape.puts ≡ 1 → inbox.shape.takes ≡ workers + 1 → puts ≡ new_passes inbox 0 1 → takes ≡ new_passes inbox 1 (workers + 1)
     → put ≡ slice_index_or puts 0 put → take ≡ slice_index_or takes 0 take → rest ≡ drop 1 takes → map (λ (seat : SeatState). seat.pass) seats ≡ rest
-    → All (λ (seat : SeatState). IsNewCaller setup begun seat.caller) seats → IsKept inbox put take seats
+    → All (λ (seat : SeatState). IsNewCaller setup begun seat.caller) seats → InboxIsKept inbox put take seats
 kept_new setup begun inbox workers puts takes rest put take seats one all puts_are takes_are put_is take_is rest_is seats_are callers =
     let more : workers + 1 ≡ suc workers = omega arith in
     let takes_so : takes ≡ new_passes inbox 1 (suc workers) = takes_are ∙ ap (new_passes inbox 1) more in
@@ -120,9 +120,9 @@ still_recorded (seat ∷ seats) (now ∷ rest) are all =
     (are.0.recorded ∙ (ap (λ (xs : List Outcome). xs ++ are.0.taken) (All-head HasRecorded seat seats all) ∙ sym are.0.pass.taken))
     (still_recorded seats rest are.1 (All-tail HasRecorded seat seats all))
 
-pub kept_served : (inbox : InboxView) (put take now : PassView) (before after : List SeatState) → AreRecorded before after → now ≡ take → IsKept inbox put take before → IsKept inbox put now after
+pub kept_served : (inbox : InboxView) (put take now : PassView) (before after : List SeatState) → AreRecorded before after → now ≡ take → InboxIsKept inbox put take before → InboxIsKept inbox put now after
 kept_served inbox put take now before after are same kept =
-    let many : length before ≡ length after = length_all_zip IsRecorded before after are in record {
+    let many : length before ≡ length after = length_all_zip IsSeatRecorded before after are in record {
       one_put = kept.one_put;
       all_takes = omega (arith, kept.all_takes, many);
       put_is = kept.put_is;
@@ -132,7 +132,7 @@ kept_served inbox put take now before after are same kept =
       recorded = still_recorded before after are kept.recorded;
     }
 
-pub kept_put : (inbox : InboxView) (put now take : PassView) (seats : List SeatState) (completion : Outcome) → Puts put.account now.account completion → IsKept inbox put take seats → IsKept inbox now take seats
+pub kept_put : (inbox : InboxView) (put now take : PassView) (seats : List SeatState) (completion : Outcome) → IsPut put.account now.account completion → InboxIsKept inbox put take seats → InboxIsKept inbox now take seats
 kept_put inbox put now take seats completion puts kept = record {
   one_put = kept.one_put;
   all_takes = kept.all_takes;
@@ -143,13 +143,13 @@ kept_put inbox put now take seats completion puts kept = record {
   recorded = kept.recorded;
 }
 
-pub put_more : (put now : PassView) (completion : Outcome) → Puts put.account now.account completion → now.account.put ≡ put.account.put ++ completion ∷ []
+pub put_more : (put now : PassView) (completion : Outcome) → IsPut put.account now.account completion → now.account.put ≡ put.account.put ++ completion ∷ []
 put_more put now completion puts = ap (λ (a : Account). a.put) puts.after_is
 
 -- the same passes and seats
-pub same_kept : (inbox inbox_now : InboxView) (put put_now take take_now : PassView) (seats seats_now : List SeatState) → inbox_now ≡ inbox → put_now ≡ put → take_now ≡ take → seats_now ≡ seats → IsKept inbox put take seats → IsKept inbox_now put_now take_now seats_now
+pub same_kept : (inbox inbox_now : InboxView) (put put_now take take_now : PassView) (seats seats_now : List SeatState) → inbox_now ≡ inbox → put_now ≡ put → take_now ≡ take → seats_now ≡ seats → InboxIsKept inbox put take seats → InboxIsKept inbox_now put_now take_now seats_now
 same_kept inbox inbox_now put put_now take take_now seats seats_now one two three four kept =
-    subst (λ (x : InboxView). IsKept x put_now take_now seats_now) (sym one)
-    (subst (λ (x : PassView). IsKept inbox x take_now seats_now) (sym two)
-    (subst (λ (x : PassView). IsKept inbox put x seats_now) (sym three)
-    (subst (λ (x : List SeatState). IsKept inbox put take x) (sym four) kept)))
+    subst (λ (x : InboxView). InboxIsKept x put_now take_now seats_now) (sym one)
+    (subst (λ (x : PassView). InboxIsKept inbox x take_now seats_now) (sym two)
+    (subst (λ (x : PassView). InboxIsKept inbox put x seats_now) (sym three)
+    (subst (λ (x : List SeatState). InboxIsKept inbox put take x) (sym four) kept)))

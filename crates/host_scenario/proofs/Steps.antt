@@ -1,15 +1,15 @@
 -- The steps that the host has carried out, one by one.
-use Rattle.std.proofs.Common.{◌≡◌, ◌≢◌, ℕ, ◌+◌, ◌<◌, true, false, List, [], ◌∷◌, ◌++◌, take, drop, length, Option, Some, None, refl, ap, sym, subst, ◌∙◌, append-nil, append_assoc, map}
+use Rattle.std.proofs.Common.{◌≡◌, ◌≢◌, ℕ, ◌+◌, ◌<◌, true, false, List, [], ◌∷◌, ◌++◌, take, drop, length, Option, Some, None, refl, ap, sym, subst, ◌∙◌, append-nil, append_assoc, map, arith}
 use Rattle.std.specs.Prelude.{MatchOption, slice_index_or}
 use mathlib.Core.List.{map-append}
-use Rattle.std.proofs.lemmas.List.{take-append-drop, take_more}
+use Rattle.std.proofs.lemmas.List.{take-append-drop, take_all, take_more}
 use Rattle.freeze_ledger.specs.declared.freeze.Freeze.{Freeze}
 use Rattle.ccb.specs.Completion.{Outcome}
 use Rattle.world_calls.specs.declared.call.Call.{Call}
 use Rattle.world_calls.specs.declared.call_answer.CallAnswer.{CallAnswer}
 use Rattle.world_calls.specs.declared.record.Record.{Record}
 use Rattle.world_calls.specs.declared.record.Record.TheVariants.{Called}
-use Rattle.scenario.specs.declared.steps.Step.{Step}
+use Rattle.scenario.specs.Commands.{Step}
 use Rattle.host_scenario.specs.Asked.{AreOf, call_in, call_of, calls_of, is_held, with_call}
 use Rattle.host_scenario.specs.Served.{completes_of, completion_for}
 use Rattle.host_scenario.specs.Faults.{StopsAt, line_of}
@@ -89,6 +89,11 @@ stopped_at steps index step before after tokens put now fault count count_is don
       before_is = ap (λ (n : ℕ). take n steps) (sym count_is);
       put_is = stays (λ none. let bad : Some line ≡ None = sym named ∙ none in absurd cc) ∙ done.put_is;
     }
+
+-- all steps were carried out
+pub all_done : (steps : List Step) (count : ℕ) (made : List Record) (tokens : List Freeze) (put : List Outcome) → Done steps count made tokens put → count ≡ length steps → AreOf made (calls_of steps) × (put ≡ completes_of steps)
+all_done steps count made tokens put done all =
+    let whole : take count steps ≡ steps = take_all count steps (omega (arith, all)) in (subst (λ (some : List Step). AreOf made (calls_of some)) whole done.asked, done.put_is ∙ ap completes_of whole)
 
 -- a fault that names a line left what was made as it was
 some_line : (o : Option ℕ) → o ≢ None → (line : ℕ) × (o ≡ Some line)

@@ -19,7 +19,7 @@ use Rattle.engine_core.specs.EngineState.{EngineState}
 use Rattle.engine_lock.specs.Sharing.{Closes}
 use Rattle.workers.specs.Recorded.{completion_in, completions_of}
 use Rattle.workers.specs.Serving.{SeatState}
-use Rattle.host_scenario.specs.Served.{HasRecorded, HasTaken, IsKept, from, recorded_by}
+use Rattle.host_scenario.specs.Served.{HasRecorded, HasTaken, InboxIsKept, from, recorded_by}
 use Rattle.host_scenario.proofs.Ranges.{Within, by_range, pass_all, range_all, second_all}
 
 abbrev pub caller_of : SeatState → CallerState
@@ -85,7 +85,7 @@ module _ (lists : InboxLists) (history : List Pair) where
       other_numbers a b xs ys e = cc
 
 module _ (setup : Setup) (begun : List Record) (inbox : InboxView) (put take : PassView) (seats : List SeatState) (host : CallerState) (callers : List CallerState) (puts takes : List PassView) (left : List Outcome) (engine : EngineState) (told : List Record)
-    (kept : IsKept inbox put take seats) (callers_are : callers ≡ host ∷ map caller_of seats) (puts_are : puts ≡ put ∷ []) (takes_are : takes ≡ take ∷ map pass_of seats)
+    (kept : InboxIsKept inbox put take seats) (callers_are : callers ≡ host ∷ map caller_of seats) (puts_are : puts ≡ put ∷ []) (takes_are : takes ≡ take ∷ map pass_of seats)
     (settles : Settles inbox.shape (map account_of (puts ++ takes)) left) (closes : Closes setup begun callers engine) (all : told ≡ engine.history) where
   abbrev history : List Pair
   history = closes.history

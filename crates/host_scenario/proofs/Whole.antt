@@ -12,7 +12,7 @@ use Rattle.world.specs.TotalsOf.{TotalsOf}
 use Rattle.engine_core.specs.EngineState.{EngineState}
 use Rattle.monitor.specs.Telling.{Agrees, CallerState}
 use Rattle.engine_lock.specs.Sharing.{Closes, IsSince}
-use Rattle.scenario.specs.declared.steps.Step.{Step}
+use Rattle.scenario.specs.Commands.{Step}
 use Rattle.ccb.specs.Completion.{Outcome}
 use Rattle.workers.specs.Recorded.{completions_of}
 use Rattle.host_scenario.specs.Asked.{AreOf, by_host, calls_of, is_held}

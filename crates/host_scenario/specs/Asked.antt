@@ -6,19 +6,20 @@ use Rattle.world_calls.specs.declared.call.Call.TheVariants as its
 use Rattle.world_calls.specs.declared.call_answer.CallAnswer.TheVariants.{Freeze, Left}
 use Rattle.world_calls.specs.declared.record.Record.{Record}
 use Rattle.world_calls.specs.declared.record.Record.TheVariants.{Called, Advance}
-use Rattle.scenario.specs.declared.steps.Command.{Command}
-use Rattle.scenario.specs.declared.steps.Command.TheVariants.{Submit, Dispatch, Complete, Drain, GuestFreeze, GuestRelease, Clock}
-use Rattle.scenario.specs.declared.steps.Step.{Step}
+use Rattle.scenario.specs.Commands.{Step}
+use Rattle.scenario.specs.declared.command.Command.{Command}
+use Rattle.scenario.specs.declared.command.Command.TheVariants as commands
+
+-- whether the host makes such calls; workers make completions, parks and advances
+abbrev pub is_hosts : Call → Bool
+is_hosts (its.Complete completion) = false
+is_hosts (its.Park run) = false
+is_hosts call = true
 
 -- the call that the host asks for
 abbrev pub call_of : Command → Option Call
-call_of (Submit queue priority retries) = Some (its.Submit queue priority retries)
-call_of (Dispatch queue) = Some (its.Dispatch queue)
-call_of (Complete completion) = None
-call_of Drain = None
-call_of (GuestFreeze place guest) = Some (its.GuestFreeze place guest)
-call_of (GuestRelease freeze) = Some (its.GuestRelease freeze)
-call_of (Clock reading) = Some (its.Clock reading)
+call_of (commands.Call call) = if is_hosts call then Some call else None
+call_of commands.Drain = None
 
 abbrev pub with_call : Option Call → List Call → List Call
 with_call None calls = calls
@@ -37,12 +38,6 @@ call_in (Advance run instructions stop r0) = None
 -- the records are those of these calls, in their order, each with its answer
 abbrev pub AreOf : List Record → List Call → Type 0
 AreOf records calls = map call_in records ≡ map Some calls
-
--- whether the host makes such calls and records; workers make completions, parks and advances
-abbrev pub is_hosts : Call → Bool
-is_hosts (its.Complete completion) = false
-is_hosts (its.Park run) = false
-is_hosts call = true
 
 abbrev pub is_by_host : Record → Bool
 is_by_host (Called answer call) = is_hosts call

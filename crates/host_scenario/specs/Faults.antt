@@ -4,19 +4,20 @@ use Rattle.world_calls.specs.declared.record.Record.{Record}
 use Rattle.ccb.specs.Completion.{Outcome}
 use Rattle.world.specs.World.{Setup}
 use Rattle.monitor.specs.LegalHistory.{AreLegal}
-use Rattle.scenario.specs.declared.steps.Command.TheVariants.{GuestRelease}
-use Rattle.scenario.specs.declared.steps.Step.{Step}
+use Rattle.world_calls.specs.declared.call.Call.TheVariants.{GuestRelease}
+use Rattle.scenario.specs.Commands.{Step}
+use Rattle.scenario.specs.declared.command.Command.TheVariants.{Call}
 use Rattle.host_scenario.specs.Asked.{AreOf, by_host, calls_of, is_held}
 use Rattle.host_scenario.specs.Served.{AreServed, completes_of}
 use Rattle.host_scenario.specs.Turns.{AreInTurnSoFar}
 use Rattle.host_scenario.specs.declared.host.RunFault.{RunFault}
-use Rattle.host_scenario.specs.declared.host.RunFault.TheVariants.{OutOfMemory, NotHeld, Unsettled}
+use Rattle.host_scenario.specs.declared.host.RunFault.TheVariants.{OutOfMemory, NotHeld, InternalError}
 
 -- the line that it names
 abbrev pub line_of : RunFault → Option ℕ
 line_of OutOfMemory = None
 line_of (NotHeld line) = Some line
-line_of Unsettled = None
+line_of InternalError = None
 
 -- on this line stands a release of a freeze that is not held behind these records, which are those of the steps before it
 pub record IsUnheldAt (steps : List Step) (made : List Record) (line : ℕ) : Type 0 where
@@ -25,7 +26,7 @@ pub record IsUnheldAt (steps : List Step) (made : List Record) (line : ℕ) : Ty
   pub after : List Step
   pub steps_are : steps ≡ before ++ step ∷ after
   pub freeze : ℕ
-  pub release : step.command ≡ GuestRelease freeze
+  pub release : step.command ≡ Call (GuestRelease freeze)
   pub line_is : step.line ≡ line
   pub asked : AreOf made (calls_of before)
   pub unheld : is_held freeze made ≡ false

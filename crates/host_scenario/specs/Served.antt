@@ -6,15 +6,16 @@ use Rattle.ccb.specs.Completion.{Outcome}
 use Rattle.inbox.specs.Views.{InboxView, PassView}
 use Rattle.monitor.specs.declared.knowledge.Pair.{Pair}
 use Rattle.monitor.specs.LegalHistory.{made_by, records}
-use Rattle.scenario.specs.declared.steps.Command.{Command}
-use Rattle.scenario.specs.declared.steps.Command.TheVariants.{Complete}
-use Rattle.scenario.specs.declared.steps.Step.{Step}
+use Rattle.scenario.specs.Commands.{Step}
+use Rattle.scenario.specs.declared.command.Command.{Command}
+use Rattle.scenario.specs.declared.command.Command.TheVariants.{Call}
+use Rattle.world_calls.specs.declared.call.Call.TheVariants.{Complete}
 use Rattle.workers.specs.Recorded.{completions_of}
 use Rattle.workers.specs.Serving.{SeatState}
 
 -- the completion that the host puts into its inbox
 abbrev pub completion_for : Command → List Outcome
-completion_for (Complete completion) = completion ∷ []
+completion_for (Call (Complete completion)) = completion ∷ []
 completion_for command = []
 
 -- those of these steps, in their order
@@ -32,7 +33,7 @@ from n zero = []
 from n (suc count) = n ∷ from (n + 1) count
 
 -- The passes are all of the inbox, and what they took is recorded: pass 0 puts, pass 1 has taken nothing, and the seats have the others.
-pub record IsKept (inbox : InboxView) (put take : PassView) (seats : List SeatState) : Type 0 where
+pub record InboxIsKept (inbox : InboxView) (put take : PassView) (seats : List SeatState) : Type 0 where
   pub one_put : inbox.shape.puts ≡ 1
   pub all_takes : inbox.shape.takes ≡ length seats + 1
   pub put_is : put.account.number ≡ 0

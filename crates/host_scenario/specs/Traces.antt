@@ -12,7 +12,7 @@ use Rattle.world.specs.TotalsOf.{TotalsOf}
 use Rattle.monitor.specs.declared.knowledge.Pair.{Pair}
 use Rattle.monitor.specs.LegalHistory.{made_by, records}
 use Rattle.monitor.specs.Telling.{CallerState}
-use Rattle.scenario.specs.declared.steps.Step.{Step}
+use Rattle.scenario.specs.Commands.{Step}
 use Rattle.host_scenario.specs.Asked.{AreOf, by_host, calls_of}
 use Rattle.host_scenario.specs.Served.{AreServed, completes_of}
 use Rattle.host_scenario.specs.Turns.{AreInTurn}

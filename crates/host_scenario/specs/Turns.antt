@@ -5,11 +5,11 @@ use Rattle.world_calls.specs.declared.call_answer.CallAnswer.TheVariants.{Starte
 use Rattle.world_calls.specs.declared.record.Record.{Record}
 use Rattle.world_calls.specs.declared.record.Record.TheVariants.{Called, Advance}
 use Rattle.world_calls.specs.declared.record.StoppedAt.TheVariants.{Exit}
-use Rattle.scenario.specs.declared.steps.Command.{Command}
-use Rattle.scenario.specs.declared.steps.Command.TheVariants as commands
-use Rattle.scenario.specs.declared.steps.Step.{Step}
+use Rattle.scenario.specs.Commands.{Step}
+use Rattle.scenario.specs.declared.command.Command.{Command}
+use Rattle.scenario.specs.declared.command.Command.TheVariants as commands
 use Rattle.workers.specs.Recorded.{completion_in}
-use Rattle.host_scenario.specs.Asked.{is_by_host}
+use Rattle.host_scenario.specs.Asked.{is_by_host, is_hosts}
 use Rattle.host_scenario.specs.declared.turns.Doing.{Doing}
 use Rattle.host_scenario.specs.declared.turns.Doing.TheVariants.{Puts, Drains, Calls}
 use Rattle.host_scenario.specs.declared.turns.Reached.{Reached}
@@ -42,13 +42,8 @@ is_no_record (made ∷ rest) = false
 
 -- what the host does for a command
 abbrev pub doing : Command → Doing
-doing (commands.Submit queue priority retries) = Calls
-doing (commands.Dispatch queue) = Calls
-doing (commands.Complete completion) = Puts
+doing (commands.Call call) = if is_hosts call then Calls else Puts
 doing commands.Drain = Drains
-doing (commands.GuestFreeze place guest) = Calls
-doing (commands.GuestRelease freeze) = Calls
-doing (commands.Clock reading) = Calls
 
 -- The place that some steps reach in a history. The host has put so many completions, and so many of these before its last drain. So
 -- many completions are recorded before the records that are left, so many runs started, and so many ended.

@@ -5,7 +5,7 @@ ghost use Rattle.engine_lock.specs.Sharing.{Section};
 
 use engine_core::{Event, Reply};
 use engine_lock::{Caller, Object, Shared};
-use host_handles::Answers;
+use host_handles::Responder;
 use std::sync::Wait;
 
 /// The engine, by one of its callers.
@@ -16,7 +16,7 @@ pub(crate) struct Asked<'a, B: Object, R: Wait> {
     pub(crate) caller: &'a mut Caller<B>,
 }
 
-impl<B: Object, R: Wait> Answers for Asked<'_, B, R> {
+impl<B: Object, R: Wait> Responder for Asked<'_, B, R> {
     ghost answers = { λ old event reply new. Section B.setup event reply old.caller.now new.caller.now × (new.caller.ghost_name ≡ old.caller.ghost_name) };
 
     fn answer(&mut self, event: Event<'_>) -> Reply {

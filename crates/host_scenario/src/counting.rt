@@ -4,8 +4,8 @@ ghost use Rattle.std.specs.Prelude.{◌≡◌, ◌+◌, ◌≤◌, true, length}
 ghost use Rattle.host_scenario.specs.Asked.{by_host, is_by_host, is_hosts};
 ghost use Rattle.workers.specs.Recorded.{completion_in, completions_of};
 
-use world_calls::{Call, Record};
 use base_chunked_list::ChunkedList;
+use world_calls::{Call, Record};
 
 /// How many steps a host carried out, how many calls it made, and how many completions it put into its inbox.
 #[derive(Clone, Copy)]
@@ -50,8 +50,8 @@ pub(crate) fn is_by_host(made: &Record) -> bool
     }
 }
 
-// Whether workers do not make such a call.
-fn is_hosts(call: &Call) -> bool
+/// Whether workers do not make such a call.
+pub(crate) fn is_hosts(call: &Call) -> bool
     ensures { result ≡ is_hosts call.now }
 {
     match call {

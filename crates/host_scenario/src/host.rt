@@ -2,32 +2,33 @@
 // from which they are served. It relies on `host_handles` for the guests' tokens, on `engine_lock` for the engine's replies, and on
 // `workers` for serving.
 
-ghost use Rattle.std.specs.Prelude.{◌≡◌, ◌≢◌, ℕ, ◌+◌, ◌≤◌, ◌∷◌, ◌++◌, [], All, IfErr, MatchResult, OnOk, None, Some, length, vec_capacity};
+ghost use Rattle.std.specs.Prelude.{◌≡◌, ◌≢◌, ℕ, ◌+◌, ◌≤◌, ◌∷◌, ◌++◌, [], All, IfErr, IfSome, MatchResult, OnOk, None, length, true, vec_capacity};
+ghost use Rattle.world_calls.specs.declared.call.Call.TheVariants.{Complete};
+ghost use Rattle.scenario.specs.Steps.{command_seen, step_seen};
 ghost use Rattle.inbox.specs.Views.{IsOf};
 ghost use Rattle.workers.specs.Recorded.{AreRecorded};
-ghost use Rattle.host_scenario.specs.Asked.{AreOf, call_of, calls_of, with_call};
+ghost use Rattle.host_scenario.specs.Asked.{AreOf, call_of, calls_of, is_hosts, with_call};
 ghost use Rattle.host_scenario.specs.Faults.{IsOfSteps, line_of};
-ghost use Rattle.host_scenario.specs.Served.{IsKept, completes_of, completion_for};
-ghost use Rattle.host_scenario.specs.Holding.{Asks, AsksAlone, HoldsAll, HoldsBut, IsAsked, IsOfStep, IsSaid};
+ghost use Rattle.host_scenario.specs.Served.{InboxIsKept, completes_of, completion_for};
+ghost use Rattle.host_scenario.specs.Holding.{Asks, HoldsAll, IsMade, IsOfLine, IsOfStep, fault_of};
 ghost use Rattle.workers.specs.declared.serving.TheConstants.{MAX_WORKERS};
 ghost use Rattle.host_scenario.specs.declared.host.RunFault.TheVariants.{OutOfMemory};
 
 use crate::asking::Asked;
-use crate::counting::Counts;
+use crate::counting::{Counts, is_hosts};
 use crate::watching::Watching;
-use world_calls::Notices;
 use ccb::Completion;
-use engine_core::Event;
 use engine_lock::{Caller, Object, Shared};
-use host_handles::{Hands, Told};
+use host_handles::{HeldHandles, Unanswered, completion_of};
 use inbox::{Inbox, PutPass, TakePass};
 use monitor::Watch;
-use scenario::{Command, Step};
+use scenario::{Scenario, Step};
 use std::alloc::AllocError;
 use std::mem;
 use std::sync::{Mutex, Wait};
 use std::thread::Threads;
 use workers::{Gate, Seat, Served, Unserved, serve, settle};
+use world_calls::{Call, Notices};
 
 /// Why a run stopped.
 #[derive(Clone, Copy, Debug, PartialEq, Eq)]
@@ -39,7 +40,7 @@ pub enum RunFault {
     /// used its program's budget up, a completion was refused with another code than C1 and C3, a guest's freeze is gone whose token is
     /// held, a caller or a pass is missing at the end, a run is live then, or the history has calls of somebody else. None of these can
     /// be.
-    Unsettled,
+    InternalError,
 }
 
 impl From<AllocError> for RunFault {
@@ -57,7 +58,7 @@ pub(crate) struct Host<'a, B: Object, N: Notices> {
     pub(crate) caller: Caller<B>,
     // none, with room for all callers at the end
     pub(crate) callers: Vec<Caller<B>>,
-    pub(crate) hands: Hands,
+    pub(crate) held: HeldHandles,
     pub(crate) inbox: Inbox,
     pub(crate) put: PutPass,
     // to see whether the workers left a completion
@@ -83,24 +84,24 @@ impl<'a, B: Object + Send + Sync, N: Notices + Sync> Host<'a, B, N> {
     pub(crate) fn carry_out_all<R: Threads + Wait + Sync>(
         &mut self,
         rt: &R,
-        steps: &[Step],
+        scenario: &Scenario<'_>,
     ) -> (Counts, Result<(), RunFault>)
         requires none { (self.old.caller.mine ≡ []) × (self.old.put.account.put ≡ []) }
-        requires kept { IsKept self.old.inbox self.old.put self.old.take self.old.seats.items }
-        ensures asked { OnOk result.1 (AreOf self.new.caller.mine (calls_of steps.now)) }
-        ensures put { OnOk result.1 (self.new.put.account.put ≡ completes_of steps.now) }
-        ensures kept { OnOk result.1 (IsKept self.new.inbox self.new.put self.new.take self.new.seats.items) }
-        ensures fault { IfErr result.1 (IsOfSteps steps.now result.0.steps self.new.caller.mine self.new.put.account.put) }
-        ensures stays { IfErr result.1 (λ fault. (line_of fault ≢ None) → IsKept self.new.inbox self.new.put self.new.take self.new.seats.items) }
+        requires kept { InboxIsKept self.old.inbox self.old.put self.old.take self.old.seats.items }
+        ensures asked { OnOk result.1 (AreOf self.new.caller.mine (calls_of scenario.now)) }
+        ensures put { OnOk result.1 (self.new.put.account.put ≡ completes_of scenario.now) }
+        ensures kept { OnOk result.1 (InboxIsKept self.new.inbox self.new.put self.new.take self.new.seats.items) }
+        ensures fault { IfErr result.1 (IsOfSteps scenario.now result.0.steps self.new.caller.mine self.new.put.account.put) }
+        ensures stays { IfErr result.1 (λ fault. (line_of fault ≢ None) → InboxIsKept self.new.inbox self.new.put self.new.take self.new.seats.items) }
         ensures all { length self.new.seats.items ≡ length self.old.seats.items }
-        ensures steps { result.0.steps ≤ length steps.now }
+        ensures steps { OnOk result.1 (result.0.steps ≡ length scenario.now) }
         ensures calls { MatchResult result.1 (λ _. result.0.calls ≡ length self.new.caller.mine) (λ fault. (line_of fault ≢ None) → result.0.calls ≡ length self.new.caller.mine) }
         ensures completions { MatchResult result.1 (λ _. result.0.completions ≡ length self.new.put.account.put) (λ fault. (line_of fault ≢ None) → result.0.completions ≡ length self.new.put.account.put) }
     {
         let mut carried = 0;
         let mut calls = 0;
         let mut completions = 0;
-        for step in steps {
+        for step in scenario.steps() {
             if let Err(fault) = self.carry_out(rt, step) {
                 let counts = Counts {
                     steps: carried,
@@ -110,8 +111,8 @@ impl<'a, B: Object + Send + Sync, N: Notices + Sync> Host<'a, B, N> {
                 return (counts, Err(fault));
             }
             carried += 1;
-            calls += calls_in(step.command.get());
-            completions += completions_for(step.command.get());
+            calls += calls_in(step.call);
+            completions += completions_for(step.call);
         }
         let counts = Counts {
             steps: carried,
@@ -121,64 +122,56 @@ impl<'a, B: Object + Send + Sync, N: Notices + Sync> Host<'a, B, N> {
         (counts, self.drain(rt))
     }
 
-    fn carry_out<R: Threads + Wait + Sync>(&mut self, rt: &R, step: &Step) -> Result<(), RunFault>
-        requires { HoldsAll self.old.caller.mine self.old.hands.tokens }
-        ensures asked { OnOk result (Asks step.now self.old.caller.mine self.new.caller.mine) }
-        ensures holds { OnOk result (HoldsAll self.new.caller.mine self.new.hands.tokens) }
-        ensures put { OnOk result (self.new.put.account.put ≡ self.old.put.account.put ++ completion_for step.now.command) }
-        ensures kept { OnOk result (IsKept self.old.inbox self.old.put self.old.take self.old.seats.items → IsKept self.new.inbox self.new.put self.new.take self.new.seats.items) }
+    fn carry_out<R: Threads + Wait + Sync>(
+        &mut self,
+        rt: &R,
+        step: Step<'_>,
+    ) -> Result<(), RunFault>
+        requires { HoldsAll self.old.caller.mine self.old.held.tokens }
+        ensures asked { OnOk result (Asks (step_seen step.entry) self.old.caller.mine self.new.caller.mine) }
+        ensures holds { OnOk result (HoldsAll self.new.caller.mine self.new.held.tokens) }
+        ensures put { OnOk result (self.new.put.account.put ≡ self.old.put.account.put ++ completion_for (command_seen step.entry.call)) }
+        ensures kept { OnOk result (InboxIsKept self.old.inbox self.old.put self.old.take self.old.seats.items → InboxIsKept self.new.inbox self.new.put self.new.take self.new.seats.items) }
         ensures all { length self.new.seats.items ≡ length self.old.seats.items }
-        ensures fault { IfErr result (IsOfStep step.now self.old.caller.mine self.new.caller.mine) }
+        ensures fault { IfErr result (IsOfStep (step_seen step.entry) self.old.caller.mine self.new.caller.mine) }
         ensures stays { IfErr result (λ fault. (line_of fault ≢ None) → (self.new.inbox ≡ self.old.inbox) × (self.new.put ≡ self.old.put) × (self.new.take ≡ self.old.take) × (self.new.seats.items ≡ self.old.seats.items)) }
     {
-        match step.command.get() {
-            Command::Submit {
-                queue,
-                priority,
-                retries,
-            } => self.ask(
-                rt,
-                Event::Submit {
-                    queue,
-                    priority,
-                    retries,
-                },
-            ),
-            Command::Dispatch { queue } => self.ask(rt, Event::Dispatch { queue }),
-            Command::Complete { completion } => self.complete(rt, completion),
-            Command::Drain => self.drain(rt),
-            Command::GuestFreeze { place, guest } => {
-                self.ask(rt, Event::GuestFreeze { place, guest })
-            }
-            Command::GuestRelease { freeze } => match self.hands.take_token(freeze) {
-                Some(token) => self.ask(rt, Event::GuestRelease { token }),
-                None => Err(RunFault::NotHeld(step.line)),
-            },
-            Command::Clock { reading } => self.ask(rt, Event::Clock { reading }),
+        let Some(call) = step.call else {
+            return self.drain(rt);
+        };
+        if is_hosts(call) {
+            return self.ask(rt, step.line, call);
+        }
+        match completion_in(call) {
+            Some(completion) => self.complete(rt, completion),
+            // a call of a run, of which no scenario has a line
+            None => Err(RunFault::InternalError),
         }
     }
 
-    // A refusal is recorded, and the scenario goes on. Where memory is refused the host stops: what comes back is in its hands.
-    fn ask<R: Threads + Wait + Sync>(&mut self, rt: &R, event: Event<'_>) -> Result<(), RunFault>
-        requires asks { AsksAlone event }
-        requires holds { HoldsBut event self.old.caller.mine self.old.hands.tokens }
-        ensures asked { OnOk result (IsAsked event.entry self.old.caller.mine self.new.caller.mine) }
-        ensures holds { OnOk result (HoldsAll self.new.caller.mine self.new.hands.tokens) }
+    // A refusal is recorded, and the scenario goes on. Where memory is refused the host stops: what comes back is held.
+    fn ask<R: Threads + Wait + Sync>(
+        &mut self,
+        rt: &R,
+        line: usize,
+        call: &Call,
+    ) -> Result<(), RunFault>
+        requires hosts { is_hosts call.now ≡ true }
+        requires holds { HoldsAll self.old.caller.mine self.old.held.tokens }
+        ensures asked { OnOk result (IsMade call.now self.old.caller.mine self.new.caller.mine) }
+        ensures holds { OnOk result (HoldsAll self.new.caller.mine self.new.held.tokens) }
         ensures same { (self.new.inbox ≡ self.old.inbox) × (self.new.put ≡ self.old.put) × (self.new.take ≡ self.old.take) × (self.new.seats.items ≡ self.old.seats.items) }
         ensures all { length self.new.seats.items ≡ length self.old.seats.items }
-        ensures fault { IfErr result (λ fault. line_of fault ≡ None) }
+        ensures fault { IfErr result (IsOfLine line call.now self.old.caller.mine self.new.caller.mine) }
     {
         let mut asked = Asked {
             rt,
             shared: &self.shared,
             caller: &mut self.caller,
         };
-        match self.hands.ask(&mut asked, event) {
-            Ok(told) => said(told),
-            Err(event) => {
-                event.forfeit();
-                Err(RunFault::OutOfMemory)
-            }
+        match self.held.call(&mut asked, call) {
+            Ok(_) => Ok(()),
+            Err(unanswered) => Err(fault_of(unanswered, line)),
         }
     }
 
@@ -188,9 +181,9 @@ impl<'a, B: Object + Send + Sync, N: Notices + Sync> Host<'a, B, N> {
         rt: &R,
         completion: Completion,
     ) -> Result<(), RunFault>
-        ensures same { (self.new.caller ≡ self.old.caller) × (self.new.hands ≡ self.old.hands) }
+        ensures same { (self.new.caller ≡ self.old.caller) × (self.new.held ≡ self.old.held) }
         ensures put { OnOk result (self.new.put.account.put ≡ self.old.put.account.put ++ completion ∷ []) }
-        ensures kept { OnOk result (IsKept self.old.inbox self.old.put self.old.take self.old.seats.items → IsKept self.new.inbox self.new.put self.new.take self.new.seats.items) }
+        ensures kept { OnOk result (InboxIsKept self.old.inbox self.old.put self.old.take self.old.seats.items → InboxIsKept self.new.inbox self.new.put self.new.take self.new.seats.items) }
         ensures all { length self.new.seats.items ≡ length self.old.seats.items }
         ensures fault { IfErr result (λ fault. line_of fault ≡ None) }
     {
@@ -200,14 +193,14 @@ impl<'a, B: Object + Send + Sync, N: Notices + Sync> Host<'a, B, N> {
         self.drain(rt)?;
         match self.inbox.put(rt, &mut self.put, completion) {
             Ok(()) => Ok(()),
-            Err(_) => Err(RunFault::Unsettled),
+            Err(_) => Err(RunFault::InternalError),
         }
     }
 
     // Serves until the inbox is empty.
     fn drain<R: Threads + Wait + Sync>(&mut self, rt: &R) -> Result<(), RunFault>
-        ensures same { (self.new.caller ≡ self.old.caller) × (self.new.hands ≡ self.old.hands) × (self.new.put ≡ self.old.put) }
-        ensures kept { OnOk result (IsKept self.old.inbox self.old.put self.old.take self.old.seats.items → IsKept self.new.inbox self.new.put self.new.take self.new.seats.items) }
+        ensures same { (self.new.caller ≡ self.old.caller) × (self.new.held ≡ self.old.held) × (self.new.put ≡ self.old.put) }
+        ensures kept { OnOk result (InboxIsKept self.old.inbox self.old.put self.old.take self.old.seats.items → InboxIsKept self.new.inbox self.new.put self.new.take self.new.seats.items) }
         ensures all { length self.new.seats.items ≡ length self.old.seats.items }
         ensures fault { IfErr result (λ fault. line_of fault ≡ None) }
     {
@@ -223,7 +216,7 @@ impl<'a, B: Object + Send + Sync, N: Notices + Sync> Host<'a, B, N> {
         match served {
             Ok(()) => match self.inbox.take(rt, &mut self.take) {
                 None => Ok(()),
-                Some(_) => Err(RunFault::Unsettled),
+                Some(_) => Err(RunFault::InternalError),
             },
             Err(fault) => Err(fault),
         }
@@ -265,52 +258,50 @@ fn fault_for(out_of_memory: bool) -> RunFault
     if out_of_memory {
         RunFault::OutOfMemory
     } else {
-        RunFault::Unsettled
+        RunFault::InternalError
     }
 }
 
-// How many calls the host makes for such a command.
-fn calls_in(command: Command) -> usize
-    ensures calls { result ≡ length (with_call (call_of command) []) }
+// How many calls the host makes for such a line.
+fn calls_in(call: Option<&Call>) -> usize
+    ensures calls { result ≡ length (with_call (call_of (command_seen call.entry)) []) }
     ensures few { result ≤ 1 }
 {
-    match command {
-        Command::Complete { .. } | Command::Drain => 0,
-        Command::Submit { .. }
-        | Command::Dispatch { .. }
-        | Command::GuestFreeze { .. }
-        | Command::GuestRelease { .. }
-        | Command::Clock { .. } => 1,
+    match call {
+        Some(call) if is_hosts(call) => 1,
+        _ => 0,
     }
 }
 
-// How many completions are put for such a command.
-fn completions_for(command: Command) -> usize
-    ensures many { result ≡ length (completion_for command) }
+// How many completions are put for such a line.
+fn completions_for(call: Option<&Call>) -> usize
+    ensures many { result ≡ length (completion_for (command_seen call.entry)) }
     ensures few { result ≤ 1 }
 {
-    match command {
-        Command::Complete { .. } => 1,
-        Command::Submit { .. }
-        | Command::Dispatch { .. }
-        | Command::Drain
-        | Command::GuestFreeze { .. }
-        | Command::GuestRelease { .. }
-        | Command::Clock { .. } => 0,
+    match call {
+        Some(Call::Complete { .. }) => 1,
+        _ => 0,
     }
 }
 
-// Whether a call was carried out or refused, so that it is recorded. C6 cannot be: it is told of a token in the host's hands.
-fn said(told: Told) -> Result<(), RunFault>
-    ensures said { OnOk result (IsSaid told) }
-    ensures fault { IfErr result (λ fault. line_of fault ≡ None) }
+// The completion that such a call brings; none of one that a device cannot report.
+fn completion_in(call: &Call) -> Option<Completion>
+    ensures { IfSome result (λ completion. call.now ≡ Complete completion) }
 {
-    match told {
-        Told::Answered(_) => Ok(()),
-        Told::Goes(_) => Ok(()),
-        Told::Ended(_) => Ok(()),
-        Told::Unfit => Err(RunFault::Unsettled),
-        Told::OutOfMemory => Err(RunFault::OutOfMemory),
+    match call {
+        Call::Complete { completion } => completion_of(completion),
+        _ => None,
+    }
+}
+
+// Why a call was not answered, as it is told of its line. C6 cannot be: it is told of a token that is held.
+fn fault_of(unanswered: Unanswered, line: usize) -> RunFault
+    ensures { result ≡ fault_of unanswered line }
+{
+    match unanswered {
+        Unanswered::NotHeld => RunFault::NotHeld(line),
+        Unanswered::NotAdmitted => RunFault::InternalError,
+        Unanswered::OutOfMemory => RunFault::OutOfMemory,
     }
 }
 

@@ -1,11 +1,11 @@
 // A run of a scenario from the opening of its engine to the end. It relies on `host` for what the steps ask for.
 
-ghost use Rattle.std.specs.Prelude.{◌≡◌, ◌≢◌, ◌≤◌, ◌+◌, ◌++◌, [], All, Err, IfErr, IfOk, IsOk, None, length, map, take, vec_capacity};
+ghost use Rattle.std.specs.Prelude.{◌≡◌, ◌≢◌, ◌≤◌, ◌+◌, ◌++◌, [], All, Err, IfErr, IfOk, IsOk, None, OnOk, length, map, take, vec_capacity};
 ghost use Rattle.inbox.specs.InboxLists.{Settles};
 ghost use Rattle.inbox.specs.Views.{IsOf};
 ghost use Rattle.host_scenario.specs.Asked.{by_host};
 ghost use Rattle.host_scenario.specs.Faults.{IsOfRun, line_of};
-ghost use Rattle.host_scenario.specs.Served.{HasTaken, IsKept, completes_of};
+ghost use Rattle.host_scenario.specs.Served.{HasTaken, InboxIsKept, completes_of};
 ghost use Rattle.host_scenario.specs.Traces.{HasMade, IsOfScenario, IsTraceOf};
 ghost use Rattle.host_scenario.specs.Turns.{AreInTurn, AreInTurnSoFar};
 ghost use Rattle.workers.specs.Recorded.{completions_of};
@@ -14,20 +14,20 @@ ghost use Rattle.workers.specs.declared.serving.TheConstants.{MAX_WORKERS};
 use crate::counting::Counts;
 use crate::host::{Host, RunFault};
 use crate::turns::are_in_turn;
-use world_calls::Notices;
 use ccb::Completion;
 use engine_core::{Config, Engine, Trace};
 use engine_lock::{Caller, Object, Opened, Shared};
-use host_handles::Hands;
+use host_handles::HeldHandles;
 use inbox::{CloseFault, Inbox, MAX_CAPACITY, PutPass, TakePass};
-use scenario::Step;
+use scenario::Scenario;
 use std::alloc::{AllocError, Global};
 use std::marker::Brand;
 use std::sync::{Mutex, Wait};
 use std::thread::Threads;
 use workers::{Seat, seated};
+use world_calls::Notices;
 
-/// Runs the steps in their order on an engine of this configuration, and serves the completions that are left then, by 1 to 16
+/// Runs a scenario's steps in their order on an engine of this configuration, and serves the completions that are left then, by 1 to 16
 /// workers. Tokens that are out at the end are forfeited. With one worker the trace is determined; with more, completions that
 /// wait together are served in any order. While workers serve, the engine's sums are told where they are wanted.
 ///
@@ -36,26 +36,26 @@ pub fn run<N: Notices + Sync, R: Threads + Wait + Sync>(
     rt: &R,
     alloc: Global,
     config: Config,
-    steps: &[Step],
+    scenario: &Scenario<'_>,
     workers: usize,
     notices: &N,
 ) -> Result<Trace, RunFault>
     requires { (1 ≤ workers) × (workers ≤ MAX_WORKERS) }
     ensures trace { IfOk result (λ trace. IsTraceOf config trace.version trace.records.items trace.totals) }
-    ensures asked { IfOk result (λ trace. IsOfScenario steps.now trace.records.items) }
+    ensures asked { IfOk result (λ trace. IsOfScenario scenario.now trace.records.items) }
     // one worker serves the completions in the order of their lines
-    ensures in_order { IfOk result (λ trace. workers ≡ 1 → completions_of trace.records.items ≡ completes_of steps.now) }
+    ensures in_order { IfOk result (λ trace. workers ≡ 1 → completions_of trace.records.items ≡ completes_of scenario.now) }
     // each run that started has ended
     ensures ended { IfOk result (λ trace. trace.totals.runs ≡ 0) }
     // N2 is told at the line of a release of a freeze that is not held then
-    ensures fault { IfErr result (IsOfRun config steps.now) }
+    ensures fault { IfErr result (IsOfRun config scenario.now) }
 {
     let engine = match Engine::open(alloc, config) {
         Ok(engine) => engine,
         Err((fault, _)) => return Err(RunFault::from(fault)),
     };
     match Opened::new(alloc, engine) {
-        Ok(opened) => run_on::<Brand, N, R>(rt, alloc, opened, steps, workers, notices),
+        Ok(opened) => run_on::<Brand, N, R>(rt, alloc, opened, scenario, workers, notices),
         Err((fault, _)) => Err(RunFault::from(fault)),
     }
 }
@@ -65,7 +65,7 @@ fn run_on<B: Object + Send + Sync, N: Notices + Sync, R: Threads + Wait + Sync>(
     rt: &R,
     alloc: Global,
     opened: Opened,
-    steps: &[Step],
+    scenario: &Scenario<'_>,
     workers: usize,
     notices: &N,
 ) -> Result<Trace, RunFault>
@@ -75,15 +75,15 @@ fn run_on<B: Object + Send + Sync, N: Notices + Sync, R: Threads + Wait + Sync>(
     requires name { (opened.calls.name ≡ B.name) × (opened.calls.parts ≡ B.parts) }
     requires table { opened.monitor ≡ B.table }
     ensures trace { IfOk result (λ trace. IsTraceOf B.setup trace.version trace.records.items trace.totals) }
-    ensures asked { IfOk result (λ trace. IsOfScenario steps.now trace.records.items) }
-    ensures in_order { IfOk result (λ trace. workers ≡ 1 → completions_of trace.records.items ≡ completes_of steps.now) }
+    ensures asked { IfOk result (λ trace. IsOfScenario scenario.now trace.records.items) }
+    ensures in_order { IfOk result (λ trace. workers ≡ 1 → completions_of trace.records.items ≡ completes_of scenario.now) }
     ensures ended { IfOk result (λ trace. trace.totals.runs ≡ 0) }
-    ensures fault { IfErr result (IsOfRun B.setup steps.now) }
+    ensures fault { IfErr result (IsOfRun B.setup scenario.now) }
 {
     let mut host = open(rt, alloc, opened.named::<B>(), workers, notices)?;
-    let (counts, carried_out) = host.carry_out_all(rt, steps);
+    let (counts, carried_out) = host.carry_out_all(rt, scenario);
     match close(rt, host) {
-        Ok(ended) => judged(counts, carried_out, ended, steps),
+        Ok(ended) => judged(counts, carried_out, ended, scenario),
         Err(fault) => Err(first_of(carried_out, fault)),
     }
 }
@@ -93,14 +93,14 @@ fn judged(
     counts: Counts,
     carried_out: Result<(), RunFault>,
     ended: Ended,
-    steps: &[Step],
+    scenario: &Scenario<'_>,
 ) -> Result<Trace, RunFault>
-    requires { counts.steps ≤ length steps.now }
+    requires all { OnOk carried_out (counts.steps ≡ length scenario.now) }
     ensures whole { IfOk result (λ trace. (trace ≡ ended.trace) × IsOk carried_out × (ended.left.items ≡ [])) }
     ensures counted { IfOk result (λ trace. (length (by_host ended.trace.records.items) ≡ counts.calls) × (length (completions_of ended.trace.records.items) + length ended.left.items ≡ counts.completions)) }
-    ensures turns { IfOk result (λ trace. AreInTurn steps.now ended.trace.records.items) }
+    ensures turns { IfOk result (λ trace. AreInTurn scenario.now ended.trace.records.items) }
     ensures ended { IfOk result (λ trace. trace.totals.runs ≡ 0) }
-    ensures fault { IfErr result (λ fault. (line_of fault ≢ None) → (carried_out ≡ Err fault) × (length (by_host ended.trace.records.items) ≡ counts.calls) × (length (completions_of ended.trace.records.items) + length ended.left.items ≡ counts.completions) × AreInTurnSoFar (take counts.steps steps.now) ended.trace.records.items) }
+    ensures fault { IfErr result (λ fault. (line_of fault ≢ None) → (carried_out ≡ Err fault) × (length (by_host ended.trace.records.items) ≡ counts.calls) × (length (completions_of ended.trace.records.items) + length ended.left.items ≡ counts.completions) × AreInTurnSoFar (take counts.steps scenario.now) ended.trace.records.items) }
 {
     let Ended { trace, left } = ended;
     let are_all = counts.are_of(&trace.records, left.len());
@@ -109,22 +109,22 @@ fn judged(
             if are_all
                 && left.is_empty()
                 && trace.totals.runs == 0
-                && are_in_turn(steps, &trace.records, true)
+                && are_in_turn(scenario, counts.steps, &trace.records, true)
             {
                 Ok(trace)
             } else {
-                Err(RunFault::Unsettled)
+                Err(RunFault::InternalError)
             }
         }
         Err(RunFault::NotHeld(line)) => {
-            if are_all && are_in_turn(&steps[..counts.steps], &trace.records, false) {
+            if are_all && are_in_turn(scenario, counts.steps, &trace.records, false) {
                 Err(RunFault::NotHeld(line))
             } else {
-                Err(RunFault::Unsettled)
+                Err(RunFault::InternalError)
             }
         }
         Err(RunFault::OutOfMemory) => Err(RunFault::OutOfMemory),
-        Err(RunFault::Unsettled) => Err(RunFault::Unsettled),
+        Err(RunFault::InternalError) => Err(RunFault::InternalError),
     }
 }
 
@@ -149,12 +149,12 @@ fn open<'a, B: Object, N: Notices, R: Wait>(
 ) -> Result<Host<'a, B, N>, RunFault>
     requires { (1 ≤ workers) × (workers ≤ MAX_WORKERS) }
     ensures none { IfOk result (λ host. (host.caller.mine ≡ []) × (host.put.account.put ≡ [])) }
-    ensures kept { IfOk result (λ host. IsKept host.inbox host.put host.take host.seats.items) }
+    ensures kept { IfOk result (λ host. InboxIsKept host.inbox host.put host.take host.seats.items) }
     ensures all { IfOk result (λ host. length host.seats.items ≡ workers) }
     ensures fault { IfErr result (λ fault. line_of fault ≡ None) }
 {
     let Ok(caller) = shared.caller(rt) else {
-        return Err(RunFault::Unsettled);
+        return Err(RunFault::InternalError);
     };
     let room = match make_room(alloc, workers) {
         Ok(room) => room,
@@ -191,7 +191,7 @@ fn open<'a, B: Object, N: Notices, R: Wait>(
             takes.destroy_empty();
             callers.destroy_empty();
             inbox.forfeit();
-            return Err(RunFault::Unsettled);
+            return Err(RunFault::InternalError);
         }
     };
     let watch = Mutex::new(shared.watch(rt));
@@ -199,7 +199,7 @@ fn open<'a, B: Object, N: Notices, R: Wait>(
         shared,
         caller,
         callers,
-        hands: Hands::empty(alloc),
+        held: HeldHandles::empty(alloc),
         inbox,
         put,
         take,
@@ -271,7 +271,7 @@ struct Ended {
 fn close<B: Object, N: Notices, R: Wait>(rt: &R, host: Host<'_, B, N>) -> Result<Ended, RunFault>
     ensures trace { IfOk result (λ ended. IsTraceOf B.setup ended.trace.version ended.trace.records.items ended.trace.totals) }
     ensures made { IfOk result (λ ended. HasMade host.entry.caller ended.trace.records.items) }
-    ensures taken { IfOk result (λ ended. IsKept host.entry.inbox host.entry.put host.entry.take host.entry.seats.items →
+    ensures taken { IfOk result (λ ended. InboxIsKept host.entry.inbox host.entry.put host.entry.take host.entry.seats.items →
         HasTaken (length host.entry.seats.items) host.entry.put.account.put ended.left.items ended.trace.records.items) }
     ensures fault { IfErr result (λ fault. line_of fault ≡ None) }
 {
@@ -279,7 +279,7 @@ fn close<B: Object, N: Notices, R: Wait>(rt: &R, host: Host<'_, B, N>) -> Result
         shared,
         caller,
         mut callers,
-        hands,
+        held: _,
         inbox,
         put,
         take,
@@ -289,7 +289,6 @@ fn close<B: Object, N: Notices, R: Wait>(rt: &R, host: Host<'_, B, N>) -> Result
         watch: _,
         notices: _,
     } = host;
-    hands.forfeit();
     puts.push_reserved(put);
     takes.push_reserved(take);
     callers.push_reserved(caller);
@@ -313,7 +312,7 @@ fn close<B: Object, N: Notices, R: Wait>(rt: &R, host: Host<'_, B, N>) -> Result
         }),
         Err(unclosed) => {
             unclosed.forfeit();
-            Err(RunFault::Unsettled)
+            Err(RunFault::InternalError)
         }
     }
 }
@@ -346,7 +345,7 @@ fn fault_of(fault: CloseFault) -> RunFault
 {
     match fault {
         CloseFault::OutOfMemory => RunFault::OutOfMemory,
-        CloseFault::PassMissing => RunFault::Unsettled,
+        CloseFault::PassMissing => RunFault::InternalError,
     }
 }
 

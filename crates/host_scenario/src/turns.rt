@@ -1,14 +1,15 @@
 // Whether the completions of a history stand where its host's steps allow. It relies on `world_calls` for records, on `counting` for who
 // made one, and on `scenario` for steps.
 
-ghost use Rattle.std.specs.Prelude.{◌≡◌, ◌+◌, ◌-◌, ◌^◌, ◌<◌, ◌≤◌, drop, length, true};
+ghost use Rattle.std.specs.Prelude.{◌≡◌, ◌+◌, ◌-◌, ◌^◌, ◌<◌, ◌≤◌, [], drop, length, take, true};
 ghost use Rattle.host_scenario.specs.Turns.{are_in_turn, at_host, completions_in, doing, ends_in, first_turn, from_host, is_settled, leading, may_do, may_end, seen, starts_in, turn_after};
+ghost use Rattle.scenario.specs.Steps.{command_seen};
 ghost use Rattle.host_scenario.specs.declared.turns.Doing.TheVariants.{Calls};
 
-use crate::counting::{completions_in, is_by_host};
-use world_calls::{CallAnswer, Record, StoppedAt};
+use crate::counting::{completions_in, is_by_host, is_hosts};
 use base_chunked_list::ChunkedList;
-use scenario::{Command, Step};
+use scenario::Scenario;
+use world_calls::{Call, CallAnswer, Record, StoppedAt};
 
 /// What a host does for a step: it puts a completion into its inbox, has its workers serve those that wait there, or makes a call.
 #[derive(Clone, Copy)]
@@ -39,10 +40,16 @@ struct Found {
     place: usize,
 }
 
-/// Whether each completion is recorded after the host put it, and before the first call of the host after the drain that served it;
-/// and each run has ended before the host's next call. With `all`, all that were put are recorded.
-pub(crate) fn are_in_turn(steps: &[Step], records: &ChunkedList<Record>, all: bool) -> bool
-    ensures { result ≡ are_in_turn all (first_turn records.now.items) steps.now }
+/// Of so many steps, the first of a scenario: whether each completion is recorded after the host put it, and before the first call of
+/// the host after the drain that served it; and each run has ended before the host's next call. With `all`, all that were put are
+/// recorded.
+pub(crate) fn are_in_turn(
+    scenario: &Scenario<'_>,
+    count: usize,
+    records: &ChunkedList<Record>,
+    all: bool,
+) -> bool
+    ensures { result ≡ are_in_turn all (first_turn records.now.items) (take count scenario.now) }
 {
     let mut reached = Reached {
         put: 0,
@@ -52,15 +59,17 @@ pub(crate) fn are_in_turn(steps: &[Step], records: &ChunkedList<Record>, all: bo
         ended: 0,
         place: 0,
     };
-    for step in steps {
-        if !reached.goes_on(doing_for(step.command.get()), records) {
+    let mut passed = 0;
+    for step in scenario.steps() {
+        if passed == count {
+            return reached.ends(records, all);
+        }
+        if !reached.goes_on(doing_for(step.call), records) {
             return false;
         }
+        passed += 1;
     }
-    if all {
-        reached.drained = reached.put;
-    }
-    reached.may_end(records)
+    reached.ends(records, all)
 }
 
 impl Reached {
@@ -106,6 +115,17 @@ impl Reached {
         true
     }
 
+    // Whether the steps may end there.
+    fn ends(mut self, records: &ChunkedList<Record>, all: bool) -> bool
+        requires { (self.served ≤ self.place) × (self.started ≤ self.place) × (self.ended ≤ self.place) × (self.place ≤ length records.now.items) }
+        ensures { result ≡ are_in_turn all (seen self records.now.items) [] }
+    {
+        if all {
+            self.drained = self.put;
+        }
+        self.may_end(records)
+    }
+
     // Whether the host made no more records, and all is settled.
     fn may_end(self, records: &ChunkedList<Record>) -> bool
         requires { (self.served ≤ self.place) × (self.started ≤ self.place) × (self.ended ≤ self.place) × (self.place ≤ length records.now.items) }
@@ -144,18 +164,19 @@ impl Reached {
     }
 }
 
-// What a host does for such a command.
-fn doing_for(command: Command) -> Doing
-    ensures { result ≡ doing command }
+// What a host does for such a line, by its call.
+fn doing_for(call: Option<&Call>) -> Doing
+    ensures { result ≡ doing (command_seen call.entry) }
 {
-    match command {
-        Command::Complete { .. } => Doing::Puts,
-        Command::Drain => Doing::Drains,
-        Command::Submit { .. }
-        | Command::Dispatch { .. }
-        | Command::GuestFreeze { .. }
-        | Command::GuestRelease { .. }
-        | Command::Clock { .. } => Doing::Calls,
+    match call {
+        None => Doing::Drains,
+        Some(call) => {
+            if is_hosts(call) {
+                Doing::Calls
+            } else {
+                Doing::Puts
+            }
+        }
     }
 }
 

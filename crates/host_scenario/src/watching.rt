@@ -1,11 +1,11 @@
 // Who tells the sums of the engine while workers serve: the thread of a run that comes to a stop, outside the lock. It relies on
 // `engine_lock` for the monitor, and on `notices` for who is told.
 
-use world_calls::{Notice, Notices};
 use engine_lock::{Object, Shared};
 use monitor::Watch;
 use std::sync::{Mutex, Wait};
 use workers::Gate;
+use world_calls::{Notice, Notices};
 
 /// Tells the sums of the engine where they are wanted, and holds no run up for longer.
 #[derive(Drop)]

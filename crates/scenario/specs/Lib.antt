@@ -1,3 +1,5 @@
 pub mod Commands
 pub mod Said
-pub mod Kept
+pub mod Steps
+pub mod Left
+pub mod Keeping

@@ -1,12 +1,11 @@
 -- What a scenario's text says: for each line that is not skipped the step with its number and its command, in their order.
-use Rattle.std.specs.Prelude.{◌≡◌, ◌≢◌, ◌+◌, ◌==◌, ℕ, Bool, true, false, Option, Some, List, [], ◌∷◌, ◌++◌, length, map, Result, Ok, Err, if◌then◌else◌}
+use Rattle.std.specs.Prelude.{◌≡◌, ◌≢◌, ◌+◌, ◌==◌, ℕ, Bool, true, false, Option, Some, List, [], ◌∷◌, ◌++◌, length, map, if◌then◌else◌}
 use Rattle.std.specs.List.{slice_split}
 use Rattle.base.specs.declared.or_memory.OrMemory.{OrMemory}
 use Rattle.base.specs.declared.or_memory.OrMemory.TheVariants.{OutOfMemory, Fault}
-use Rattle.scenario.specs.Commands.{command_text}
+use Rattle.scenario.specs.Commands.{Step, command_text}
 use Rattle.scenario.specs.declared.reading.FaultyLine.{FaultyLine}
-use Rattle.scenario.specs.declared.steps.Command.{Command}
-use Rattle.scenario.specs.declared.steps.Step.{Step}
+use Rattle.scenario.specs.declared.command.Command.{Command}
 
 -- the lines of a text, which line feeds (10) part
 abbrev pub lines_of : List ℕ → List (List ℕ)
@@ -49,10 +48,3 @@ pub record IsFaultyLine (text : List ℕ) (number : ℕ) : Type 0 where
 abbrev pub IfFault : (ℕ → Type 0) → OrMemory FaultyLine → Type 0
 IfFault P OutOfMemory = Unit {0}
 IfFault P (Fault fault) = P fault.0
-
--- ---- one line
-
--- what the line of that number says is put behind the steps
-abbrev pub Keeps : {T : Type 0} → ℕ → List ℕ → List Step → Result T (OrMemory FaultyLine) → List Step → Type 0
-Keeps number line old (Ok done) new = map line_of_step new ≡ map line_of_step old ++ numbered number (line ∷ [])
-Keeps number line old (Err fault) new = IfFault (λ told. (told ≡ number) × IsFaulty line) fault

@@ -1,9 +1,13 @@
 // The scenario: what happens to a transport, one command a line, and the reader of its text. It relies on `trace_lines` for the lines
-// of calls and on `ccb` for what a completion may say.
+// of calls.
 #![tactic(auto)]
 
+mod command;
 mod reading;
+mod scenario;
 mod steps;
 
-pub use reading::{FaultyLine, ScenarioError, command_of, is_skipped, read};
-pub use steps::{Command, KeptCommand, Step};
+pub use command::Command;
+pub use reading::{FaultyLine, ScenarioError, is_skipped, read};
+pub use scenario::Scenario;
+pub use steps::{Step, Steps};

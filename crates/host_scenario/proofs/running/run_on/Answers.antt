@@ -21,8 +21,8 @@ returns-in-Ok-clause-asked g c =
     let told = c.in-Ok.ended.trace.records.items in
     let left = c.in-Ok.ended.left.items in
     when_ok _ _ c.judged.result (λ (trace : Trace) so.
-    subst (λ (t : Trace). IsOfScenario c.args.steps.now t.records.items) (sym so.0.0.0)
-    (of_scenario c.args.steps.now host.caller told (length host.seats.items) host.put.account.put left c.in-Ok.ensures.made
+    subst (λ (t : Trace). IsOfScenario c.args.scenario.now t.records.items) (sym so.0.0.0)
+    (of_scenario c.args.scenario.now host.caller told (length host.seats.items) host.put.account.put left c.in-Ok.ensures.made
     (on_success _ outcome so.0.0.1 c.carry_out_all-carried_out.ensures.asked)
     (so.0.1.0 ∙ of_success _ _ (counts.calls ≡ length host.caller.mine) outcome so.0.0.1 (λ done same. same) c.carry_out_all-carried_out.ensures.calls)
     (c.in-Ok.ensures.taken (on_success _ outcome so.0.0.1 c.carry_out_all-carried_out.ensures.kept))
@@ -38,8 +38,8 @@ returns-in-Ok-clause-in_order g c =
     let told = c.in-Ok.ended.trace.records.items in
     let left = c.in-Ok.ended.left.items in
     when_ok _ _ c.judged.result (λ (trace : Trace) so one.
-    subst (λ (t : Trace). completions_of t.records.items ≡ completes_of c.args.steps.now) (sym so.0.0)
-    (in_order c.args.steps.now told (length host.seats.items) host.put.account.put left
+    subst (λ (t : Trace). completions_of t.records.items ≡ completes_of c.args.scenario.now) (sym so.0.0)
+    (in_order c.args.scenario.now told (length host.seats.items) host.put.account.put left
     (c.in-Ok.ensures.taken (on_success _ outcome so.0.1 c.carry_out_all-carried_out.ensures.kept))
     (so.1.1 ∙ of_success _ _ (counts.completions ≡ length host.put.account.put) outcome so.0.1 (λ done same. same) c.carry_out_all-carried_out.ensures.completions)
     (on_success _ outcome so.0.1 c.carry_out_all-carried_out.ensures.put) so.0.2
@@ -55,7 +55,7 @@ returns-in-Ok-clause-fault g c =
     when_err _ _ c.judged.result (λ (fault : RunFault) so line named.
     let some : line_of fault ≢ None = some_line line fault named in
     let it = so some in
-    of_run g.B.Origin.setup c.args.steps.now host.caller c.in-Ok.ended.trace.version told c.in-Ok.ended.trace.totals fault (length host.seats.items) c.carry_out_all-carried_out.result.0.steps host.put.account.put left c.in-Ok.ensures.trace c.in-Ok.ensures.made
+    of_run g.B.Origin.setup c.args.scenario.now host.caller c.in-Ok.ended.trace.version told c.in-Ok.ended.trace.totals fault (length host.seats.items) c.carry_out_all-carried_out.result.0.steps host.put.account.put left c.in-Ok.ensures.trace c.in-Ok.ensures.made
     (if_failure _ outcome fault it.0 c.carry_out_all-carried_out.ensures.fault)
     (λ names. (
       it.1 ∙ of_failure _ _ outcome fault it.0 c.carry_out_all-carried_out.ensures.calls names,

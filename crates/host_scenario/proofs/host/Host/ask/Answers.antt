@@ -1,18 +1,18 @@
-use Rattle.std.proofs.Common.{sym, ap, subst}
-use Rattle.host_scenario.specs.Holding.{IsSaid}
-use Rattle.host_scenario.proofs.Holding.{asked_so, on_ok}
-use Rattle.host_scenario.proofs.Lent.{either_way}
+use Rattle.std.proofs.Common.{ap, sym}
+use Rattle.host_scenario.proofs.Holding.{holds_so, made_so, refused_so, settled_so}
 use Rattle.host_scenario.proofs.host.Host.ask.Goals as goal
 
 pub shape_of-self : goal.shape_of-self
-shape_of-self g c = either_way _ _ _ c.ask.result (λ told p. sym p.1.1) (λ back p. sym (ap (λ a. a.caller.ghost_name) p.2)) c.ask.ensures.told c.ask.ensures.back
+shape_of-self g c = settled_so _ _ _ _ _ _ _ c.call.result c.call.ensures (λ event reply p. sym p.1) (λ same. sym (ap (λ a. a.caller.ghost_name) same))
 
 pub returns-in-Ok-clause-asked : goal.returns-in-Ok-clause-asked
 returns-in-Ok-clause-asked g c =
-    let p = c.in-Ok.ensures.told in
-    on_ok c.said.result (λ said. (asked_so g.B.Origin.setup c.args.event p.0 _ _ c.args.self.now.hands c.ask.new.self p.1.0 (subst IsSaid p.2 said) c.requires.asks c.requires.holds p.3).asked) c.said.ensures.said
+    made_so g.B.Origin.setup _ c.args.call.now _ _ c.args.self.now.held c.call.new.self c.requires.hosts c.requires.holds (λ event reply p. p.0) _ c.in-Ok.ensures
 
 pub returns-in-Ok-clause-holds : goal.returns-in-Ok-clause-holds
 returns-in-Ok-clause-holds g c =
-    let p = c.in-Ok.ensures.told in
-    on_ok c.said.result (λ said. (asked_so g.B.Origin.setup c.args.event p.0 _ _ c.args.self.now.hands c.ask.new.self p.1.0 (subst IsSaid p.2 said) c.requires.asks c.requires.holds p.3).holds) c.said.ensures.said
+    holds_so g.B.Origin.setup _ c.args.call.now _ _ c.args.self.now.held c.call.new.self c.requires.hosts c.requires.holds (λ event reply p. p.0) _ c.in-Ok.ensures
+
+pub returns-in-Err-clause-fault : goal.returns-in-Err-clause-fault
+returns-in-Err-clause-fault g c = rw (c.fault_of.ensures) (
+    refused_so g.B.Origin.setup _ c.args.call.now _ _ c.args.self.now.held c.call.new.self c.requires.hosts c.requires.holds c.args.line c.in-Err.unanswered c.in-Err.ensures (ap (λ a. a.caller.now)))

@@ -1,9 +1,7 @@
-use Rattle.std.proofs.Common.{ap}
-use Rattle.host_handles.specs.Kept.{HandsState}
-use Rattle.host_scenario.proofs.Holding.{others_stay}
+use Rattle.host_scenario.proofs.Carried.{refused_line}
+use Rattle.host_scenario.proofs.Lent.{when_err}
 use Rattle.host_scenario.proofs.host.Host.carry_out.Goals as goal
 
-pub ask-requires-in-Some-clause-holds : goal.ask-requires-in-Some-clause-holds
-ask-requires-in-Some-clause-holds g c κs within number held other none =
-    let taken = c.in-Some.ensures.taken.1 in
-    others_stay c.args.self.now.hands.tokens c.take_token.new.self.tokens taken.0 c.in-Some.token number taken.1 taken.2 (ap (λ (hands : HandsState). hands.tokens) taken.3) (c.requires number held) other none
+pub returns-then-is_hosts-clause-fault : goal.returns-then-is_hosts-clause-fault
+returns-then-is_hosts-clause-fault g c =
+    when_err _ _ c.ask.result (refused_line c.args.step.line c.args.step.call c.args.self.now.caller.mine _ c.in-Some.call c.in-Some.is) c.ask.ensures.fault

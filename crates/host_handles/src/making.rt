@@ -1,0 +1,130 @@
+// A call is made, and a run goes on: the event that is asked takes along what it names. It relies on `keeping` for what is kept then.
+
+ghost use Rattle.std.specs.Prelude.{◌≡◌, ◌<◌, Err, MatchResult, Ok, SomeIff, length, vec_capacity};
+ghost use Rattle.ccb.specs.Completion.{IsCompletion};
+ghost use Rattle.world_calls.specs.declared.call_answer.CallAnswer.{CallAnswer};
+ghost use Rattle.host_handles.specs.Handles.{AreSorted, HasNoRun, IsAdvanceOf, IsOfCall, IsSettled, IsUnheld, handles};
+
+use crate::held::{HeldRun, HeldToken};
+use crate::keeping::ask;
+use crate::responder::Responder;
+use crate::sorted::take;
+use crate::unanswered::Unanswered;
+use ccb::Completion;
+use engine_core::{Call, CallAnswer, Event};
+use world_calls::CompletionRecord;
+
+/// Asks what a call leads to, with the run or the token that it names, and keeps what is given or comes back. There is room for that.
+pub(crate) fn make<A: Responder>(
+    runs: &mut Vec<HeldRun>,
+    tokens: &mut Vec<HeldToken>,
+    asked: &mut A,
+    call: &Call,
+) -> Result<CallAnswer, Unanswered>
+    requires sorted { AreSorted runs.old.items tokens.old.items }
+    requires runs { length runs.old.items < vec_capacity runs.old }
+    requires tokens { length tokens.old.items < vec_capacity tokens.old }
+    ensures settled { IsSettled (λ event reply. A.answers asked.old event reply asked.new) (IsOfCall call.now) (IsUnheld call.now (handles runs.old.items tokens.old.items)) (asked.new ≡ asked.old) (handles runs.old.items tokens.old.items) (handles runs.new.items tokens.new.items) result }
+    ensures sorted { AreSorted runs.new.items tokens.new.items }
+{
+    match call {
+        Call::Submit {
+            queue,
+            priority,
+            retries,
+        } => ask(
+            runs,
+            tokens,
+            asked,
+            Event::Submit {
+                queue: *queue,
+                priority: *priority,
+                retries: *retries,
+            },
+        ),
+        Call::Dispatch { queue } => ask(runs, tokens, asked, Event::Dispatch { queue: *queue }),
+        Call::Complete { completion } => match completion_of(completion) {
+            Some(completion) => ask(
+                runs,
+                tokens,
+                asked,
+                Event::Complete {
+                    completion: &completion,
+                },
+            ),
+            None => Err(Unanswered::NotHeld),
+        },
+        Call::GuestFreeze { place, guest } => ask(
+            runs,
+            tokens,
+            asked,
+            Event::GuestFreeze {
+                place: *place,
+                guest: *guest,
+            },
+        ),
+        Call::GuestRelease { freeze } => match take(tokens, *freeze) {
+            Some(held) => ask(
+                runs,
+                tokens,
+                asked,
+                Event::GuestRelease {
+                    token: held.into_token(),
+                },
+            ),
+            None => Err(Unanswered::NotHeld),
+        },
+        Call::Clock { reading } => ask(runs, tokens, asked, Event::Clock { reading: *reading }),
+        Call::Park { run } => match take(runs, *run) {
+            Some(held) => ask(
+                runs,
+                tokens,
+                asked,
+                Event::Park {
+                    run: held.into_run(),
+                },
+            ),
+            None => Err(Unanswered::NotHeld),
+        },
+        Call::Resume { run } => ask(runs, tokens, asked, Event::Resume { run: *run }),
+    }
+}
+
+/// Lets the run of that number go on to its next stop, asks what that leads to, and keeps the run that is given or comes back. There is
+/// room for that.
+pub(crate) fn advance<A: Responder>(
+    runs: &mut Vec<HeldRun>,
+    tokens: &mut Vec<HeldToken>,
+    asked: &mut A,
+    run: u32,
+) -> Result<(), Unanswered>
+    requires sorted { AreSorted runs.old.items tokens.old.items }
+    requires runs { length runs.old.items < vec_capacity runs.old }
+    requires tokens { length tokens.old.items < vec_capacity tokens.old }
+    ensures settled { MatchResult result
+        (λ _. (answer : CallAnswer) × IsSettled (λ event reply. A.answers asked.old event reply asked.new) (IsAdvanceOf run) (HasNoRun run (handles runs.old.items tokens.old.items)) (asked.new ≡ asked.old) (handles runs.old.items tokens.old.items) (handles runs.new.items tokens.new.items) (Ok answer))
+        (λ fault. IsSettled (λ event reply. A.answers asked.old event reply asked.new) (IsAdvanceOf run) (HasNoRun run (handles runs.old.items tokens.old.items)) (asked.new ≡ asked.old) (handles runs.old.items tokens.old.items) (handles runs.new.items tokens.new.items) (Err fault)) }
+    ensures sorted { AreSorted runs.new.items tokens.new.items }
+{
+    let Some(held) = take(runs, run) else {
+        return Err(Unanswered::NotHeld);
+    };
+    let run = held.into_run().to_stop();
+    match ask(runs, tokens, asked, Event::Advance { run }) {
+        Ok(_) => Ok(()),
+        Err(fault) => Err(fault),
+    }
+}
+
+/// The completion that was reported so; `None` exactly where no device reports it.
+pub fn completion_of(reported: &CompletionRecord) -> Option<Completion>
+    ensures { SomeIff result (IsCompletion reported.now) reported.now }
+{
+    let sense = reported.sense();
+    Completion::new(
+        reported.ccb(),
+        reported.status(),
+        reported.scsi(),
+        sense.as_slice(),
+    )
+}

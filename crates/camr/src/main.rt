@@ -5,14 +5,13 @@
 ghost use Rattle.std.specs.Prelude.{◌≡◌, ◌<◌, ◌^◌, length, IfOk};
 ghost use Rattle.cli_line.specs.Files.{input_paths};
 
-use world_calls::Notices;
-use cli_line::{Manner, Plan, Watch, not_utf8, plan};
-use cli_commands::{Fault, Handing, carry, report_usage, serve};
-use host_live::Input;
+use cli_commands::{Fault, WriterSink, carry, report_usage, serve};
 use cli_io::{
     Clocked, Disk, Feeder, MOST_MANIFEST, MOST_PROGRAM, MOST_SCENARIO, MOST_TEXT, MOST_TRACE,
     Patient, Reading, Relay, Relayer, Telling, read_file, replace, words,
 };
+use cli_line::{Manner, Plan, Watch, not_utf8, plan};
+use host_live::Input;
 use std::fs::File;
 use std::io::{BufWriter, IsTerminal, Stderr, Write};
 use std::process::ExitCode;
@@ -21,6 +20,7 @@ use std::rt::{Files, Runtime};
 use std::sync::Wait;
 use std::thread::Threads;
 use std::{io, thread};
+use world_calls::Notices;
 
 fn main(rt: HostRuntime) -> ExitCode {
     let told = rt.stderr();
@@ -142,7 +142,7 @@ fn serve_input<R: Runtime + AllocGlobal, I: Input, E: Write>(
     err: &mut E,
 ) -> u8 {
     let mut out = Patient::new(rt, io::writer(rt));
-    let mut out = Handing::new(&mut out);
+    let mut out = WriterSink::new(&mut out);
     serve(
         rt.alloc(),
         manifest,

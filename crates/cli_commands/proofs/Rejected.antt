@@ -10,7 +10,7 @@ use Rattle.replay.specs.Replaying.{Replays}
 use Rattle.replay.specs.declared.fault.ReplayFault.{ReplayFault}
 use Rattle.scenario.specs.Said.{IfFault, IsFaultyLine, Say, lines_of}
 use Rattle.scenario.specs.declared.reading.FaultyLine.{FaultyLine}
-use Rattle.scenario.specs.declared.steps.Step.{Step}
+use Rattle.scenario.specs.Commands.{Step}
 use Rattle.host_scenario.specs.Faults.{IsOfRun}
 use Rattle.host_scenario.specs.declared.host.RunFault.{RunFault}
 use Rattle.host_scenario.specs.declared.host.RunFault.TheVariants as run
@@ -49,4 +49,4 @@ pub of_run : (error : RunFault) (one read manifest text : List ℕ) (setup : Set
 of_run run.OutOfMemory one read manifest text setup programs steps told means so say same refused = absurd cc
 of_run (run.NotHeld line) one read manifest text setup programs steps told means so say same refused =
     (setup, programs, steps, line, subst (λ (text : List ℕ). Means text setup programs) so means, subst (λ (text : List ℕ). Say (lines_of text) steps) same say, told line refl)
-of_run run.Unsettled one read manifest text setup programs steps told means so say same refused = absurd cc
+of_run run.InternalError one read manifest text setup programs steps told means so say same refused = absurd cc

@@ -1,12 +1,12 @@
 -- What went out of a live engine, and of a scenario's run.
 use Rattle.std.proofs.Common.{ℕ, List, Option, None, Some, refl}
 use Rattle.std.specs.Io.KnownBytes.{Keeps}
-use Rattle.host_live.specs.Telling.{IsOut}
+use Rattle.host_live.specs.Telling.{IsWrittenOut}
 use Rattle.world.specs.World.{version_of}
 use Rattle.cli_commands.specs.Told.{IsServed, IsServing}
 use Rattle.world.specs.World.{Setup}
 
-pub served : (manifest : List ℕ) (setup : Setup) (old new : Option (List ℕ)) → IsServing manifest setup → IsOut setup old new → IsServed manifest old new
+pub served : (manifest : List ℕ) (setup : Setup) (old new : Option (List ℕ)) → IsServing manifest setup → IsWrittenOut setup old new → IsServed manifest old new
 served manifest setup old new serving out = (
   out.bytes,
   out.told,

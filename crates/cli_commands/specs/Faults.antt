@@ -32,7 +32,7 @@ fault_of_scenario (part.Fault line) = fault.Line line.0
 abbrev pub fault_of_run : RunFault → Fault
 fault_of_run run.OutOfMemory = fault.OutOfMemory
 fault_of_run (run.NotHeld line) = fault.NotHeld line
-fault_of_run run.Unsettled = fault.Unsettled
+fault_of_run run.InternalError = fault.InternalError
 
 abbrev pub fault_of_trace : OrMemory TraceFault → Fault
 fault_of_trace part.OutOfMemory = fault.OutOfMemory
@@ -53,4 +53,4 @@ status_of (fault.Line line) = 1
 status_of (fault.NotHeld line) = 1
 status_of (fault.Trace f) = 1
 status_of (fault.Replay f) = 1
-status_of fault.Unsettled = 2
+status_of fault.InternalError = 2

@@ -17,7 +17,7 @@ use Rattle.base.specs.declared.or_memory.OrMemory.TheVariants as part
 use Rattle.replay.specs.Replaying.{IsFaultyAt}
 use Rattle.replay.specs.declared.fault.ReplayFault.{ReplayFault}
 use Rattle.scenario.specs.Said.{IsFaultyLine, Say, lines_of}
-use Rattle.scenario.specs.declared.steps.Step.{Step}
+use Rattle.scenario.specs.Commands.{Step}
 use Rattle.host_scenario.specs.Faults.{IsUnheldThen}
 use Rattle.host_scenario.specs.Traces.{IsOfScenario}
 use Rattle.trace.specs.Reading.{Says as SaysTrace}

@@ -13,12 +13,11 @@ ghost use Rattle.cli_commands.specs.Told.{IsAccepted, IsAsAsked, IsAssembled, Is
 
 use crate::fault::Fault;
 use crate::files::{text, unwritten, write};
-use crate::handing::Handing;
+use crate::handing::WriterSink;
 use crate::replaying::print_verdict;
 use crate::verdicts;
 use bpf_asm::{assemble, disassemble};
 use bpf_decode::{decode, encode};
-use world_calls::{Notices, Trace};
 use cli_line::Plan;
 use engine_core::Engine;
 use manifest::{Manifest, NamedProgram};
@@ -28,6 +27,7 @@ use std::io::Write;
 use std::sync::Wait;
 use std::thread::Threads;
 use workers::MAX_WORKERS;
+use world_calls::{Notices, Trace};
 
 /// Carries a plan out over the bytes of its input files, in the order of the line, and answers the status:
 /// 0 done; 1 refused; 2 for a file that is to be text and is not UTF-8, for want of memory, or where a writer fails. What is to
@@ -298,7 +298,7 @@ fn print_trace<W: Write>(trace: &Trace, out: &mut W) -> io::Result<()>
     requires { AllHaveText trace.now.version trace.now.records.items }
     ensures { IfOk result (λ _. IsPrinted trace.now (W.contents out.old) (W.contents out.new)) }
 {
-    let mut handing = Handing::new(out);
+    let mut handing = WriterSink::new(out);
     match trace::print(trace, &mut handing) {
         Ok(()) => Ok(()),
         Err(_) => Err(handing.last_failure()),

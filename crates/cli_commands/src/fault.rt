@@ -7,12 +7,12 @@ ghost use Rattle.cli_commands.specs.Faults.{fault_of_manifest, fault_of_program,
 use base::OrMemory;
 use bpf_asm::{AsmError, AsmFault};
 use bpf_decode::{DecodeError, DecodeFault};
+use cli_text_page::ForeignText;
+use host_scenario::RunFault;
 use manifest::{ManifestError, ManifestFault};
 use replay::{ReplayError, ReplayFault};
 use scenario::{FaultyLine, ScenarioError};
-use host_scenario::RunFault;
 use std::io::Write;
-use cli_text_page::ForeignText;
 use thiserror::Error;
 use trace::{TraceError, TraceFault};
 
@@ -46,7 +46,7 @@ pub enum Fault<'a> {
     Replay(ReplayFault),
     /// A scenario was not carried out to its end, which cannot be.
     #[error("unsettled")]
-    Unsettled,
+    InternalError,
 }
 
 impl Fault<'_> {
@@ -55,7 +55,7 @@ impl Fault<'_> {
         ensures { result ≡ status_of self.now }
     {
         match self {
-            Fault::OutOfMemory | Fault::File(_) | Fault::Unsettled => 2,
+            Fault::OutOfMemory | Fault::File(_) | Fault::InternalError => 2,
             Fault::Text(_)
             | Fault::Program(_)
             | Fault::Manifest(_)
@@ -130,7 +130,7 @@ impl<'a> From<RunFault> for Fault<'a> {
         match fault {
             RunFault::OutOfMemory => Fault::OutOfMemory,
             RunFault::NotHeld(line) => Fault::NotHeld(line),
-            RunFault::Unsettled => Fault::Unsettled,
+            RunFault::InternalError => Fault::InternalError,
         }
     }
 }

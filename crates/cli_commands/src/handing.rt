@@ -11,20 +11,20 @@ use trace::{Sink, WriteFailed};
 /// A writer, how often it failed, counted up to 2^64 - 1, and why it did so last. A write that was interrupted is tried again, and is
 /// none that failed.
 #[derive(Drop)]
-pub struct Handing<'a, W: Write> {
+pub struct WriterSink<'a, W: Write> {
     out: &'a mut W,
     failures: u64,
     last: io::Error,
 }
 
-impl<'a, W: Write> Handing<'a, W> {
+impl<'a, W: Write> WriterSink<'a, W> {
     /// The writer, which did not fail yet.
     pub fn new(out: &'a mut W) -> Self
         ensures same { result.out.ghost_name ≡ out.entry.ghost_name }
         ensures bytes { W.contents result.out.now ≡ W.contents out.old }
         ensures none { result.failures ≡ 0 }
     {
-        Handing {
+        WriterSink {
             out,
             failures: 0,
             last: io::Error::from(ErrorKind::WriteZero),
@@ -37,7 +37,7 @@ impl<'a, W: Write> Handing<'a, W> {
     }
 }
 
-impl<W: Write> Sink for Handing<'_, W> {
+impl<W: Write> Sink for WriterSink<'_, W> {
     ghost bytes = { λ handing. W.contents handing.out.now };
 
     ghost failures = { λ handing. handing.failures };

@@ -14,7 +14,7 @@ mod verdicts;
 pub use carrying::carry;
 pub use fault::Fault;
 pub use files::{status, text, unwritten};
-pub use handing::Handing;
+pub use handing::WriterSink;
 pub use replaying::replayed;
 pub use serving::serve;
 pub use usage::report_usage;

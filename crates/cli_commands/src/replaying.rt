@@ -7,11 +7,11 @@ ghost use Rattle.cli_commands.specs.Told.{IsAcceptedTrace, IsRejectedTrace, Puts
 
 use crate::fault::Fault;
 use crate::files::{text, write};
-use world_calls::{Notices, Trace};
 use manifest::Manifest;
 use replay::replay;
 use std::alloc::Global;
 use std::io::Write;
+use world_calls::{Notices, Trace};
 
 /// Prints that a trace is accepted over a manifest, each a path and its bytes, if it is, and answers the status.
 pub(crate) fn print_verdict<N: Notices, W: Write, E: Write>(

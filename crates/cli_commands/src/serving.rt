@@ -1,22 +1,22 @@
 // A manifest's engine that is asked over a pipe. It relies on `host_live` for what its lines ask and what goes out, and on `manifest` for the
 // engine's configuration.
 
-ghost use Rattle.std.specs.Prelude.{◌≡◌, ◌≢◌, ◌≤◌, IfErr, IfOk, IsErrAnd, IsUtf8};
+ghost use Rattle.std.specs.Prelude.{◌≡◌, ◌≢◌, ◌≤◌, IfErr, IfOk, IsErrAnd, IsTrue, IsUtf8};
 ghost use Rattle.std.specs.Io.KnownBytes.{Keeps};
-ghost use Rattle.host_live.specs.Telling.{IsBegun, IsOut};
+ghost use Rattle.host_live.specs.Telling.{IsBegun, IsWrittenOut};
 ghost use Rattle.manifest.specs.Meaning.{Means};
 ghost use Rattle.cli_commands.specs.Faults.{status_of};
 ghost use Rattle.cli_commands.specs.Told.{IsFaultyManifest, IsManifest, IsServed, IsServing, IsStopped};
 
 use crate::fault::Fault;
 use crate::files::text;
-use world_calls::{Notice, Totals};
 use engine_config::Config;
 use host_live::{Input, LineFault, LiveFault, Reports};
 use manifest::Manifest;
 use std::alloc::Global;
 use std::io::Write;
 use trace::Sink;
+use world_calls::{Notice, Totals};
 
 /// How the input is called where it cannot be read.
 const INPUT: &str = "standard input";
@@ -37,8 +37,9 @@ pub fn serve<I: Input, S: Sink, E: Write>(
     ensures done { result ≡ 0 → IsManifest manifest.entry.1.now }
     // All that went out is a trace that a replay over the manifest accepts.
     ensures accepted { result ≡ 0 → IsServed manifest.entry.1.now (S.bytes out.old) (S.bytes out.new) }
-    // It is at its end only where no read failed.
+    // It is at its end only if no read failed, and all of the input was read.
     ensures read { result ≡ 0 → I.has_failed input.new ≡ I.has_failed input.old }
+    ensures ended { result ≡ 0 → IsTrue (I.has_ended input.new) }
     // Where it stopped, it is a front of one.
     ensures stopped { result ≡ 2 → IsStopped manifest.entry.1.now (S.bytes out.old) (S.bytes out.new) }
     ensures refused { result ≡ 1 → IsFaultyManifest manifest.entry.1.now }
@@ -69,12 +70,13 @@ fn serve_on<I: Input, S: Sink, E: Write>(
     err: &mut E,
 ) -> u8
     ensures status { (result ≢ 1) × (result ≤ 2) }
-    ensures whole { result ≡ 0 → IsOut config (S.bytes out.old) (S.bytes out.new) }
+    ensures whole { result ≡ 0 → IsWrittenOut config (S.bytes out.old) (S.bytes out.new) }
     ensures read { result ≡ 0 → I.has_failed input.new ≡ I.has_failed input.old }
+    ensures ended { result ≡ 0 → IsTrue (I.has_ended input.new) }
     ensures begun { result ≡ 2 → IsBegun config (S.bytes out.old) (S.bytes out.new) }
 {
     let mut telling = Telling { err: &mut *err };
-    match host_live::serve(alloc, config, is_stepped, input, out, &mut telling) {
+    match host_live::serve(alloc, &config, is_stepped, input, out, &mut telling) {
         Ok(()) => 0,
         Err(fault) => report(fault, err),
     }
@@ -87,7 +89,7 @@ fn report<E: Write>(fault: LiveFault, err: &mut E) -> u8
     match fault {
         LiveFault::OutOfMemory => Fault::OutOfMemory.report(err),
         LiveFault::Unread => Fault::File(INPUT).report(err),
-        LiveFault::Unsettled => Fault::Unsettled.report(err),
+        LiveFault::InternalError => Fault::InternalError.report(err),
         LiveFault::Unwritten => 2,
     }
 }

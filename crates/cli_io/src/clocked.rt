@@ -18,6 +18,7 @@ pub struct Clocked<'a, R: Wait + Clock> {
     bytes: Vec<u8>,
     len: usize,
     has_failed: bool,
+    has_ended: bool,
 }
 
 impl<'a, R: Wait + Clock> Clocked<'a, R> {
@@ -32,6 +33,7 @@ impl<'a, R: Wait + Clock> Clocked<'a, R> {
             bytes: vec![in alloc; 0; PIECE]?,
             len: 0,
             has_failed: false,
+            has_ended: false,
         };
         Ok((clocked, feeder))
     }
@@ -40,6 +42,8 @@ impl<'a, R: Wait + Clock> Clocked<'a, R> {
 impl<R: Wait + Clock> Input for Clocked<'_, R> {
     ghost has_failed = { λ clocked. clocked.has_failed };
 
+    ghost has_ended = { λ clocked. clocked.has_ended };
+
     fn wait(&mut self, until: Option<u64>) -> Came {
         match take(self.rt, &self.clock, &self.feed, until, &mut self.bytes) {
             Handed::Nothing => Came::Due(self.now().or(until).unwrap_or(0)),
@@ -47,7 +51,10 @@ impl<R: Wait + Clock> Input for Clocked<'_, R> {
                 self.len = len;
                 Came::Bytes
             }
-            Handed::End => Came::End,
+            Handed::End => {
+                self.has_ended = true;
+                Came::End
+            }
             Handed::Failed => {
                 self.has_failed = true;
                 Came::Failed

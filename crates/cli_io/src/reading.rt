@@ -16,6 +16,7 @@ pub struct Reading<R: Read + Drop> {
     bytes: Vec<u8>,
     len: usize,
     has_failed: bool,
+    has_ended: bool,
 }
 
 impl<R: Read + Drop> Reading<R> {
@@ -26,6 +27,7 @@ impl<R: Read + Drop> Reading<R> {
             bytes: vec![in alloc; 0; PIECE]?,
             len: 0,
             has_failed: false,
+            has_ended: false,
         })
     }
 }
@@ -33,9 +35,14 @@ impl<R: Read + Drop> Reading<R> {
 impl<R: Read + Drop> Input for Reading<R> {
     ghost has_failed = { λ reading. reading.has_failed };
 
+    ghost has_ended = { λ reading. reading.has_ended };
+
     fn wait(&mut self, _until: Option<u64>) -> Came {
         match read_some(&mut self.reader, self.bytes.as_mut_slice()) {
-            Ok(0) => Came::End,
+            Ok(0) => {
+                self.has_ended = true;
+                Came::End
+            }
             Ok(len) => {
                 self.len = len;
                 Came::Bytes

@@ -2,10 +2,10 @@
 // when.
 
 use crate::stopwatch::Stopwatch;
-use world_calls::{Notice, Notices};
 use std::io::{Stderr, Write};
 use std::rt::Clock;
 use std::sync::atomic::{AtomicU64, Ordering};
+use world_calls::{Notice, Notices};
 
 /// How long it is silent, in milliseconds: at first, and after each notice.
 const SILENCE: u64 = 500;

@@ -1,23 +1,177 @@
--- How an engine's history grows.
-use Rattle.std.proofs.Common.{◌≡◌, ◌∙◌, Option, Some, None, MatchOption, List, [], ◌∷◌, ◌++◌, refl, sym, ap, append_assoc, append-nil}
+-- How an engine goes on whose records are printed as they come.
+use Rattle.std.proofs.Common.{◌≡◌, ◌∙◌, ℕ, ◌+◌, Bool, true, false, Option, Some, None, List, [], ◌∷◌, ◌++◌, length, refl, sym, ap, subst, append_assoc, append-nil, length-append, arith, inl, inr, ◌⊎◌}
+use Rattle.std.specs.Fmt.{option_append}
+use Rattle.std.proofs.lemmas.Bool.{cases_Bool}
 use Rattle.world_calls.specs.declared.record.Record.{Record}
-use Rattle.engine_core.specs.EngineState.{EngineState, Records}
-use Rattle.host_live.specs.Growth.{Grows}
+use Rattle.world_calls.specs.declared.trace.Version.{Version}
+use Rattle.engine_core.specs.ByNumber.{NumberedState, IsBehind, RecordFollows}
+use Rattle.trace.specs.Growing.{Goes, GrowingState, IsFront, StopsIn}
+use Rattle.trace.specs.Sinks.{HasFailed}
+use Rattle.trace.specs.TraceText.{record_text, records_text}
+use Rattle.trace.proofs.Grown.{Fronts, goes_both, goes_none, stops_at, stops_on}
+use Rattle.trace.proofs.Printing.{no_records, nothing_append, records_both, records_push}
+use Rattle.host_live.specs.declared.printed.Printed.{Printed}
+use Rattle.host_live.specs.Growth.{Grows, GrowsBy, PrintedState, Prints, PrintsAll, went, stopped, stayed}
 
-pub grows_none : (engine : EngineState) → Grows engine engine
-grows_none engine = record { more = []; history = sym (append-nil engine.history); setup = refl }
+-- ---- what is printed
 
-pub grows_same : (old new : EngineState) → new ≡ old → Grows old new
-grows_same old new same = record { more = []; history = ap (λ (e : EngineState). e.history) same ∙ sym (append-nil old.history); setup = ap (λ (e : EngineState). e.setup) same }
+no_more : (version : Version) (waiting : List ℕ) (at : Option (List ℕ)) → Goes (records_text version []) waiting at waiting at
+no_more version waiting at = subst (λ (t : Option (List ℕ)). Goes t waiting at waiting at) (sym (no_records version)) (goes_none waiting at)
 
-pub grows_both : (old mid new : EngineState) → Grows old mid → Grows mid new → Grows old new
-grows_both old mid new first second = record {
-  more = first.more ++ second.more;
-  history = second.history ∙ ap (λ (h : List Record). h ++ second.more) first.history ∙ append_assoc old.history first.more second.more;
-  setup = second.setup ∙ first.setup;
+prints_none : (printed : Printed) (at : Option (List ℕ)) (failed : ℕ) → Prints printed at failed [] printed at failed
+prints_none printed at failed = elim (cases_Bool printed.has_failed) [
+  | inl yes_failed ↦ stayed yes_failed yes_failed refl refl
+  | inr not_failed ↦ went not_failed not_failed (no_more printed.lines.version printed.lines.waiting at) refl
+]
+
+clash : {A : Type 0} (b : Bool) → b ≡ false → b ≡ true → A
+clash b is other = absurd (let bad : false ≡ true = sym is ∙ other in cc)
+
+prints_both : (old mid new : Printed) (at between to : Option (List ℕ)) (failed some fails : ℕ) (more others : List Record) → mid.lines.version ≡ old.lines.version
+    → Prints old at failed more mid between some → Prints mid between some others new to fails → Prints old at failed (more ++ others) new to fails
+prints_both old mid new at between to failed some fails more others version (went a b goes none) (went c d on same) =
+    went a d
+    (subst (λ (t : Option (List ℕ)). Goes t old.lines.waiting at new.lines.waiting to) (sym (records_both old.lines.version more others))
+    (goes_both (records_text old.lines.version more) (records_text old.lines.version others) old.lines.waiting mid.lines.waiting new.lines.waiting at between to goes
+    (subst (λ (v : Version). Goes (records_text v others) mid.lines.waiting between new.lines.waiting to) version on)))
+    (same ∙ none)
+prints_both old mid new at between to failed some fails more others version (went a b goes none) (stopped c d shown rest whole stops fault) =
+    stopped a d (more ++ shown) rest
+    (ap (λ (t : List Record). more ++ t) whole ∙ sym (append_assoc more shown rest))
+    (subst (λ (t : Option (List ℕ)). StopsIn t old.lines.waiting at to) (sym (records_both old.lines.version more shown))
+    (stops_on (records_text old.lines.version more) (records_text old.lines.version shown) old.lines.waiting mid.lines.waiting at between to goes
+    (subst (λ (v : Version). StopsIn (records_text v shown) mid.lines.waiting between to) version stops)))
+    (subst (λ (n : ℕ). HasFailed n fails) none fault)
+prints_both old mid new at between to failed some fails more others version (went a b goes none) (stayed c d same still) = clash mid.has_failed b c
+prints_both old mid new at between to failed some fails more others version (stopped a b shown rest whole stops fault) (went c d on same) = clash mid.has_failed c b
+prints_both old mid new at between to failed some fails more others version (stopped a b shown rest whole stops fault) (stopped c d again left all stop faults) = clash mid.has_failed c b
+prints_both old mid new at between to failed some fails more others version (stopped a b shown rest whole stops fault) (stayed c d same still) =
+    stopped a d shown (rest ++ others)
+    (ap (λ (t : List Record). t ++ others) whole ∙ append_assoc shown rest others)
+    (subst (λ (t : Option (List ℕ)). StopsIn (records_text old.lines.version shown) old.lines.waiting at t) (sym same) stops)
+    (subst (λ (n : ℕ). HasFailed failed n) (sym still) fault)
+prints_both old mid new at between to failed some fails more others version (stayed a b same still) (went c d on none) = clash mid.has_failed c b
+prints_both old mid new at between to failed some fails more others version (stayed a b same still) (stopped c d shown rest whole stops fault) = clash mid.has_failed c b
+prints_both old mid new at between to failed some fails more others version (stayed a b same still) (stayed c d again more_still) = stayed a d (again ∙ same) (more_still ∙ still)
+
+all_both : (old mid new : Printed) (at between to : Option (List ℕ)) (failed some fails : ℕ) (more others : List Record)
+    → PrintsAll old at failed more mid between some → PrintsAll mid between some others new to fails → PrintsAll old at failed (more ++ others) new to fails
+all_both old mid new at between to failed some fails more others first second = record {
+  version = second.version ∙ first.version;
+  count = omega (arith, first.count, second.count, length-append more others);
+  prints = prints_both old mid new at between to failed some fails more others first.version first.prints second.prints;
 }
 
--- an answer is one record more, or none
-pub grows_recorded : (told : Option Record) (old new : EngineState) → MatchOption told (new ≡ old) (λ answer. Records old new answer) → Grows old new
-grows_recorded None old new same = grows_same old new same
-grows_recorded (Some answer) old new one = record { more = answer ∷ []; history = one.history; setup = one.setup }
+pub all_none : (printed : Printed) (at : Option (List ℕ)) (failed : ℕ) → PrintsAll printed at failed [] printed at failed
+all_none printed at failed = record { version = refl; count = omega arith; prints = prints_none printed at failed }
+
+-- the line of one record
+one_text : (version : Version) (told : Record) → records_text version (told ∷ []) ≡ record_text version told
+one_text version told = records_push version [] told ∙ (ap (λ (t : Option (List ℕ)). option_append t (record_text version told)) (no_records version) ∙ nothing_append (record_text version told))
+
+pub one_went : (old new : Printed) (at to : Option (List ℕ)) (failed fails : ℕ) (told : Record) → old.has_failed ≡ false → new.has_failed ≡ false → new.lines.version ≡ old.lines.version → new.count ≡ old.count + 1
+    → Goes (record_text old.lines.version told) old.lines.waiting at new.lines.waiting to → fails ≡ failed → PrintsAll old at failed (told ∷ []) new to fails
+one_went old new at to failed fails told whole still version count goes none = record {
+  version = version;
+  count = count;
+  prints = went whole still (subst (λ (t : Option (List ℕ)). Goes t old.lines.waiting at new.lines.waiting to) (sym (one_text old.lines.version told)) goes) none;
+}
+
+pub one_stopped : (old new : Printed) (at to : Option (List ℕ)) (failed fails : ℕ) (told : Record) → old.has_failed ≡ false → new.has_failed ≡ true → new.lines.version ≡ old.lines.version → new.count ≡ old.count + 1
+    → StopsIn (Some []) old.lines.waiting at to → HasFailed failed fails → PrintsAll old at failed (told ∷ []) new to fails
+one_stopped old new at to failed fails told whole faulty version count stops fault = record {
+  version = version;
+  count = count;
+  prints = stopped whole faulty [] (told ∷ []) refl (subst (λ (t : Option (List ℕ)). StopsIn t old.lines.waiting at to) (sym (no_records old.lines.version)) stops) fault;
+}
+
+pub one_stayed : (old new : Printed) (at : Option (List ℕ)) (failed : ℕ) (told : Record) → old.has_failed ≡ true → new.has_failed ≡ true → new.lines.version ≡ old.lines.version → new.count ≡ old.count + 1 → PrintsAll old at failed (told ∷ []) new at failed
+one_stayed old new at failed told faulty still version count = record { version = version; count = count; prints = stayed faulty still refl refl }
+
+-- what waits is handed on
+pub handed_went : (old new : Printed) (at to : Option (List ℕ)) (failed fails : ℕ) → old.has_failed ≡ false → new.has_failed ≡ false → new.lines.version ≡ old.lines.version → new.count ≡ old.count
+    → Goes (Some []) old.lines.waiting at new.lines.waiting to → fails ≡ failed → PrintsAll old at failed [] new to fails
+handed_went old new at to failed fails whole still version count goes none = record {
+  version = version;
+  count = omega (arith, count);
+  prints = went whole still (subst (λ (t : Option (List ℕ)). Goes t old.lines.waiting at new.lines.waiting to) (sym (no_records old.lines.version)) goes) none;
+}
+
+pub handed_stopped : (old new : Printed) (at to : Option (List ℕ)) (failed fails : ℕ) → old.has_failed ≡ false → new.has_failed ≡ true → new.lines.version ≡ old.lines.version → new.count ≡ old.count
+    → Fronts (Some []) old.lines.waiting at to → HasFailed failed fails → PrintsAll old at failed [] new to fails
+handed_stopped old new at to failed fails whole faulty version count fronts fault = record {
+  version = version;
+  count = omega (arith, count);
+  prints = stopped whole faulty [] [] refl (subst (λ (t : Option (List ℕ)). StopsIn t old.lines.waiting at to) (sym (no_records old.lines.version)) (stops_at [] old.lines.waiting at to fronts)) fault;
+}
+
+-- ---- what the engine makes
+
+pub by_none : (old : PrintedState) (at : Option (List ℕ)) (failed : ℕ) → GrowsBy [] old at failed old at failed
+by_none old at failed = record {
+  setup = refl;
+  follows = λ records behind. subst (λ (rs : List Record). IsBehind rs old.engine) (sym (append-nil records)) behind;
+  printed = all_none old.printed at failed;
+}
+
+-- the trace went on, and the engine stayed
+pub by_printed : (engine : NumberedState) (old new : Printed) (at to : Option (List ℕ)) (failed fails : ℕ) → PrintsAll old at failed [] new to fails
+    → GrowsBy [] (record { engine = engine; printed = old }) at failed (record { engine = engine; printed = new }) to fails
+by_printed engine old new at to failed fails all = record {
+  setup = refl;
+  follows = λ records behind. subst (λ (rs : List Record). IsBehind rs engine) (sym (append-nil records)) behind;
+  printed = all;
+}
+
+-- nothing was made
+pub by_still : (engine after : NumberedState) (printed : Printed) (at : Option (List ℕ)) (failed : ℕ) → after ≡ engine
+    → GrowsBy [] (record { engine = engine; printed = printed }) at failed (record { engine = after; printed = printed }) at failed
+by_still engine after printed at failed same =
+    subst (λ (e : NumberedState). GrowsBy [] (record { engine = engine; printed = printed }) at failed (record { engine = e; printed = printed }) at failed) (sym same)
+    (by_none (record { engine = engine; printed = printed }) at failed)
+
+-- one record was made, and printed
+pub by_one : (engine after : NumberedState) (old new : Printed) (at to : Option (List ℕ)) (failed fails : ℕ) (told : Record) → RecordFollows engine told after → after.setup ≡ engine.setup → PrintsAll old at failed (told ∷ []) new to fails
+    → GrowsBy (told ∷ []) (record { engine = engine; printed = old }) at failed (record { engine = after; printed = new }) to fails
+by_one engine after old new at to failed fails told follows setup all = record { setup = setup; follows = follows; printed = all }
+
+both_by : (old mid new : PrintedState) (at between to : Option (List ℕ)) (failed some fails : ℕ) (more others : List Record)
+    → GrowsBy more old at failed mid between some → GrowsBy others mid between some new to fails → GrowsBy (more ++ others) old at failed new to fails
+both_by old mid new at between to failed some fails more others first second = record {
+  setup = second.setup ∙ first.setup;
+  follows = λ records behind. subst (λ (rs : List Record). IsBehind rs new.engine) (append_assoc records more others) (second.follows (records ++ more) (first.follows records behind));
+  printed = all_both old.printed mid.printed new.printed at between to failed some fails more others first.printed second.printed;
+}
+
+-- ---- whatever it makes
+
+pub grows_none : (old : PrintedState) (at : Option (List ℕ)) (failed : ℕ) → Grows old at failed old at failed
+grows_none old at failed = record { more = []; by = by_none old at failed }
+
+pub grows_same : (old new : PrintedState) (at : Option (List ℕ)) (failed : ℕ) → new ≡ old → Grows old at failed new at failed
+grows_same old new at failed same = subst (λ (e : PrintedState). Grows old at failed e at failed) (sym same) (grows_none old at failed)
+
+pub grows_by : (more : List Record) (old new : PrintedState) (at to : Option (List ℕ)) (failed fails : ℕ) → GrowsBy more old at failed new to fails → Grows old at failed new to fails
+grows_by more old new at to failed fails by = record { more = more; by = by }
+
+pub grows_both : (old mid new : PrintedState) (at between to : Option (List ℕ)) (failed some fails : ℕ) → Grows old at failed mid between some → Grows mid between some new to fails → Grows old at failed new to fails
+grows_both old mid new at between to failed some fails first second = record {
+  more = first.more ++ second.more;
+  by = both_by old mid new at between to failed some fails first.more second.more first.by second.by;
+}
+
+-- a write failed meanwhile
+pub failed_meanwhile : (old new : PrintedState) (at to : Option (List ℕ)) (failed fails : ℕ) → old.printed.has_failed ≡ false → new.printed.has_failed ≡ true → Grows old at failed new to fails → HasFailed failed fails
+failed_meanwhile old new at to failed fails whole faulty grows = elim grows.by.printed.prints [
+  | went a b goes none ↦ clash new.printed.has_failed b faulty
+  | stopped a b shown rest all stops fault ↦ fault
+  | stayed a b same still ↦ clash old.printed.has_failed whole a
+]
+
+-- none failed
+pub none_failed : (old new : PrintedState) (at to : Option (List ℕ)) (failed fails : ℕ) → new.printed.has_failed ≡ false → Grows old at failed new to fails → fails ≡ failed
+none_failed old new at to failed fails whole grows = elim grows.by.printed.prints [
+  | went a b goes none ↦ none
+  | stopped a b shown rest all stops fault ↦ clash new.printed.has_failed whole b
+  | stayed a b same still ↦ still
+]

@@ -1,4 +1,4 @@
 pub mod Growing
 pub mod Told
 pub mod Spelled
-pub mod Opening
+pub mod Underway

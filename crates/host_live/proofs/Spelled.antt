@@ -1,138 +1,86 @@
 -- What lines ask for.
-use Rattle.std.proofs.Common.{◌≡◌, ◌∙◌, ◌==◌, ◌++◌, ℕ, true, false, cond, Option, Some, None, IfSome, List, ap, bytes_eq, codes, drop, get_or, refl, sym}
+use Rattle.std.proofs.Common.{◌≡◌, ◌∙◌, ◌==◌, ◌++◌, ℕ, true, false, cond, Option, Some, None, IfOk, IfSome, Result, Ok, Err, List, ap, bytes_eq, codes, drop, get_or, refl, sym, subst}
 use Rattle.std.specs.Fmt.{option_append}
-use Rattle.trace_lines.specs.Calls.{one, word_text}
-use Rattle.trace_lines.specs.Lines.{fields_text, line_text}
-use Rattle.trace_lines.specs.Rows.{row_of}
-use Rattle.trace_lines.specs.Values.{number_in}
+use Rattle.trace_lines.specs.Calls.{call_of, values_of, word_of, word_text}
+use Rattle.trace_lines.specs.Lines.{line_text}
 use Rattle.trace_lines.specs.declared.kind.Slots.{Slots}
 use Rattle.trace_lines.specs.declared.value.Value.{Value}
-use Rattle.trace_lines.specs.declared.value.Value.TheVariants as values
 use Rattle.trace_lines.specs.declared.word.Word.{Word}
 use Rattle.trace_lines.specs.declared.word.Word.TheVariants as words
 use Rattle.trace_lines.specs.Reading.{ReadsLine}
 use Rattle.trace_lines.specs.Texts.{number_text}
 use Rattle.trace_lines.specs.Written.{Reads}
+use Rattle.trace_lines.proofs.Back.{calls_are_lines}
 use Rattle.trace_lines.proofs.Tests.{joined, parts_of, same_bytes, same_text}
-use Rattle.trace_lines.proofs.Held.{as_one, holds_nothing, holds_number, slots_of}
 use Rattle.ccb.specs.declared.place.Place.TheVariants.{Controller, Device}
-use Rattle.scenario.specs.Commands.{command_text}
-use Rattle.scenario.specs.declared.steps.Command.{Command as TheCommand}
-use Rattle.scenario.specs.declared.steps.Command.TheVariants as commands
+use Rattle.world_calls.specs.declared.call.Call.{Call as TheCall}
+use Rattle.world_calls.specs.declared.call.Call.TheVariants as calls
 use Rattle.host_live.specs.Requests.{call_text, drive_text, own_text, request_text, step_text}
 use Rattle.host_live.specs.declared.request.Request.{Request}
-use Rattle.host_live.specs.declared.request.Request.TheVariants.{Command, Step, Drive, Park, Resume, Totals}
-
--- ---- the values of a line
-
-pub number_is : (a b : ℕ) (o : Option ℕ) → o ≡ Some a → o ≡ Some b → a ≡ b
-number_is a b o p q = cc
-
-pub park_said : (held : Slots Value) (line : List ℕ) (run : ℕ) → line_text words.Park held ≡ Some line → number_in held.first ≡ Some run → call_text (Park run) ≡ Some line
-unfolding row_of
-park_said held line run e is =
-    let parts = parts_of (Some (word_text words.Park)) (fields_text (row_of words.Park).fields held) line e in
-    let s = slots_of (row_of words.Park).fields held parts.1 parts.3 in
-    let a = holds_number held.first s.one s.first in
-    let same = number_is a.0 run (number_in held.first) (ap number_in a.1) is in
-    let all : held ≡ one (values.Number run) = as_one held (values.Number run) (a.1 ∙ ap (λ (n : ℕ). Some (values.Number n)) same) (holds_nothing held.second s.two s.second) (holds_nothing held.third s.three s.third) (holds_nothing held.fourth s.four s.fourth) in
-    ap (line_text words.Park) (sym all) ∙ e
-
-pub resume_said : (held : Slots Value) (line : List ℕ) (run : ℕ) → line_text words.Resume held ≡ Some line → number_in held.first ≡ Some run → call_text (Resume run) ≡ Some line
-unfolding row_of
-resume_said held line run e is =
-    let parts = parts_of (Some (word_text words.Resume)) (fields_text (row_of words.Resume).fields held) line e in
-    let s = slots_of (row_of words.Resume).fields held parts.1 parts.3 in
-    let a = holds_number held.first s.one s.first in
-    let same = number_is a.0 run (number_in held.first) (ap number_in a.1) is in
-    let all : held ≡ one (values.Number run) = as_one held (values.Number run) (a.1 ∙ ap (λ (n : ℕ). Some (values.Number n)) same) (holds_nothing held.second s.two s.second) (holds_nothing held.third s.three s.third) (holds_nothing held.fourth s.four s.fourth) in
-    ap (line_text words.Resume) (sym all) ∙ e
+use Rattle.host_live.specs.declared.request.Request.TheVariants.{Call, Step, Drive, Drain, Totals}
 
 -- ---- a line is of one kind
 
--- which by its letters: `totals`, `park`, `resume`, `step`, `drive`, and all else
+-- which by its letters: `totals`, `step`, `drive`, `drain`, and all else
 kind_at : List ℕ → ℕ
-kind_at text = cond (get_or text 0 0 == 116) 5 (cond (get_or text 0 0 == 112) 3 (cond (get_or text 0 0 == 114) 4 (cond (get_or text 1 0 == 116) 1 (cond (get_or text 2 0 == 105) 2 0))))
+kind_at text = cond (get_or text 0 0 == 116) 4 (cond (get_or text 1 0 == 116) 1 (cond (get_or text 2 0 == 105) 2 (cond (get_or text 3 0 == 105) 3 0)))
 
 kind_of : Request → ℕ
-kind_of (Command command) = 0
+kind_of (Call call) = 0
 kind_of (Step run) = 1
 kind_of (Drive run) = 2
-kind_of (Park run) = 3
-kind_of (Resume run) = 4
-kind_of Totals = 5
+kind_of Drain = 3
+kind_of Totals = 4
 
 begins : (word : List ℕ) (fields : Option (List ℕ)) (line : List ℕ) → option_append (Some word) fields ≡ Some line → (rest : List ℕ) × (fields ≡ Some rest) × (line ≡ word ++ rest)
 begins word fields line e =
     let parts = parts_of (Some word) fields line e in
     (parts.1, parts.3, parts.4 ∙ ap (λ (t : List ℕ). t ++ parts.1) (sym (same_text word parts.0 parts.2)))
 
-command_kind : (command : TheCommand) (line : List ℕ) → command_text command ≡ Some line → kind_at line ≡ 0
+call_kind : (call : TheCall) (line : List ℕ) → call_text call ≡ Some line → kind_at line ≡ 0
 unfolding kind_at
-command_kind (commands.Submit queue priority retries) line e = ap kind_at (begins (word_text words.Submit) _ line e).2
-command_kind (commands.Dispatch queue) line e = ap kind_at (begins (word_text words.Dispatch) _ line e).2
-command_kind (commands.Complete outcome) line e = ap kind_at (begins (word_text words.Complete) _ line e).2
-command_kind commands.Drain line e = ap kind_at (sym (same_text (codes "drain") line e))
-command_kind (commands.GuestFreeze (Device queue) guest) line e = ap kind_at (begins (word_text words.FreezeQueue) _ line e).2
-command_kind (commands.GuestFreeze (Controller controller) guest) line e = ap kind_at (begins (word_text words.FreezeController) _ line e).2
-command_kind (commands.GuestRelease freeze) line e = ap kind_at (begins (word_text words.ReleaseFreeze) _ line e).2
-command_kind (commands.Clock reading) line e = ap kind_at (begins (word_text words.Clock) _ line e).2
+call_kind (calls.Submit queue priority retries) line e = ap kind_at (begins (word_text words.Submit) _ line e).2
+call_kind (calls.Dispatch queue) line e = ap kind_at (begins (word_text words.Dispatch) _ line e).2
+call_kind (calls.Complete outcome) line e = ap kind_at (begins (word_text words.Complete) _ line e).2
+call_kind (calls.GuestFreeze (Device queue) guest) line e = ap kind_at (begins (word_text words.FreezeQueue) _ line e).2
+call_kind (calls.GuestFreeze (Controller controller) guest) line e = ap kind_at (begins (word_text words.FreezeController) _ line e).2
+call_kind (calls.GuestRelease freeze) line e = ap kind_at (begins (word_text words.ReleaseFreeze) _ line e).2
+call_kind (calls.Clock reading) line e = ap kind_at (begins (word_text words.Clock) _ line e).2
+call_kind (calls.Park run) line e = ap kind_at (begins (word_text words.Park) _ line e).2
+call_kind (calls.Resume run) line e = ap kind_at (begins (word_text words.Resume) _ line e).2
 
 kind_is : (request : Request) (line : List ℕ) → request_text request ≡ Some line → kind_at line ≡ kind_of request
 unfolding kind_at kind_of
-kind_is (Command command) line e = command_kind command line e
+kind_is (Call call) line e = call_kind call line e
 kind_is (Step run) line e = ap kind_at (begins (codes "step ") _ line e).2
 kind_is (Drive run) line e = ap kind_at (begins (codes "drive ") _ line e).2
-kind_is (Park run) line e = ap kind_at (begins (word_text words.Park) _ line e).2
-kind_is (Resume run) line e = ap kind_at (begins (word_text words.Resume) _ line e).2
+kind_is Drain line e = ap kind_at (sym (same_text (codes "drain") line e))
 kind_is Totals line e = ap kind_at (sym (same_text (codes "totals") line e))
 
 same_kind : (a b : Request) (line : List ℕ) → request_text a ≡ Some line → request_text b ≡ Some line → kind_of a ≡ kind_of b
 same_kind a b line e f = sym (kind_is a line e) ∙ kind_is b line f
 
--- ---- a command of a scenario
+-- ---- a request that is no call
 
-command_only : (line : List ℕ) (command : TheCommand) → Reads command_text line (Some command) → (request : Request) → request_text request ≡ Some line → ◌≡◌ {A = Option Request} (Some (Command command)) (Some request)
+drain_only : (line : List ℕ) → line ≡ codes "drain" → (request : Request) → own_text request ≡ Some line → ◌≡◌ {A = Option Request} (Some Drain) (Some request)
 unfolding kind_of
-command_only line command reads (Command other) e = let same = reads.back other e in cc
-command_only line command reads (Step run) e = let kind : true ≡ false = ap (λ (n : ℕ). n == 0) (same_kind (Command command) (Step run) line reads.said e) in absurd cc
-command_only line command reads (Drive run) e = let kind : true ≡ false = ap (λ (n : ℕ). n == 0) (same_kind (Command command) (Drive run) line reads.said e) in absurd cc
-command_only line command reads (Park run) e = let kind : true ≡ false = ap (λ (n : ℕ). n == 0) (same_kind (Command command) (Park run) line reads.said e) in absurd cc
-command_only line command reads (Resume run) e = let kind : true ≡ false = ap (λ (n : ℕ). n == 0) (same_kind (Command command) (Resume run) line reads.said e) in absurd cc
-command_only line command reads Totals e = let kind : true ≡ false = ap (λ (n : ℕ). n == 0) (same_kind (Command command) Totals line reads.said e) in absurd cc
+drain_only line is (Call other) e = absurd cc
+drain_only line is (Step other) e = let kind : true ≡ false = ap (λ (n : ℕ). n == 3) (same_kind Drain (Step other) line (ap Some (sym is)) e) in absurd cc
+drain_only line is (Drive other) e = let kind : true ≡ false = ap (λ (n : ℕ). n == 3) (same_kind Drain (Drive other) line (ap Some (sym is)) e) in absurd cc
+drain_only line is Drain e = refl
+drain_only line is Totals e = let kind : true ≡ false = ap (λ (n : ℕ). n == 3) (same_kind Drain Totals line (ap Some (sym is)) e) in absurd cc
 
-pub command_reads : (line : List ℕ) (command : TheCommand) → Reads command_text line (Some command) → Reads request_text line (Some (Command command))
-command_reads line command reads = record { said = reads.said; back = λ request e. command_only line command reads request e }
-
--- ---- what is none
-
-own_said : (line : List ℕ) (made : Option Request) → IfSome made (λ request. own_text request ≡ Some line) → IfSome made (λ request. request_text request ≡ Some line)
-own_said line None said = tt
-own_said line (Some (Command command)) said = absurd cc
-own_said line (Some (Step run)) said = said
-own_said line (Some (Drive run)) said = said
-own_said line (Some (Park run)) said = said
-own_said line (Some (Resume run)) said = said
-own_said line (Some Totals) said = said
-
-own_back : (line : List ℕ) (made : Option Request) → Reads command_text line None → Reads own_text line made → (request : Request) → request_text request ≡ Some line → made ≡ Some request
-own_back line made none own (Command command) e = let same = none.back command e in absurd cc
-own_back line made none own (Step run) e = own.back (Step run) e
-own_back line made none own (Drive run) e = own.back (Drive run) e
-own_back line made none own (Park run) e = own.back (Park run) e
-own_back line made none own (Resume run) e = own.back (Resume run) e
-own_back line made none own Totals e = own.back Totals e
-
-pub own_reads : (line : List ℕ) (made : Option Request) → Reads command_text line None → Reads own_text line made → Reads request_text line made
-own_reads line made none own = record { said = own_said line made own.said; back = λ request e. own_back line made none own request e }
+pub drain_reads : (line : List ℕ) → bytes_eq line (codes "drain") ≡ true → Reads own_text line (Some Drain)
+drain_reads line test =
+    let is = same_bytes line (codes "drain") test in
+    record { said = ap Some (sym is); back = λ request e. drain_only line is request e }
 
 totals_only : (line : List ℕ) → line ≡ codes "totals" → (request : Request) → own_text request ≡ Some line → ◌≡◌ {A = Option Request} (Some Totals) (Some request)
 unfolding kind_of
-totals_only line is (Command command) e = absurd cc
-totals_only line is (Step run) e = let kind : true ≡ false = ap (λ (n : ℕ). n == 5) (same_kind Totals (Step run) line (ap Some (sym is)) e) in absurd cc
-totals_only line is (Drive run) e = let kind : true ≡ false = ap (λ (n : ℕ). n == 5) (same_kind Totals (Drive run) line (ap Some (sym is)) e) in absurd cc
-totals_only line is (Park run) e = let kind : true ≡ false = ap (λ (n : ℕ). n == 5) (same_kind Totals (Park run) line (ap Some (sym is)) e) in absurd cc
-totals_only line is (Resume run) e = let kind : true ≡ false = ap (λ (n : ℕ). n == 5) (same_kind Totals (Resume run) line (ap Some (sym is)) e) in absurd cc
+totals_only line is (Call other) e = absurd cc
+totals_only line is (Step other) e = let kind : true ≡ false = ap (λ (n : ℕ). n == 4) (same_kind Totals (Step other) line (ap Some (sym is)) e) in absurd cc
+totals_only line is (Drive other) e = let kind : true ≡ false = ap (λ (n : ℕ). n == 4) (same_kind Totals (Drive other) line (ap Some (sym is)) e) in absurd cc
+totals_only line is Drain e = let kind : true ≡ false = ap (λ (n : ℕ). n == 4) (same_kind Totals Drain line (ap Some (sym is)) e) in absurd cc
 totals_only line is Totals e = refl
 
 pub totals_reads : (line : List ℕ) → bytes_eq line (codes "totals") ≡ true → Reads own_text line (Some Totals)
@@ -142,11 +90,10 @@ totals_reads line test =
 
 step_only : (line : List ℕ) (run : ℕ) → Reads step_text line (Some run) → (request : Request) → own_text request ≡ Some line → ◌≡◌ {A = Option Request} (Some (Step run)) (Some request)
 unfolding kind_of
-step_only line run reads (Command command) e = absurd cc
+step_only line run reads (Call other) e = absurd cc
 step_only line run reads (Step other) e = let same = reads.back other e in cc
 step_only line run reads (Drive other) e = let kind : true ≡ false = ap (λ (n : ℕ). n == 1) (same_kind (Step run) (Drive other) line reads.said e) in absurd cc
-step_only line run reads (Park other) e = let kind : true ≡ false = ap (λ (n : ℕ). n == 1) (same_kind (Step run) (Park other) line reads.said e) in absurd cc
-step_only line run reads (Resume other) e = let kind : true ≡ false = ap (λ (n : ℕ). n == 1) (same_kind (Step run) (Resume other) line reads.said e) in absurd cc
+step_only line run reads Drain e = let kind : true ≡ false = ap (λ (n : ℕ). n == 1) (same_kind (Step run) Drain line reads.said e) in absurd cc
 step_only line run reads Totals e = let kind : true ≡ false = ap (λ (n : ℕ). n == 1) (same_kind (Step run) Totals line reads.said e) in absurd cc
 
 pub step_reads : (line : List ℕ) (run : ℕ) → Reads step_text line (Some run) → Reads own_text line (Some (Step run))
@@ -154,39 +101,111 @@ step_reads line run reads = record { said = reads.said; back = λ request e. ste
 
 drive_only : (line : List ℕ) (run : ℕ) → Reads drive_text line (Some run) → (request : Request) → own_text request ≡ Some line → ◌≡◌ {A = Option Request} (Some (Drive run)) (Some request)
 unfolding kind_of
-drive_only line run reads (Command command) e = absurd cc
+drive_only line run reads (Call other) e = absurd cc
 drive_only line run reads (Step other) e = let kind : true ≡ false = ap (λ (n : ℕ). n == 2) (same_kind (Drive run) (Step other) line reads.said e) in absurd cc
 drive_only line run reads (Drive other) e = let same = reads.back other e in cc
-drive_only line run reads (Park other) e = let kind : true ≡ false = ap (λ (n : ℕ). n == 2) (same_kind (Drive run) (Park other) line reads.said e) in absurd cc
-drive_only line run reads (Resume other) e = let kind : true ≡ false = ap (λ (n : ℕ). n == 2) (same_kind (Drive run) (Resume other) line reads.said e) in absurd cc
+drive_only line run reads Drain e = let kind : true ≡ false = ap (λ (n : ℕ). n == 2) (same_kind (Drive run) Drain line reads.said e) in absurd cc
 drive_only line run reads Totals e = let kind : true ≡ false = ap (λ (n : ℕ). n == 2) (same_kind (Drive run) Totals line reads.said e) in absurd cc
 
 pub drive_reads : (line : List ℕ) (run : ℕ) → Reads drive_text line (Some run) → Reads own_text line (Some (Drive run))
 drive_reads line run reads = record { said = reads.said; back = λ request e. drive_only line run reads request e }
 
-call_said : (line : List ℕ) (made : Option Request) → IfSome made (λ request. call_text request ≡ Some line) → IfSome made (λ request. own_text request ≡ Some line)
-call_said line None said = tt
-call_said line (Some (Command command)) said = absurd cc
-call_said line (Some (Step run)) said = absurd cc
-call_said line (Some (Drive run)) said = absurd cc
-call_said line (Some (Park run)) said = said
-call_said line (Some (Resume run)) said = said
-call_said line (Some Totals) said = absurd cc
+not_this : (word line : List ℕ) → bytes_eq line word ≡ false → bytes_eq word word ≡ true → Some word ≡ Some line → ⊥
+not_this word line other same e =
+    let bad : true ≡ false = sym same ∙ (ap (λ (l : List ℕ). bytes_eq l word) (same_text word line e) ∙ other) in
+    absurd cc
 
-not_totals : (line : List ℕ) → bytes_eq line (codes "totals") ≡ false → Some (codes "totals") ≡ Some line → ⊥
-not_totals line other e = let same : bytes_eq (codes "totals") (codes "totals") ≡ false = ap (λ (l : List ℕ). bytes_eq l (codes "totals")) (same_text (codes "totals") line e) ∙ other in absurd cc
+none_own : (line : List ℕ) → bytes_eq line (codes "drain") ≡ false → bytes_eq line (codes "totals") ≡ false → Reads step_text line None → Reads drive_text line None
+    → (request : Request) → own_text request ≡ Some line → ◌≡◌ {A = Option Request} None (Some request)
+none_own line no_drain no_totals step drive (Call call) e = absurd cc
+none_own line no_drain no_totals step drive (Step run) e = let same = step.back run e in absurd cc
+none_own line no_drain no_totals step drive (Drive run) e = let same = drive.back run e in absurd cc
+none_own line no_drain no_totals step drive Drain e = absurd (not_this (codes "drain") line no_drain refl e)
+none_own line no_drain no_totals step drive Totals e = absurd (not_this (codes "totals") line no_totals refl e)
 
-call_back : (line : List ℕ) (made : Option Request) → bytes_eq line (codes "totals") ≡ false → Reads step_text line None → Reads drive_text line None → Reads call_text line made
-    → (request : Request) → own_text request ≡ Some line → made ≡ Some request
-call_back line made other step drive calls (Command command) e = absurd cc
-call_back line made other step drive calls (Step run) e = let same = step.back run e in absurd cc
-call_back line made other step drive calls (Drive run) e = let same = drive.back run e in absurd cc
-call_back line made other step drive calls (Park run) e = calls.back (Park run) e
-call_back line made other step drive calls (Resume run) e = calls.back (Resume run) e
-call_back line made other step drive calls Totals e = absurd (not_totals line other e)
+pub none_reads : (line : List ℕ) → bytes_eq line (codes "drain") ≡ false → bytes_eq line (codes "totals") ≡ false → Reads step_text line None → Reads drive_text line None → Reads own_text line None
+none_reads line no_drain no_totals step drive = record { said = tt; back = λ request e. none_own line no_drain no_totals step drive request e }
 
-pub call_reads : (line : List ℕ) (made : Option Request) → bytes_eq line (codes "totals") ≡ false → Reads step_text line None → Reads drive_text line None → Reads call_text line made → Reads own_text line made
-call_reads line made other step drive calls = record { said = call_said line made calls.said; back = λ request e. call_back line made other step drive calls request e }
+-- ---- a call
+
+pub no_call : (line : List ℕ) → ReadsLine line None → Reads call_text line None
+no_call line reads = record { said = tt; back = λ call e. let same = reads.back (word_of call) (values_of call) e in absurd cc }
+
+word_in : Option (Word × Slots Value) → Word
+word_in None = words.Submit
+word_in (Some line) = line.0
+
+held_in : Slots Value → Option (Word × Slots Value) → Slots Value
+held_in held None = held
+held_in held (Some line) = line.1
+
+call_said : (line : List ℕ) (word : Word) (held : Slots Value) (made : Option TheCall) → line_text word held ≡ Some line → made ≡ call_of word held → IfSome made (λ call. call_text call ≡ Some line)
+call_said line word held None e is = tt
+call_said line word held (Some call) e is =
+    let same = calls_are_lines.1 word held line call e (sym is) in
+    ap (λ (w : Word). line_text w (values_of call)) same.0 ∙ (ap (line_text word) same.1 ∙ e)
+
+call_back : (line : List ℕ) (word : Word) (held : Slots Value) (made : Option TheCall) → ReadsLine line (Some (word, held)) → made ≡ call_of word held → (call : TheCall) → call_text call ≡ Some line → made ≡ Some call
+unfolding word_in held_in
+call_back line word held made reads is call e =
+    let same = reads.back (word_of call) (values_of call) e in
+    let its_word : word ≡ word_of call = ap word_in same in
+    let its_values : held ≡ values_of call = ap (held_in held) same in
+    is ∙ (ap (λ (w : Word). call_of w held) its_word ∙ (ap (call_of (word_of call)) its_values ∙ calls_are_lines.0 call))
+
+pub call_reads : (line : List ℕ) (word : Word) (held : Slots Value) (made : Option TheCall) → ReadsLine line (Some (word, held)) → made ≡ call_of word held → Reads call_text line made
+call_reads line word held made reads is = record { said = call_said line word held made reads.said is; back = λ call e. call_back line word held made reads is call e }
+
+pub calls_read : {E : Type 0} (line : List ℕ) (word : Word) (held : Slots Value) (r : Result (Option TheCall) E) → ReadsLine line (Some (word, held)) → IfOk r (λ made. made ≡ call_of word held) → IfOk r (Reads call_text line)
+calls_read line word held (Ok made) reads is = call_reads line word held made reads is
+calls_read line word held (Err fault) reads is = tt
+
+-- ---- what a line asks for
+
+own_no_call : (line : List ℕ) (request : Request) (call : TheCall) → own_text request ≡ Some line → call_text call ≡ Some line → ⊥
+unfolding kind_of
+own_no_call line (Call other) call e f = absurd cc
+own_no_call line (Step run) call e f = let kind : false ≡ true = ap (λ (n : ℕ). n == 0) (same_kind (Step run) (Call call) line e f) in absurd cc
+own_no_call line (Drive run) call e f = let kind : false ≡ true = ap (λ (n : ℕ). n == 0) (same_kind (Drive run) (Call call) line e f) in absurd cc
+own_no_call line Drain call e f = let kind : false ≡ true = ap (λ (n : ℕ). n == 0) (same_kind Drain (Call call) line e f) in absurd cc
+own_no_call line Totals call e f = let kind : false ≡ true = ap (λ (n : ℕ). n == 0) (same_kind Totals (Call call) line e f) in absurd cc
+
+own_said : (line : List ℕ) (request : Request) → own_text request ≡ Some line → request_text request ≡ Some line
+own_said line (Call call) e = absurd cc
+own_said line (Step run) e = e
+own_said line (Drive run) e = e
+own_said line Drain e = e
+own_said line Totals e = e
+
+own_back : (line : List ℕ) (own : Request) → Reads own_text line (Some own) → (request : Request) → request_text request ≡ Some line → ◌≡◌ {A = Option Request} (Some own) (Some request)
+own_back line own reads (Call call) e = absurd (own_no_call line own call reads.said e)
+own_back line own reads (Step run) e = reads.back (Step run) e
+own_back line own reads (Drive run) e = reads.back (Drive run) e
+own_back line own reads Drain e = reads.back Drain e
+own_back line own reads Totals e = reads.back Totals e
+
+pub own_is : (line : List ℕ) (own : Request) → Reads own_text line (Some own) → Reads request_text line (Some own)
+own_is line own reads = record { said = own_said line own reads.said; back = λ request e. own_back line own reads request e }
+
+call_is_back : (line : List ℕ) (call : TheCall) → Reads own_text line None → Reads call_text line (Some call) → (request : Request) → request_text request ≡ Some line → ◌≡◌ {A = Option Request} (Some (Call call)) (Some request)
+call_is_back line call own reads (Call other) e = let same = reads.back other e in cc
+call_is_back line call own reads (Step run) e = let same = own.back (Step run) e in absurd cc
+call_is_back line call own reads (Drive run) e = let same = own.back (Drive run) e in absurd cc
+call_is_back line call own reads Drain e = let same = own.back Drain e in absurd cc
+call_is_back line call own reads Totals e = let same = own.back Totals e in absurd cc
+
+pub call_is : (line : List ℕ) (call : TheCall) → Reads own_text line None → Reads call_text line (Some call) → Reads request_text line (Some (Call call))
+call_is line call own reads = record { said = reads.said; back = λ request e. call_is_back line call own reads request e }
+
+none_is_back : (line : List ℕ) → Reads own_text line None → Reads call_text line None → (request : Request) → request_text request ≡ Some line → ◌≡◌ {A = Option Request} None (Some request)
+none_is_back line own reads (Call other) e = let same = reads.back other e in absurd cc
+none_is_back line own reads (Step run) e = own.back (Step run) e
+none_is_back line own reads (Drive run) e = own.back (Drive run) e
+none_is_back line own reads Drain e = own.back Drain e
+none_is_back line own reads Totals e = own.back Totals e
+
+pub none_is : (line : List ℕ) → Reads own_text line None → Reads call_text line None → Reads request_text line None
+none_is line own reads = record { said = tt; back = λ request e. none_is_back line own reads request e }
 
 -- ---- a number behind a word
 
@@ -217,41 +236,3 @@ drive_behind line rest made is reads = record { said = behind_said (codes "drive
 
 pub no_drive : (line : List ℕ) → ((rest : List ℕ) → ¬ (line ≡ codes "drive " ++ rest)) → Reads drive_text line None
 no_drive line none = record { said = tt; back = λ run e. let its = begins (codes "drive ") (number_text run) line e in absurd (none its.0 its.2) }
-
--- ---- the line of a call
-
-no_call_back : (line : List ℕ) → ReadsLine line None → (request : Request) → call_text request ≡ Some line → ◌≡◌ {A = Option Request} None (Some request)
-no_call_back line reads (Park run) e = let same = reads.back words.Park (one (values.Number run)) e in absurd cc
-no_call_back line reads (Resume run) e = let same = reads.back words.Resume (one (values.Number run)) e in absurd cc
-no_call_back line reads request e = absurd cc
-
-pub no_call : (line : List ℕ) → ReadsLine line None → Reads call_text line None
-no_call line reads = record { said = tt; back = λ request e. no_call_back line reads request e }
-
-word_in : Option (Word × Slots Value) → Word
-word_in None = words.Submit
-word_in (Some line) = line.0
-
-held_in : Slots Value → Option (Word × Slots Value) → Slots Value
-held_in held None = held
-held_in held (Some line) = line.1
-
-asked_back : (line : List ℕ) (word : Word) (held : Slots Value) (made : Option Request) → ReadsLine line (Some (word, held))
-    → ((run : ℕ) → word ≡ words.Park → held ≡ one (values.Number run) → made ≡ Some (Park run)) → ((run : ℕ) → word ≡ words.Resume → held ≡ one (values.Number run) → made ≡ Some (Resume run))
-    → (request : Request) → call_text request ≡ Some line → made ≡ Some request
-unfolding word_in held_in
-asked_back line word held made reads park resume (Park run) e = let same = reads.back words.Park (one (values.Number run)) e in park run (ap word_in same) (ap (held_in held) same)
-asked_back line word held made reads park resume (Resume run) e = let same = reads.back words.Resume (one (values.Number run)) e in resume run (ap word_in same) (ap (held_in held) same)
-asked_back line word held made reads park resume request e = absurd cc
-
-pub asked_reads : (line : List ℕ) (word : Word) (held : Slots Value) (made : Option Request) → ReadsLine line (Some (word, held)) → IfSome made (λ request. call_text request ≡ Some line)
-    → ((run : ℕ) → word ≡ words.Park → held ≡ one (values.Number run) → made ≡ Some (Park run)) → ((run : ℕ) → word ≡ words.Resume → held ≡ one (values.Number run) → made ≡ Some (Resume run))
-    → Reads call_text line made
-asked_reads line word held made reads said park resume = record { said = said; back = λ request e. asked_back line word held made reads park resume request e }
-
--- the number that one value is
-pub first_number : (held : Slots Value) (run : ℕ) (got : Option ℕ) → got ≡ number_in held.first → held ≡ one (values.Number run) → got ≡ Some run
-first_number held run got e is = e ∙ ap (λ (h : Slots Value). number_in h.first) is
-
-pub none_there : (got : Option ℕ) (run : ℕ) → got ≡ None → got ≡ Some run → ⊥
-none_there got run none there = absurd cc

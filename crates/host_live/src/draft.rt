@@ -3,8 +3,8 @@
 ghost use Rattle.std.specs.Prelude.{◌≡◌, ◌++◌, ℕ, [], List, false, IfSome};
 ghost use Rattle.host_live.specs.Drafts.{IsDraftOf};
 
-use trace_lines::Text;
 use std::marker::Model;
+use trace_lines::Text;
 
 /// How many bytes a line may have, without its line feed.
 pub const MOST_BYTES: usize = 1024;

@@ -1,31 +1,32 @@
-// The host of a live engine: it carries requests out, and keeps the runs and the tokens that are out. It relies on `engine_core` for the
-// engine, and on `host_handles` for what is out.
+// The host of a live engine: it carries requests out. It relies on `printed_engine` for the engine.
 
 ghost use Rattle.std.specs.Prelude.{◌≡◌};
 ghost use Rattle.host_live.specs.Growth.{Grows};
 
+use crate::printed_engine::{Advanced, PrintedEngine};
 use crate::reports::{LineFault, Reports};
 use crate::request::{Request, request_of};
-use world_calls::CallAnswer;
-use engine_core::{Engine, Event};
-use host_handles::{Hands, Told};
-use scenario::{Command, is_skipped};
+use scenario::is_skipped;
+use std::alloc::{AllocError, Global};
+use trace::Sink;
+use world_calls::{Call, CallAnswer};
 
 /// Why a host carries nothing out any more.
 #[derive(Clone, Copy, Debug, PartialEq, Eq)]
 pub(crate) enum HostFault {
     OutOfMemory,
-    /// A run or a token that is out does not fit the engine, which cannot be.
-    Unsettled,
+    /// A call is no event of the engine, which cannot be.
+    InternalError,
 }
 
 /// The greatest clock reading, in milliseconds, that an engine takes.
 const LAST_READING: u64 = 1 << 62;
 
-/// An engine, and what is out of it.
-pub(crate) struct Host {
-    pub(crate) engine: Engine,
-    hands: Hands,
+/// An engine, and what its lines are carried out by.
+#[derive(Drop)]
+pub(crate) struct Host<'a> {
+    alloc: Global,
+    pub(crate) engine: PrintedEngine<'a>,
     // Whether a run stays out until it is asked to go on; else it is driven to its end as soon as it starts.
     is_stepped: bool,
     // the reading that is taken before the engine is asked next
@@ -34,14 +35,23 @@ pub(crate) struct Host {
     is_over: bool,
 }
 
-impl Host {
+// Whether nobody can ask for it but a host of runs that stay out.
+fn is_of_steps(request: &Request) -> bool {
+    match request {
+        Request::Call(call) => matches!(call, Call::Park { .. } | Call::Resume { .. }),
+        Request::Step(_) | Request::Drive(_) => true,
+        Request::Drain | Request::Totals => false,
+    }
+}
+
+impl<'a> Host<'a> {
     /// The host of an engine that was just opened.
-    pub(crate) fn new(engine: Engine, hands: Hands, is_stepped: bool) -> Self
-        ensures { result.engine ≡ engine }
+    pub(crate) fn new(alloc: Global, engine: PrintedEngine<'a>, is_stepped: bool) -> Self
+        ensures { result.engine ≡ engine.entry }
     {
         Host {
+            alloc,
             engine,
-            hands,
             is_stepped,
             pending: None,
             is_over: false,
@@ -49,47 +59,90 @@ impl Host {
     }
 
     /// Carries the line of that number out, which stands without its line feed; none is one that cannot be a line. A clock reading that
-    /// is given is taken first, but before a line that is not carried out only if a timer is due. Such a line is told, and that is no fault.
-    pub(crate) fn serve_line<N: Reports>(
+    /// is given is taken first, but before a line that is not carried out only if a timer is due. Such a line is reported, and that is no
+    /// fault.
+    pub(crate) fn serve_line<N: Reports, S: Sink>(
         &mut self,
         line: Option<&str>,
         number: usize,
         now: Option<u64>,
         reports: &mut N,
+        out: &mut S,
     ) -> Result<(), HostFault>
-        ensures { Grows self.old.engine self.new.engine }
+        ensures { Grows self.old.engine (S.bytes out.old) (S.failures out.old) self.new.engine (S.bytes out.new) (S.failures out.new) }
     {
-        let request = match line {
+        let asked = match line {
             Some(line) => {
                 if is_skipped(line) {
                     return Ok(());
                 }
-                request_of(line)
+                request_of(self.alloc, line)
             }
-            None => None,
+            None => Ok(None),
         };
         self.pending = now;
-        if self.is_due(now) {
-            self.read_pending()?;
-        }
-        let carried = self.carry_out(request, reports);
+        let served = self.serve_request(asked, number, reports, out);
         self.pending = None;
-        match carried {
-            Ok(None) => Ok(()),
+        served
+    }
+
+    // Carries out what the line of that number asks for. If memory was refused for that, the reading that is pending is still taken.
+    fn serve_request<N: Reports, S: Sink>(
+        &mut self,
+        asked: Result<Option<Request>, AllocError>,
+        number: usize,
+        reports: &mut N,
+        out: &mut S,
+    ) -> Result<(), HostFault>
+        ensures { Grows self.old.engine (S.bytes out.old) (S.failures out.old) self.new.engine (S.bytes out.new) (S.failures out.new) }
+    {
+        match asked {
+            Ok(request) => self.serve_asked(request, number, reports, out),
+            Err(AllocError) => {
+                self.read_pending(out)?;
+                Err(HostFault::OutOfMemory)
+            }
+        }
+    }
+
+    // Carries out what the line of that number asks for, or reports why not.
+    fn serve_asked<N: Reports, S: Sink>(
+        &mut self,
+        request: Option<Request>,
+        number: usize,
+        reports: &mut N,
+        out: &mut S,
+    ) -> Result<(), HostFault>
+        ensures { Grows self.old.engine (S.bytes out.old) (S.failures out.old) self.new.engine (S.bytes out.new) (S.failures out.new) }
+    {
+        self.read_due(out)?;
+        match self.carry_out(request, reports, out) {
             Ok(Some(fault)) => {
                 reports.refused(fault, number);
                 Ok(())
             }
+            Ok(None) => Ok(()),
             Err(fault) => Err(fault),
         }
     }
 
+    // Takes the reading that is pending, if a timer is due then.
+    fn read_due<S: Sink>(&mut self, out: &mut S) -> Result<(), HostFault>
+        ensures { Grows self.old.engine (S.bytes out.old) (S.failures out.old) self.new.engine (S.bytes out.new) (S.failures out.new) }
+    {
+        if self.is_due() {
+            self.read_pending(out)
+        } else {
+            Ok(())
+        }
+    }
+
     /// Takes a clock reading, in milliseconds.
-    pub(crate) fn read_clock(&mut self, reading: u64) -> Result<(), HostFault>
-        ensures { Grows self.old.engine self.new.engine }
+    pub(crate) fn read_clock<S: Sink>(&mut self, reading: u64, out: &mut S) -> Result<(), HostFault>
+        ensures { Grows self.old.engine (S.bytes out.old) (S.failures out.old) self.new.engine (S.bytes out.new) (S.failures out.new) }
     {
         self.pending = Some(reading);
-        self.read_pending()
+        self.read_pending(out)
     }
 
     /// When the next timer is due, in milliseconds of the clock; none where time stands still.
@@ -100,17 +153,17 @@ impl Host {
         self.engine.next_due()
     }
 
-    // Whether a timer is due at that reading.
-    fn is_due(&self, now: Option<u64>) -> bool {
-        match (now, self.next_due()) {
+    // Whether a timer is due at the reading that is pending.
+    fn is_due(&self) -> bool {
+        match (self.pending, self.next_due()) {
             (Some(reading), Some(due)) => due <= reading,
             _ => false,
         }
     }
 
     // Takes the reading that is pending, if one is.
-    fn read_pending(&mut self) -> Result<(), HostFault>
-        ensures { Grows self.old.engine self.new.engine }
+    fn read_pending<S: Sink>(&mut self, out: &mut S) -> Result<(), HostFault>
+        ensures { Grows self.old.engine (S.bytes out.old) (S.failures out.old) self.new.engine (S.bytes out.new) (S.failures out.new) }
     {
         let Some(reading) = self.pending.take() else {
             return Ok(());
@@ -119,173 +172,137 @@ impl Host {
             return Ok(());
         }
         self.is_over = reading > LAST_READING;
-        let _ = self.told(Event::Clock { reading })?;
+        let _ = self.answered(Call::Clock { reading }, out)?;
         Ok(())
     }
 
-    // Carries a request out, or tells why it is not carried out.
-    fn carry_out<N: Reports>(
+    // Carries a request out, or returns why it is not carried out.
+    fn carry_out<N: Reports, S: Sink>(
         &mut self,
         request: Option<Request>,
         reports: &mut N,
+        out: &mut S,
     ) -> Result<Option<LineFault>, HostFault>
-        ensures { Grows self.old.engine self.new.engine }
+        ensures { Grows self.old.engine (S.bytes out.old) (S.failures out.old) self.new.engine (S.bytes out.new) (S.failures out.new) }
     {
+        let Some(request) = request else {
+            return Ok(Some(LineFault::Form));
+        };
+        if !self.is_stepped && is_of_steps(&request) {
+            return Ok(Some(LineFault::Form));
+        }
         match request {
-            None => Ok(Some(LineFault::Form)),
-            Some(Request::Command(command)) => self.command(command),
-            Some(Request::Totals) => {
-                self.read_pending()?;
+            Request::Call(call) => self.call(call, out),
+            Request::Step(run) => self.step(run, out),
+            Request::Drive(run) => self.drive(run, out),
+            Request::Drain => {
+                self.read_pending(out)?;
+                Ok(None)
+            }
+            Request::Totals => {
+                self.read_pending(out)?;
                 reports.sums(self.engine.totals());
                 Ok(None)
             }
-            Some(Request::Step(run)) if self.is_stepped => self.step(run),
-            Some(Request::Drive(run)) if self.is_stepped => self.drive(run),
-            Some(Request::Park(run)) if self.is_stepped => self.park(run),
-            Some(Request::Resume(run)) if self.is_stepped => {
-                self.asked(Event::Resume { run })?;
-                Ok(None)
-            }
-            Some(_) => Ok(Some(LineFault::Form)),
         }
     }
 
-    fn command(&mut self, command: Command) -> Result<Option<LineFault>, HostFault>
-        ensures { Grows self.old.engine self.new.engine }
+    // Carries a call out. A run that it starts is driven to its end, unless runs stay out.
+    fn call<S: Sink>(&mut self, call: Call, out: &mut S) -> Result<Option<LineFault>, HostFault>
+        ensures { Grows self.old.engine (S.bytes out.old) (S.failures out.old) self.new.engine (S.bytes out.new) (S.failures out.new) }
     {
-        match command {
-            Command::Submit {
-                queue,
-                priority,
-                retries,
-            } => self.asked(Event::Submit {
-                queue,
-                priority,
-                retries,
-            })?,
-            Command::Dispatch { queue } => self.asked(Event::Dispatch { queue })?,
-            Command::Complete { completion } => {
-                let told = self.ask(Event::Complete {
-                    completion: &completion,
-                })?;
-                if let Told::Answered(CallAnswer::Started { run, .. }) = told
-                    && !self.is_stepped
-                {
-                    return self.drive(run);
-                }
-            }
-            Command::Drain => self.read_pending()?,
-            Command::GuestFreeze { place, guest } => {
-                self.asked(Event::GuestFreeze { place, guest })?
-            }
-            Command::GuestRelease { freeze } => match self.hands.take_token(freeze) {
-                Some(token) => self.asked(Event::GuestRelease { token })?,
-                None => return Ok(Some(LineFault::NotHeld)),
-            },
-            Command::Clock { reading } => self.asked(Event::Clock { reading })?,
+        if !self.is_held(&call) {
+            return Ok(Some(LineFault::NotHeld));
         }
-        Ok(None)
+        self.read_pending(out)?;
+        match self.answered(call, out)? {
+            CallAnswer::Started { run, .. } if !self.is_stepped => self.drive(run, out),
+            _ => Ok(None),
+        }
+    }
+
+    // Whether the run is out that a call parks, or a guest holds the freeze that it gives back.
+    fn is_held(&self, call: &Call) -> bool {
+        match call {
+            Call::Park { run } => self.engine.is_out(*run),
+            Call::GuestRelease { freeze } => self.engine.is_guests(*freeze),
+            _ => true,
+        }
     }
 
     // Drives a run that is out to its next stop.
-    fn step(&mut self, number: u32) -> Result<Option<LineFault>, HostFault>
-        ensures { Grows self.old.engine self.new.engine }
+    fn step<S: Sink>(&mut self, run: u32, out: &mut S) -> Result<Option<LineFault>, HostFault>
+        ensures { Grows self.old.engine (S.bytes out.old) (S.failures out.old) self.new.engine (S.bytes out.new) (S.failures out.new) }
     {
-        match self.hands.take_run(number) {
-            Some(run) => {
-                self.asked(Event::Advance { run: run.to_stop() })?;
-                Ok(None)
-            }
-            None => Ok(Some(LineFault::NotHeld)),
+        match self.advance(run, out)? {
+            Advanced::NotOut => Ok(Some(LineFault::NotHeld)),
+            Advanced::Goes | Advanced::Ended => Ok(None),
         }
     }
 
     // Drives a run that is out to its end.
-    fn drive(&mut self, number: u32) -> Result<Option<LineFault>, HostFault>
-        ensures { Grows self.old.engine self.new.engine }
+    fn drive<S: Sink>(&mut self, run: u32, out: &mut S) -> Result<Option<LineFault>, HostFault>
+        ensures { Grows self.old.engine (S.bytes out.old) (S.failures out.old) self.new.engine (S.bytes out.new) (S.failures out.new) }
     {
         for _ in 0..u64::MAX {
-            let Some(run) = self.hands.take_run(number) else {
-                return Ok(Some(LineFault::NotHeld));
-            };
-            if let Told::Ended(_) = self.ask(Event::Advance { run: run.to_stop() })? {
-                break;
+            match self.advance(run, out)? {
+                Advanced::NotOut => return Ok(Some(LineFault::NotHeld)),
+                Advanced::Goes => {}
+                Advanced::Ended => break,
             }
         }
         Ok(None)
     }
 
-    // Parks a run that is out.
-    fn park(&mut self, number: u32) -> Result<Option<LineFault>, HostFault>
-        ensures { Grows self.old.engine self.new.engine }
-    {
-        match self.hands.take_run(number) {
-            Some(run) => {
-                self.asked(Event::Park { run })?;
-                Ok(None)
-            }
-            None => Ok(Some(LineFault::NotHeld)),
-        }
-    }
-
     /// Drives the runs that are out to their ends, in the order of their numbers.
-    pub(crate) fn drive_all(&mut self) -> Result<(), HostFault>
-        ensures { Grows self.old.engine self.new.engine }
+    pub(crate) fn drive_all<S: Sink>(&mut self, out: &mut S) -> Result<(), HostFault>
+        ensures { Grows self.old.engine (S.bytes out.old) (S.failures out.old) self.new.engine (S.bytes out.new) (S.failures out.new) }
     {
         for _ in 0..u64::MAX {
-            let Some(number) = self.hands.first_run() else {
+            let Some(run) = self.engine.first_out() else {
                 break;
             };
-            let _ = self.drive(number)?;
+            let _ = self.drive(run, out)?;
         }
         Ok(())
     }
 
-    /// Spends what is out.
-    pub(crate) fn forfeit(self) {
+    // Takes the reading that is pending, and lets a run go on to its next stop. If it is not out nothing changes.
+    fn advance<S: Sink>(&mut self, run: u32, out: &mut S) -> Result<Advanced, HostFault>
+        ensures { Grows self.old.engine (S.bytes out.old) (S.failures out.old) self.new.engine (S.bytes out.new) (S.failures out.new) }
+    {
+        if !self.engine.is_out(run) {
+            return Ok(Advanced::NotOut);
+        }
+        self.read_pending(out)?;
+        match self.engine.advance(run, out) {
+            Ok(advanced) => Ok(advanced),
+            Err(AllocError) => Err(HostFault::OutOfMemory),
+        }
+    }
+
+    /// The engine, of which nobody asks anything any more.
+    pub(crate) fn into_engine(self) -> PrintedEngine<'a>
+        ensures { result ≡ self.entry.engine }
+    {
         let Host {
-            engine: _,
-            hands,
+            alloc: _,
+            engine,
             is_stepped: _,
             pending: _,
             is_over: _,
         } = self;
-        hands.forfeit();
+        engine
     }
 
-    fn asked(&mut self, event: Event<'_>) -> Result<(), HostFault>
-        ensures { Grows self.old.engine self.new.engine }
+    // What a call is answered. A refusal is recorded and no fault.
+    fn answered<S: Sink>(&mut self, call: Call, out: &mut S) -> Result<CallAnswer, HostFault>
+        ensures { Grows self.old.engine (S.bytes out.old) (S.failures out.old) self.new.engine (S.bytes out.new) (S.failures out.new) }
     {
-        let _ = self.ask(event)?;
-        Ok(())
-    }
-
-    // Takes the reading that is pending, and asks the engine.
-    fn ask(&mut self, event: Event<'_>) -> Result<Told, HostFault>
-        ensures { Grows self.old.engine self.new.engine }
-    {
-        match self.read_pending() {
-            Ok(()) => self.told(event),
-            Err(fault) => {
-                event.forfeit();
-                Err(fault)
-            }
-        }
-    }
-
-    // Asks the engine, and keeps what it gives or what comes back. A refusal is recorded and no fault.
-    #[tactic(auto, using(crate::proofs::Growing::grows_recorded))]
-    fn told(&mut self, event: Event<'_>) -> Result<Told, HostFault>
-        ensures { Grows self.old.engine self.new.engine }
-    {
-        match self.hands.ask(&mut self.engine, event) {
-            Ok(Told::OutOfMemory) => Err(HostFault::OutOfMemory),
-            Ok(Told::Unfit) => Err(HostFault::Unsettled),
-            Ok(told) => Ok(told),
-            Err(event) => {
-                event.forfeit();
-                Err(HostFault::OutOfMemory)
-            }
+        match self.engine.call(call, out) {
+            Ok(Some(answer)) => Ok(answer),
+            Ok(None) => Err(HostFault::InternalError),
+            Err(AllocError) => Err(HostFault::OutOfMemory),
         }
     }
 }

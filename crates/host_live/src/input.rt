@@ -1,7 +1,7 @@
 // Where bytes come from, and what a clock reads meanwhile. It relies on nothing.
 
 ghost use Rattle.std.specs.Prelude.{◌≡◌, ◌≢◌, Bool, IsTrue};
-ghost use Rattle.host_live.specs.declared.input.Came.TheVariants.{Failed};
+ghost use Rattle.host_live.specs.declared.input.Came.TheVariants.{End, Failed};
 
 /// What came.
 #[derive(Clone, Copy, Debug, PartialEq, Eq)]
@@ -16,16 +16,20 @@ pub enum Came {
     Failed,
 }
 
-/// Bytes that come piece by piece, and a clock, if there is one. Contracts see whether it could not be read.
+/// Bytes that come piece by piece, and a clock, if there is one. Contracts see whether it could not be read, and whether it is at its end.
 pub trait Input {
     ghost has_failed: { Self → Bool };
+
+    ghost has_ended: { Self → Bool };
 
     /// Waits for bytes, which then stand in place of those that came before, and not longer than until the clock reads `until`, in
     /// milliseconds, if there is a clock and that is given.
     fn wait(&mut self, until: Option<u64>) -> Came
         ensures failed { result ≡ Failed → IsTrue (has_failed self.new) }
         // A read that fails is told by nothing else.
-        ensures still { result ≢ Failed → has_failed self.new ≡ has_failed self.old };
+        ensures still { result ≢ Failed → has_failed self.new ≡ has_failed self.old }
+        // So is the end.
+        ensures ended { result ≡ End → IsTrue (has_ended self.new) };
 
     /// The bytes that came last.
     fn bytes(&self) -> &[u8];

@@ -1,12 +1,14 @@
 // An engine that is asked over a pipe: a line of the input is carried out as it comes, and the trace's lines of what it led to go out
-// before the next one is waited for. It relies on `engine_core` for the engine, on `host_handles` for what the host keeps, on `scenario` for
-// commands, and on `trace` for what goes out.
+// before the next one is waited for. It relies on `engine_core` for the engine, which keeps no history, on `trace_lines` for the lines of
+// calls, and on `trace` for what goes out.
 #![tactic(auto)]
 
 mod draft;
 mod host;
 mod input;
 mod lines;
+mod printed;
+mod printed_engine;
 mod reports;
 mod request;
 mod serving;

@@ -1,7 +1,7 @@
 // The lines of an input, one by one. It relies on `draft` for the line that comes, and on `input` for bytes.
 
-ghost use Rattle.std.specs.Prelude.{◌≡◌, ◌≢◌, IsTrue};
-ghost use Rattle.host_live.specs.declared.lines.Next.TheVariants.{Failed};
+ghost use Rattle.std.specs.Prelude.{◌≡◌, ◌≢◌, false, IsTrue};
+ghost use Rattle.host_live.specs.declared.lines.Next.TheVariants.{End, Failed};
 
 use crate::draft::Draft;
 use crate::input::{Came, Input};
@@ -27,12 +27,15 @@ pub(crate) struct Lines {
     number: usize,
     // the line that was told last, of which nothing more comes
     is_whole: bool,
-    is_ended: bool,
+    // no bytes come any more
+    pub(crate) is_ended: bool,
 }
 
 impl Lines {
     /// The lines of an input of which no bytes came yet.
-    pub(crate) fn of<I: Input>(input: &I) -> Self {
+    pub(crate) fn of<I: Input>(input: &I) -> Self
+        ensures { result.is_ended ≡ false }
+    {
         Lines {
             taken: input.bytes().len(),
             draft: Draft::none(),
@@ -67,8 +70,11 @@ impl Lines {
 
     /// Waits for the next line, and not longer than until the clock reads `until`, if there is one.
     pub(crate) fn next<I: Input>(&mut self, input: &mut I, until: Option<u64>) -> Next
+        requires ended { IsTrue self.old.is_ended → IsTrue (I.has_ended input.old) }
         ensures failed { result ≡ Failed → IsTrue (I.has_failed input.new) }
         ensures still { result ≢ Failed → I.has_failed input.new ≡ I.has_failed input.old }
+        ensures ended { IsTrue self.new.is_ended → IsTrue (I.has_ended input.new) }
+        ensures end { result ≡ End → IsTrue (I.has_ended input.new) }
     {
         if self.is_whole {
             self.draft.clear();
@@ -76,8 +82,7 @@ impl Lines {
         }
         for _ in 0..u64::MAX {
             if self.take(input) {
-                self.number = self.number.saturating_add(1);
-                return Next::Line;
+                break;
             }
             if self.is_ended {
                 return Next::End;
@@ -89,17 +94,19 @@ impl Lines {
                 Came::End => {
                     self.is_ended = true;
                     if !self.draft.is_empty() {
-                        self.number = self.number.saturating_add(1);
-                        return Next::Line;
+                        break;
                     }
                 }
             }
         }
-        Next::End
+        self.number = self.number.saturating_add(1);
+        Next::Line
     }
 
     // Takes what came up to a line feed, and whether there was one.
-    fn take<I: Input>(&mut self, input: &I) -> bool {
+    fn take<I: Input>(&mut self, input: &I) -> bool
+        ensures { self.new.is_ended ≡ self.old.is_ended }
+    {
         let taken = self.taken;
         let rest = match input.bytes().get(taken..) {
             Some(rest) => rest,

@@ -1,23 +1,21 @@
-// A live engine from its opening to the end of its input. It relies on `host` for what lines ask, on `lines` for lines, and on `trace` for
-// what goes out.
+// A live engine from its opening to the end of its input. It relies on `host` for what lines ask, on `lines` for lines, and on
+// `printed_engine` for what goes out.
 
-ghost use Rattle.std.specs.Prelude.{◌≡◌, ◌≢◌, ◌≤◌, ℕ, Option, List, length, Err, IfErr, IsTrue, OnOk};
-ghost use Rattle.engine_core.specs.EngineState.{IsRun};
-ghost use Rattle.trace.specs.Growing.{FailsBySink};
+ghost use Rattle.std.specs.Prelude.{◌≡◌, ◌≢◌, ℕ, Option, List, Err, IfErr, IfOk, IsTrue, OnOk, false, true};
 ghost use Rattle.trace.specs.Sinks.{HasFailed};
-ghost use Rattle.host_live.specs.Growth.{Grows};
-ghost use Rattle.host_live.specs.Telling.{IsBegun, IsInStep, IsTold, Serves, Tells};
+ghost use Rattle.world.specs.World.{Setup};
+ghost use Rattle.host_live.specs.Growth.{Grows, opened_printed};
+ghost use Rattle.host_live.specs.Telling.{IsBegun, Serves};
 ghost use Rattle.host_live.specs.declared.serving.LiveFault.TheVariants.{Unread, Unwritten};
 
 use crate::host::{Host, HostFault};
 use crate::input::Input;
 use crate::lines::{Lines, Next};
+use crate::printed_engine::PrintedEngine;
 use crate::reports::Reports;
-use world_calls::Version;
-use engine_core::{Config, Engine};
-use host_handles::Hands;
+use engine_core::Config;
 use std::alloc::Global;
-use trace::{Growing, Sink, WriteFailed};
+use trace::{Sink, WriteFailed};
 
 /// Why a live engine stopped before the end of its input.
 #[derive(Clone, Copy, Debug, PartialEq, Eq)]
@@ -27,8 +25,8 @@ pub enum LiveFault {
     Unread,
     /// What goes out cannot be written.
     Unwritten,
-    /// A run or a token that is out does not fit the engine, which cannot be.
-    Unsettled,
+    /// A call is no event of the engine, or the input has more lines than can be counted, which cannot be.
+    InternalError,
 }
 
 impl From<WriteFailed> for LiveFault {
@@ -45,135 +43,151 @@ impl From<HostFault> for LiveFault {
     fn from(fault: HostFault) -> Self {
         match fault {
             HostFault::OutOfMemory => LiveFault::OutOfMemory,
-            HostFault::Unsettled => LiveFault::Unsettled,
+            HostFault::InternalError => LiveFault::InternalError,
         }
     }
 }
 
 /// Carries out what the lines of an input ask of an engine of this configuration, each as it comes, until the input ends; then the runs that
 /// are out are driven to their ends, unless they are parked. What goes out is the engine's trace: its first line at once, the lines of what a
-/// line led to before the next one is waited for, and the last line at the end. Lines that are not carried out are reported. Where the input
+/// line led to before the next one is waited for, and the last line at the end. No record is kept. Lines that are not carried out are reported. Where the input
 /// has a clock, it is read before each line that is carried out, and whenever a timer is due. Where it reads more than an engine takes, that
 /// is recorded once, and time stands still.
 pub fn serve<I: Input, S: Sink, N: Reports>(
     alloc: Global,
-    config: Config,
+    config: &Config,
     is_stepped: bool,
     input: &mut I,
     out: &mut S,
     reports: &mut N,
 ) -> Result<(), LiveFault>
     // All that went out is the trace of an engine of this configuration; where it stopped, it is a front of one.
-    ensures told { Serves config (S.bytes out.old) result (S.bytes out.new) }
+    ensures told { Serves config.now (S.bytes out.old) result (S.bytes out.new) }
     ensures unread { result ≡ Err Unread → IsTrue (I.has_failed input.new) }
     // The end of the input is no read that failed.
     ensures still { OnOk result (I.has_failed input.new ≡ I.has_failed input.old) }
+    // All of it was read.
+    ensures ended { OnOk result (IsTrue (I.has_ended input.new)) }
     ensures unwritten { result ≡ Err Unwritten → HasFailed (S.failures out.old) (S.failures out.new) }
 {
-    let printed = Growing::of(Version::of(config.helpers()));
-    let engine = match Engine::open(alloc, config) {
-        Ok(engine) => engine,
-        Err(_) => return Err(LiveFault::OutOfMemory),
-    };
-    let mut host = Host::new(engine, Hands::empty(alloc), is_stepped);
-    let mut lines = Lines::of(input);
-    let served = serve_all(&mut host, input, &mut lines, printed, out, reports);
-    host.forfeit();
-    served
+    match PrintedEngine::open(alloc, config) {
+        Ok(engine) => {
+            let host = Host::new(alloc, engine, is_stepped);
+            serve_all(host, input, out, reports)
+        }
+        Err(_) => Err(LiveFault::OutOfMemory),
+    }
 }
 
 // Serves the lines up to the input's end, and drives the runs that are out then.
 fn serve_all<I: Input, S: Sink, N: Reports>(
-    host: &mut Host,
+    mut host: Host<'_>,
     input: &mut I,
-    lines: &mut Lines,
-    mut printed: Growing,
     out: &mut S,
     reports: &mut N,
 ) -> Result<(), LiveFault>
-    requires begun { IsInStep host.old.engine printed }
-    ensures told { (base : Option (List ℕ)) → IsTold host.old.engine.history printed base (S.bytes out.old) → Serves host.old.engine.setup base result (S.bytes out.new) }
+    ensures told { (setup : Setup) (base : Option (List ℕ)) (failed : ℕ) → Grows (opened_printed setup) base failed host.entry.engine (S.bytes out.old) (S.failures out.old) → Serves setup base result (S.bytes out.new) }
     ensures unread { result ≡ Err Unread → IsTrue (I.has_failed input.new) }
     ensures still { OnOk result (I.has_failed input.new ≡ I.has_failed input.old) }
-    ensures unwritten { result ≡ Err Unwritten → HasFailed (S.failures out.old) (S.failures out.new) }
+    ensures ended { OnOk result (IsTrue (I.has_ended input.new)) }
+    ensures unwritten { (setup : Setup) (base : Option (List ℕ)) (failed : ℕ) → Grows (opened_printed setup) base failed host.entry.engine (S.bytes out.old) (S.failures out.old) → result ≡ Err Unwritten → HasFailed failed (S.failures out.new) }
 {
-    serve_lines(host, input, lines, &mut printed, out, reports)?;
-    match host.drive_all() {
-        Ok(()) => end(&host.engine, printed, out),
-        Err(fault) => Err(stop(&host.engine, &mut printed, out, LiveFault::from(fault))),
+    match serve_input(&mut host, input, out, reports) {
+        Ok(()) => end(host, out),
+        Err(fault) => Err(fault),
+    }
+}
+
+// Serves the lines up to the input's end, and drives the runs that are out then. What waits at the end is not handed on yet.
+fn serve_input<I: Input, S: Sink, N: Reports>(
+    host: &mut Host<'_>,
+    input: &mut I,
+    out: &mut S,
+    reports: &mut N,
+) -> Result<(), LiveFault>
+    ensures grown { Grows host.old.engine (S.bytes out.old) (S.failures out.old) host.new.engine (S.bytes out.new) (S.failures out.new) }
+    ensures unread { result ≡ Err Unread → IsTrue (I.has_failed input.new) }
+    ensures still { OnOk result (I.has_failed input.new ≡ I.has_failed input.old) }
+    ensures ended { OnOk result (IsTrue (I.has_ended input.new)) }
+    ensures unwritten { result ≡ Err Unwritten → host.new.engine.printed.has_failed ≡ true }
+{
+    let mut lines = Lines::of(input);
+    serve_lines(host, input, &mut lines, out, reports)?;
+    match host.drive_all(out) {
+        Ok(()) => Ok(()),
+        Err(fault) => Err(stop(host, out, LiveFault::from(fault))),
     }
 }
 
 // Serves the lines up to the input's end.
 fn serve_lines<I: Input, S: Sink, N: Reports>(
-    host: &mut Host,
+    host: &mut Host<'_>,
     input: &mut I,
     lines: &mut Lines,
-    printed: &mut Growing,
     out: &mut S,
     reports: &mut N,
 ) -> Result<(), LiveFault>
-    requires begun { IsInStep host.old.engine printed.old }
-    ensures told { (base : Option (List ℕ)) → IsTold host.old.engine.history printed.old base (S.bytes out.old) → Tells host.new.engine base result printed.new (S.bytes out.new) }
-    ensures step { OnOk result (IsInStep host.new.engine printed.new) }
-    ensures setup { host.new.engine.setup ≡ host.old.engine.setup }
+    requires begun { IsTrue lines.old.is_ended → IsTrue (I.has_ended input.old) }
+    ensures grown { Grows host.old.engine (S.bytes out.old) (S.failures out.old) host.new.engine (S.bytes out.new) (S.failures out.new) }
     ensures unread { result ≡ Err Unread → IsTrue (I.has_failed input.new) }
     ensures still { OnOk result (I.has_failed input.new ≡ I.has_failed input.old) }
-    ensures unwritten { result ≡ Err Unwritten → HasFailed (S.failures out.old) (S.failures out.new) }
-    ensures none { OnOk result (S.failures out.new ≡ S.failures out.old) }
+    ensures ended { OnOk result (IsTrue (I.has_ended input.new)) }
+    ensures unwritten { result ≡ Err Unwritten → host.new.engine.printed.has_failed ≡ true }
 {
     for _ in 0..u64::MAX {
-        if !serve_next(host, input, lines, printed, out, reports)? {
-            break;
+        if !serve_next(host, input, lines, out, reports)? {
+            return Ok(());
         }
     }
-    Ok(())
+    Err(LiveFault::InternalError)
 }
 
 // Tells what is not told yet, and serves what comes next. Whether more may come.
 fn serve_next<I: Input, S: Sink, N: Reports>(
-    host: &mut Host,
+    host: &mut Host<'_>,
     input: &mut I,
     lines: &mut Lines,
-    printed: &mut Growing,
     out: &mut S,
     reports: &mut N,
 ) -> Result<bool, LiveFault>
-    requires begun { IsInStep host.old.engine printed.old }
-    ensures told { (base : Option (List ℕ)) → IsTold host.old.engine.history printed.old base (S.bytes out.old) → Tells host.new.engine base result printed.new (S.bytes out.new) }
-    ensures step { OnOk result (IsInStep host.new.engine printed.new) }
-    ensures setup { host.new.engine.setup ≡ host.old.engine.setup }
+    requires begun { IsTrue lines.old.is_ended → IsTrue (I.has_ended input.old) }
+    ensures grown { Grows host.old.engine (S.bytes out.old) (S.failures out.old) host.new.engine (S.bytes out.new) (S.failures out.new) }
     ensures unread { result ≡ Err Unread → IsTrue (I.has_failed input.new) }
     ensures still { OnOk result (I.has_failed input.new ≡ I.has_failed input.old) }
-    ensures unwritten { result ≡ Err Unwritten → HasFailed (S.failures out.old) (S.failures out.new) }
-    ensures none { OnOk result (S.failures out.new ≡ S.failures out.old) }
+    ensures going { IsTrue lines.new.is_ended → IsTrue (I.has_ended input.new) }
+    ensures ended { IfOk result (λ is_more. is_more ≡ false → IsTrue (I.has_ended input.new)) }
+    ensures unwritten { result ≡ Err Unwritten → host.new.engine.printed.has_failed ≡ true }
 {
-    tell(&host.engine, printed, out, !lines.is_there(input))?;
-    match serve_what_comes(host, input, lines, reports) {
+    host.engine.tell(out, !lines.is_there(input))?;
+    match serve_what_comes(host, input, lines, out, reports) {
         Ok(is_more) => Ok(is_more),
-        Err(fault) => Err(stop(&host.engine, printed, out, fault)),
+        Err(fault) => Err(stop(host, out, fault)),
     }
 }
 
 // Waits for a line, or for the next timer, and carries out what it asks. Whether more may come.
-fn serve_what_comes<I: Input, N: Reports>(
-    host: &mut Host,
+fn serve_what_comes<I: Input, S: Sink, N: Reports>(
+    host: &mut Host<'_>,
     input: &mut I,
     lines: &mut Lines,
+    out: &mut S,
     reports: &mut N,
 ) -> Result<bool, LiveFault>
-    ensures grown { Grows host.old.engine host.new.engine }
+    requires begun { IsTrue lines.old.is_ended → IsTrue (I.has_ended input.old) }
+    ensures grown { Grows host.old.engine (S.bytes out.old) (S.failures out.old) host.new.engine (S.bytes out.new) (S.failures out.new) }
     ensures unread { result ≡ Err Unread → IsTrue (I.has_failed input.new) }
     ensures still { OnOk result (I.has_failed input.new ≡ I.has_failed input.old) }
+    ensures going { IsTrue lines.new.is_ended → IsTrue (I.has_ended input.new) }
+    ensures ended { IfOk result (λ is_more. is_more ≡ false → IsTrue (I.has_ended input.new)) }
     ensures written { result ≢ Err Unwritten }
 {
     match lines.next(input, host.next_due()) {
         Next::Line => {
-            host.serve_line(lines.line(), lines.number(), input.now(), reports)?;
+            host.serve_line(lines.line(), lines.number(), input.now(), reports, out)?;
             Ok(true)
         }
         Next::Due(reading) => {
-            host.read_clock(reading)?;
+            host.read_clock(reading, out)?;
             Ok(true)
         }
         Next::End => Ok(false),
@@ -181,50 +195,27 @@ fn serve_what_comes<I: Input, N: Reports>(
     }
 }
 
-// Prints the records that are new, and hands all on where nothing more is there.
-fn tell<S: Sink>(
-    engine: &Engine,
-    printed: &mut Growing,
-    out: &mut S,
-    is_last: bool,
-) -> Result<(), LiveFault>
-    requires begun { IsInStep engine.now printed.old }
-    ensures told { (base : Option (List ℕ)) → IsTold engine.now.history printed.old base (S.bytes out.old) → Tells engine.now base result printed.new (S.bytes out.new) }
-    ensures step { OnOk result (IsInStep engine.now printed.new) }
-    ensures all { OnOk result (printed.new.printed ≡ length engine.now.history) }
-    ensures run { IsRun engine.now }
-    ensures unwritten { IfErr result (λ fault. fault ≡ Unwritten) }
-    ensures failures { FailsBySink (S.failures out.old) result (S.failures out.new) }
-{
-    printed.print_news(engine.records(), out)?;
-    if is_last {
-        printed.hand_on(out)?;
-    }
-    Ok(())
-}
-
-// Prints the records that are new, and hands all on, where the engine stops for that fault, or for the one that this meets.
-fn stop<S: Sink>(engine: &Engine, printed: &mut Growing, out: &mut S, fault: LiveFault) -> LiveFault
-    requires begun { IsInStep engine.now printed.old }
+// Hands all on where the engine stops for that fault, or for the one that this meets.
+fn stop<S: Sink>(host: &mut Host<'_>, out: &mut S, fault: LiveFault) -> LiveFault
     requires written { fault ≢ Unwritten }
-    ensures told { (base : Option (List ℕ)) → IsTold engine.now.history printed.old base (S.bytes out.old) → IsBegun engine.now.setup base (S.bytes out.new) }
+    ensures grown { Grows host.old.engine (S.bytes out.old) (S.failures out.old) host.new.engine (S.bytes out.new) (S.failures out.new) }
     ensures unread { result ≡ Unread → fault ≡ Unread }
-    ensures unwritten { result ≡ Unwritten → HasFailed (S.failures out.old) (S.failures out.new) }
+    ensures unwritten { result ≡ Unwritten → host.new.engine.printed.has_failed ≡ true }
 {
-    match tell(engine, printed, out, true) {
+    match host.engine.tell(out, true) {
         Ok(()) => fault,
-        Err(unwritten) => unwritten,
+        Err(failed) => LiveFault::from(failed),
     }
 }
 
-// Prints the records that are new, and the last line.
-fn end<S: Sink>(engine: &Engine, mut printed: Growing, out: &mut S) -> Result<(), LiveFault>
-    requires begun { IsInStep engine.now printed }
-    ensures told { (base : Option (List ℕ)) → IsTold engine.now.history printed base (S.bytes out.old) → Serves engine.now.setup base result (S.bytes out.new) }
-    ensures unwritten { IfErr result (λ fault. fault ≡ Unwritten) }
-    ensures failures { FailsBySink (S.failures out.old) result (S.failures out.new) }
+// Prints the last line.
+fn end<S: Sink>(host: Host<'_>, out: &mut S) -> Result<(), LiveFault>
+    ensures told { (setup : Setup) (base : Option (List ℕ)) (failed : ℕ) → Grows (opened_printed setup) base failed host.entry.engine (S.bytes out.old) (S.failures out.old) → Serves setup base result (S.bytes out.new) }
+    ensures failed { IfErr result (λ fault. fault ≡ Unwritten) }
+    ensures unwritten { (setup : Setup) (base : Option (List ℕ)) (failed : ℕ) → Grows (opened_printed setup) base failed host.entry.engine (S.bytes out.old) (S.failures out.old) → IfErr result (λ _. HasFailed failed (S.failures out.new)) }
 {
-    tell(engine, &mut printed, out, false)?;
-    printed.end(engine.totals(), out)?;
-    Ok(())
+    match host.into_engine().end(out) {
+        Ok(()) => Ok(()),
+        Err(failed) => Err(LiveFault::from(failed)),
+    }
 }

@@ -1,7 +1,5 @@
-use Rattle.std.proofs.Common.{List, inl, inr, subst}
+use Rattle.std.proofs.Common.{inl, inr}
 use Rattle.std.proofs.lemmas.Result.{err_from_is_err_and}
-use Rattle.scenario.specs.declared.steps.Step.{Step}
-use Rattle.host_scenario.specs.Faults.{IsOfRun}
 use Rattle.cli_commands.proofs.Rejected.{of_manifest, of_run, of_scenario}
 use Rattle.cli_commands.proofs.carrying.run.Goals as goal
 
@@ -18,6 +16,6 @@ returns-in_err-steps-clause-fault g c =
 pub returns-in_err-run-clause-fault : goal.returns-in_err-run-clause-fault
 returns-in_err-run-clause-fault g c =
     let error = c.in_err-run.field-0.0 in
-    let told = subst (λ (steps : List Step). IsOfRun c.in_ok-manifest-2.manifest.config steps error) c.deref.ensures.value c.in_err-run.ensures.fault in
+    let told = c.in_err-run.ensures.fault in
     let answer = err_from_is_err_and c.from_residual-in_err-run.result c.from_residual-in_err-run.ensures.1 in
-    rw (answer.1, answer.2) (λ is. inr (inr (of_run error c.in_ok-manifest.manifest.now c.in_ok-scenario.scenario.now c.args.manifest.1.now c.args.scenario.1.now c.in_ok-manifest-2.manifest.config _ c.in_ok-steps.steps.items told c.in_ok-manifest-2.ensures.found c.in_ok-manifest.ensures.0 c.in_ok-steps.ensures.said c.in_ok-scenario.ensures.0 is)))
+    rw (answer.1, answer.2) (λ is. inr (inr (of_run error c.in_ok-manifest.manifest.now c.in_ok-scenario.scenario.now c.args.manifest.1.now c.args.scenario.1.now c.in_ok-manifest-2.manifest.config _ c.in_ok-steps.steps told c.in_ok-manifest-2.ensures.found c.in_ok-manifest.ensures.0 c.in_ok-steps.ensures.said c.in_ok-scenario.ensures.0 is)))

@@ -1,15 +1,19 @@
-use Rattle.std.proofs.Common.{◌∙◌, subst}
-use Rattle.world.specs.World.{Setup}
-use Rattle.host_live.specs.Telling.{IsBegun, Serves}
-use Rattle.host_live.proofs.Told.{told_grown}
+use Rattle.std.proofs.Common.{◌∙◌, refl}
+use Rattle.host_live.specs.Growth.{opened_printed}
+use Rattle.host_live.proofs.Growing.{failed_meanwhile, grows_both}
+use Rattle.host_live.proofs.Told.{begun_so}
 use Rattle.host_live.proofs.serving.serve_all.Goals as goal
 
 pub returns-in-Ok-clause-told : goal.returns-in-Ok-clause-told
-returns-in-Ok-clause-told g c = λ base told.
-    let there = told_grown c.serve_lines.new.host.engine c.drive_all.new.self.engine c.serve_lines.new.printed base _ c.drive_all.ensures c.in_ok-serve_lines.ensures.step (c.in_ok-serve_lines.ensures.told base told) in
-    subst (λ (setup : Setup). Serves setup base c.end.result (g.S.Sink.bytes c.end.new.out)) (c.drive_all.ensures.setup ∙ c.serve_lines.ensures.setup) (c.end.ensures.told base there)
+returns-in-Ok-clause-told g c = λ setup base failed grows. c.end.ensures.told setup base failed (grows_both _ _ _ _ _ _ _ _ _ grows c.serve_input.ensures.grown)
 
 pub returns-in-Err-clause-told : goal.returns-in-Err-clause-told
-returns-in-Err-clause-told g c = λ base told.
-    let there = told_grown c.serve_lines.new.host.engine c.drive_all.new.self.engine c.serve_lines.new.printed base _ c.drive_all.ensures c.in_ok-serve_lines.ensures.step (c.in_ok-serve_lines.ensures.told base told) in
-    subst (λ (setup : Setup). IsBegun setup base (g.S.Sink.bytes c.stop.new.out)) (c.drive_all.ensures.setup ∙ c.serve_lines.ensures.setup) (c.stop.ensures.told base there)
+returns-in-Err-clause-told g c = λ setup base failed grows. begun_so setup _ base _ failed _ (grows_both _ _ _ _ _ _ _ _ _ grows c.serve_input.ensures.grown)
+
+pub returns-in-Ok-clause-unwritten : goal.returns-in-Ok-clause-unwritten
+returns-in-Ok-clause-unwritten g c = λ setup base failed grows is.
+    let err = c.end.ensures.unwritten setup base failed (grows_both _ _ _ _ _ _ _ _ _ grows c.serve_input.ensures.grown) in rw is at err
+
+pub returns-in-Err-clause-unwritten : goal.returns-in-Err-clause-unwritten
+returns-in-Err-clause-unwritten g c = λ setup base failed grows is.
+    failed_meanwhile (opened_printed setup) _ base _ failed _ refl (c.serve_input.ensures.unwritten (c.in-Err.is ∙ is)) (grows_both _ _ _ _ _ _ _ _ _ grows c.serve_input.ensures.grown)

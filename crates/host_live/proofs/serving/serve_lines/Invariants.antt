@@ -1,13 +1,12 @@
--- what is told so far
-use Rattle.std.proofs.Common.{◌≡◌, ℕ, Option, List}
-use Rattle.host_live.specs.Telling.{IsInStep, IsTold}
+-- what was made so far
+use Rattle.std.proofs.Common.{◌≡◌}
+use Rattle.std.specs.Prelude.{IsTrue}
+use Rattle.host_live.specs.Growth.{Grows}
 use Rattle.host_live.proofs.serving.serve_lines.Given as goal
 
 abbrev pub invariant-loop : goal.invariant-loop
 invariant-loop g l = record {
-  told : (base : Option (List ℕ)) → IsTold l.fn.host.engine.history l.fn.printed base (g.S.Sink.bytes l.fn.out) → IsTold l.host.engine.history l.printed base (g.S.Sink.bytes l.out);
-  step : IsInStep l.host.engine l.printed;
-  setup : l.host.engine.setup ≡ l.fn.host.engine.setup;
+  grown : Grows l.fn.host.engine (g.S.Sink.bytes l.fn.out) (g.S.Sink.failures l.fn.out) l.host.engine (g.S.Sink.bytes l.out) (g.S.Sink.failures l.out);
   still : g.I.Input.has_failed l.input ≡ g.I.Input.has_failed l.fn.input;
-  none : g.S.Sink.failures l.out ≡ g.S.Sink.failures l.fn.out;
+  begun : IsTrue l.lines.is_ended → IsTrue (g.I.Input.has_ended l.input);
 }

@@ -1,6 +1,10 @@
 -- no read failed as yet
 use Rattle.std.proofs.Common.{◌≡◌}
+use Rattle.std.specs.Prelude.{IsTrue}
 use Rattle.host_live.proofs.lines.Lines.next.Given as goal
 
 abbrev pub invariant-loop : goal.invariant-loop
-invariant-loop g l = g.I.Input.has_failed l.input ≡ g.I.Input.has_failed l.fn.input
+invariant-loop g l = record {
+  still : g.I.Input.has_failed l.input ≡ g.I.Input.has_failed l.fn.input;
+  ended : IsTrue l.self.is_ended → IsTrue (g.I.Input.has_ended l.input);
+}

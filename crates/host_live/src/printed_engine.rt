@@ -1,0 +1,183 @@
+// An engine whose records are printed as they come, and forgotten. It relies on `engine_core` for the engine, and on `printed` for what
+// goes out.
+
+ghost use Rattle.std.specs.Prelude.{◌≡◌, ◌↔◌, [], ℕ, List, None, Option, Some, true, false, IfErr, IfOk, IfSome, IsNone, IsSome, IsTrue, OnErr, OnOk};
+ghost use Rattle.freeze_ledger.specs.Deadlines.{some_timer};
+ghost use Rattle.freeze_ledger.specs.Freezes.{entry_of};
+ghost use Rattle.engine_core.specs.ByNumber.{guests_of, sums_behind};
+ghost use Rattle.engine_core.specs.Looking.{first_out};
+ghost use Rattle.engine_transport.specs.Freezing.{IsNextDue};
+ghost use Rattle.trace.specs.Sinks.{HasFailed};
+ghost use Rattle.world.specs.World.{Setup};
+ghost use Rattle.world_calls.specs.declared.record.Record.{Record as TheRecord};
+ghost use Rattle.host_live.specs.Growth.{GrowsBy, Grows, IsMadeBy, opened_printed, record_of_call};
+ghost use Rattle.host_live.specs.Telling.{Serves};
+
+use crate::printed::Printed;
+use engine_core::{Config, NumberedEngine};
+use std::alloc::{AllocError, Global};
+use std::marker::Model;
+use trace::{Sink, WriteFailed};
+use world_calls::{Call, CallAnswer, Record, StoppedAt, Totals, Version};
+
+/// What became of a run that was to go on.
+#[derive(Clone, Copy)]
+pub(crate) enum Advanced {
+    /// No run of that number is out.
+    NotOut,
+    /// It came to a helper call.
+    Goes,
+    /// It came to its exit.
+    Ended,
+}
+
+/// An engine, and its trace as far as it went out.
+#[derive(Drop)]
+pub(crate) struct PrintedEngine<'a> {
+    engine: NumberedEngine<'a>,
+    printed: Printed,
+}
+
+impl<'a> Model for PrintedEngine<'a> {
+    ghost use Rattle.host_live.specs.Growth.{IsUnderway, PrintedState};
+
+    ghost Value = { PrintedState };
+
+    ghost view = { λ e. record { engine = e.engine; printed = e.printed } };
+
+    ghost invariant = { λ e. IsUnderway e.engine e.printed };
+}
+
+// Whether that record is of a run's exit.
+fn is_exit(entry: &Record) -> bool {
+    match entry {
+        Record::Advance { stop, .. } => matches!(stop, StoppedAt::Exit),
+        Record::Called { .. } => false,
+    }
+}
+
+impl<'a> PrintedEngine<'a> {
+    /// An engine of which nothing was asked. The first line of its trace waits.
+    pub(crate) fn open(alloc: Global, config: &'a Config) -> Result<Self, AllocError>
+        ensures { IfOk result (λ opened. opened ≡ opened_printed config.now) }
+    {
+        let engine = NumberedEngine::open(alloc, config)?;
+        let printed = Printed::of(Version::of(config.helpers()));
+        Ok(PrintedEngine { engine, printed })
+    }
+
+    /// Carries a call out, or refuses it, and prints its record: the answer. `None`, which changes nothing, if the call is no event here.
+    /// If memory is refused, or records cannot be counted any more, nothing changes.
+    pub(crate) fn call<S: Sink>(
+        &mut self,
+        call: Call,
+        out: &mut S,
+    ) -> Result<Option<CallAnswer>, AllocError>
+        ensures { GrowsBy (record_of_call call result) self.old (S.bytes out.old) (S.failures out.old) self.new (S.bytes out.new) (S.failures out.new) }
+    {
+        if self.printed.count >= u64::MAX {
+            return Err(AllocError);
+        }
+        match self.engine.call(&call) {
+            Ok(Some(answer)) => {
+                let entry = Record::Called { answer, call };
+                self.printed.print(&entry, out);
+                Ok(Some(answer))
+            }
+            Ok(None) => Ok(None),
+            Err(fault) => Err(fault),
+        }
+    }
+
+    /// Lets a run go on to its next stop, and prints the record of that. If memory is refused, or records cannot be counted any more, nothing
+    /// changes.
+    pub(crate) fn advance<S: Sink>(&mut self, run: u32, out: &mut S) -> Result<Advanced, AllocError>
+        ensures made { IfOk result (λ advanced. (more : List TheRecord) × IsMadeBy run advanced more × GrowsBy more self.old (S.bytes out.old) (S.failures out.old) self.new (S.bytes out.new) (S.failures out.new)) }
+        ensures refused { OnErr result (GrowsBy [] self.old (S.bytes out.old) (S.failures out.old) self.new (S.bytes out.new) (S.failures out.new)) }
+    {
+        if self.printed.count >= u64::MAX {
+            return Err(AllocError);
+        }
+        match self.engine.advance(run) {
+            Ok(Some(entry)) => {
+                self.printed.print(&entry, out);
+                if is_exit(&entry) {
+                    Ok(Advanced::Ended)
+                } else {
+                    Ok(Advanced::Goes)
+                }
+            }
+            Ok(None) => Ok(Advanced::NotOut),
+            Err(fault) => Err(fault),
+        }
+    }
+
+    /// Whether a run of that number is out.
+    pub(crate) fn is_out(&self, run: u32) -> bool {
+        match self.engine.run(run) {
+            Some(told) => told.is_out,
+            None => false,
+        }
+    }
+
+    /// Whether a guest holds the freeze of that number.
+    pub(crate) fn is_guests(&self, freeze: u32) -> bool
+        ensures there { IsTrue result → IsSome (entry_of freeze (guests_of self.now.engine.transport.freezes)) }
+        ensures none { result ≡ false → entry_of freeze (guests_of self.now.engine.transport.freezes) ≡ None }
+    {
+        self.engine.is_guests(freeze)
+    }
+
+    /// The first run that is out, in the order of their numbers; `None` exactly if none is.
+    pub(crate) fn first_out(&self) -> Option<u32>
+        ensures { result ≡ first_out self.now.engine.runs.list }
+    {
+        self.engine.first_out()
+    }
+
+    /// When the next timer is due, in milliseconds of the clock; `None` exactly if no timer holds a freeze.
+    pub(crate) fn next_due(&self) -> Option<u64>
+        ensures first { IfSome result (IsNextDue self.now.engine.transport.freezes) }
+        ensures none { IsNone result ↔ (some_timer self.now.engine.transport.freezes ≡ false) }
+    {
+        self.engine.next_due()
+    }
+
+    /// The sums so far.
+    pub(crate) fn totals(&self) -> Totals
+        ensures { result ≡ sums_behind self.now.printed.count self.now.engine }
+    {
+        self.engine.totals(self.printed.count)
+    }
+
+    /// Hands on what waits, if nothing more comes for now. It reports a write that failed.
+    pub(crate) fn tell<S: Sink>(&mut self, out: &mut S, is_last: bool) -> Result<(), WriteFailed>
+        ensures printed { GrowsBy [] self.old (S.bytes out.old) (S.failures out.old) self.new (S.bytes out.new) (S.failures out.new) }
+        ensures whole { OnOk result (self.new.printed.has_failed ≡ false) }
+        ensures failed { IfErr result (λ _. self.new.printed.has_failed ≡ true) }
+    {
+        if is_last {
+            self.printed.hand_on(out)
+        } else {
+            self.printed.is_whole()
+        }
+    }
+
+    /// Prints the last line, and hands all on. It reports a write that fails, or failed before.
+    pub(crate) fn end<S: Sink>(self, out: &mut S) -> Result<(), WriteFailed>
+        ensures told { (setup : Setup) (base : Option (List ℕ)) (failed : ℕ) → Grows (opened_printed setup) base failed self.entry (S.bytes out.old) (S.failures out.old) → Serves setup base result (S.bytes out.new) }
+        ensures failed { (setup : Setup) (base : Option (List ℕ)) (failed : ℕ) → Grows (opened_printed setup) base failed self.entry (S.bytes out.old) (S.failures out.old) → IfErr result (λ _. HasFailed failed (S.failures out.new)) }
+    {
+        let totals = self.totals();
+        let PrintedEngine { engine: _, printed } = self;
+        let Printed {
+            lines,
+            count: _,
+            has_failed,
+        } = printed;
+        if has_failed {
+            return Err(WriteFailed);
+        }
+        lines.end(totals, out)
+    }
+}

@@ -3,11 +3,11 @@
 
 use ccb::{CcbId, Place};
 use engine_core::{
-    AdvanceAnswer, AdvanceFault, Back, CallFault, CompleteAnswer, Engine, Event, Given,
-    ReleaseFault, Reply, Run, Stopped,
+    AdvanceAnswer, AdvanceFault, CallFault, CompleteAnswer, Engine, Event, ReleaseFault, Reply,
+    Returned, Run, Stopped, Success,
 };
 use freeze_ledger::FreezeToken;
-use host_handles::Answers;
+use host_handles::Responder;
 use interpreter::{Segment, to_stop};
 use std::alloc::AllocError;
 use std::mem;
@@ -31,7 +31,7 @@ pub struct Asked {
     pub manner: Manner,
 }
 
-impl Answers for Asked {
+impl Responder for Asked {
     ghost answers = { λ _ _ _ _. Unit };
 
     fn answer(&mut self, event: Event<'_>) -> Reply {
@@ -57,11 +57,13 @@ fn by_method(engine: &mut Engine, event: Event<'_>) -> Reply {
         } => ccb_replied(engine.submit(queue, priority, retries)),
         Event::Dispatch { queue } => ccb_replied(engine.dispatch(queue)),
         Event::Complete { completion } => match engine.complete(*completion) {
-            Ok(CompleteAnswer::Done) => Reply::Given(Given::Done),
-            Ok(CompleteAnswer::Started(run, freeze)) => Reply::Given(Given::Started(run, freeze)),
+            Ok(CompleteAnswer::Done) => Reply::Success(Success::Done),
+            Ok(CompleteAnswer::Started(run, freeze)) => Reply::Success(Success::Started(
+                run, freeze,
+            )),
             // it comes back as it was
             Err((fault, back)) if back == *completion => refused(fault),
-            Err(_) => Reply::Unfit(Back::Nothing),
+            Err(_) => Reply::NotAdmitted(Returned::Nothing),
         },
         Event::Advance { run } => stop_replied(engine.go_on(run)),
         Event::Clock { reading } => count_replied(engine.clock(reading)),
@@ -79,65 +81,65 @@ fn by_method(engine: &mut Engine, event: Event<'_>) -> Reply {
 
 fn refused(fault: CallFault) -> Reply {
     match fault {
-        CallFault::OutOfMemory => Reply::OutOfMemory(Back::Nothing),
+        CallFault::OutOfMemory => Reply::OutOfMemory(Returned::Nothing),
         CallFault::Refused(refusal) => Reply::Refused(refusal),
     }
 }
 
 fn ccb_replied(answer: Result<CcbId, CallFault>) -> Reply {
     match answer {
-        Ok(ccb) => Reply::Given(Given::Ccb(ccb)),
+        Ok(ccb) => Reply::Success(Success::Ccb(ccb)),
         Err(fault) => refused(fault),
     }
 }
 
 fn count_replied(answer: Result<u32, CallFault>) -> Reply {
     match answer {
-        Ok(count) => Reply::Given(Given::Removed(count)),
+        Ok(count) => Reply::Success(Success::Removed(count)),
         Err(fault) => refused(fault),
     }
 }
 
 fn token_replied(answer: Result<FreezeToken, CallFault>) -> Reply {
     match answer {
-        Ok(token) => Reply::Given(Given::Freeze(token)),
+        Ok(token) => Reply::Success(Success::Freeze(token)),
         Err(fault) => refused(fault),
     }
 }
 
 fn release_replied(answer: Result<u32, (ReleaseFault, FreezeToken)>) -> Reply {
     match answer {
-        Ok(count) => Reply::Given(Given::Left(count)),
-        Err((ReleaseFault::NotHeld, token)) => Reply::Unfit(Back::Token(token)),
-        Err((ReleaseFault::OutOfMemory, token)) => Reply::OutOfMemory(Back::Token(token)),
+        Ok(count) => Reply::Success(Success::Left(count)),
+        Err((ReleaseFault::NotHeld, token)) => Reply::NotAdmitted(Returned::Token(token)),
+        Err((ReleaseFault::OutOfMemory, token)) => Reply::OutOfMemory(Returned::Token(token)),
     }
 }
 
 fn park_replied(answer: Result<(), Run>) -> Reply {
     match answer {
-        Ok(()) => Reply::Given(Given::Parked),
-        Err(run) => Reply::Unfit(Back::Run(run)),
+        Ok(()) => Reply::Success(Success::Parked),
+        Err(run) => Reply::NotAdmitted(Returned::Run(run)),
     }
 }
 
 fn resume_replied(answer: Result<Run, CallFault>) -> Reply {
     match answer {
-        Ok(run) => Reply::Given(Given::Resumed(run)),
+        Ok(run) => Reply::Success(Success::Resumed(run)),
         Err(fault) => refused(fault),
     }
 }
 
 fn advanced(answer: AdvanceAnswer) -> Reply {
     match answer {
-        AdvanceAnswer::Goes(run, r0) => Reply::Given(Given::Goes(run, r0)),
-        AdvanceAnswer::Ended(r0) => Reply::Given(Given::Ended(r0)),
+        AdvanceAnswer::Goes(run, r0) => Reply::Success(Success::Goes(run, r0)),
+        AdvanceAnswer::Ended(r0) => Reply::Success(Success::Ended(r0)),
     }
 }
 
 fn not_advanced(fault: AdvanceFault, run: Run) -> Reply {
     match fault {
-        AdvanceFault::NotOut => Reply::Unfit(Back::Run(run)),
-        AdvanceFault::OutOfMemory => Reply::OutOfMemory(Back::Run(run)),
+        AdvanceFault::NotOut => Reply::NotAdmitted(Returned::Run(run)),
+        AdvanceFault::OutOfMemory => Reply::OutOfMemory(Returned::Run(run)),
     }
 }
 
@@ -156,7 +158,7 @@ fn segment_of(run: &Run) -> Result<Segment, AllocError> {
 fn by_segment(engine: &mut Engine, run: Run) -> Reply {
     match segment_of(&run) {
         Ok(segment) => present(engine, run, segment).0,
-        Err(AllocError) => Reply::OutOfMemory(Back::Run(run)),
+        Err(AllocError) => Reply::OutOfMemory(Returned::Run(run)),
     }
 }
 
@@ -174,20 +176,20 @@ pub struct Stretching {
     pub kept: Option<Segment>,
 }
 
-impl Answers for Stretching {
+impl Responder for Stretching {
     ghost answers = { λ _ _ _ _. Unit };
 
     fn answer(&mut self, event: Event<'_>) -> Reply {
         let run = match event {
             Event::Advance { run } => run.back(),
-            other => return Reply::Unfit(other.owned()),
+            other => return Reply::NotAdmitted(other.owned()),
         };
         match segment_of(&run) {
             Ok(segment) => {
                 self.kept = Some(segment);
-                Reply::Unfit(Back::Run(run))
+                Reply::NotAdmitted(Returned::Run(run))
             }
-            Err(AllocError) => Reply::OutOfMemory(Back::Run(run)),
+            Err(AllocError) => Reply::OutOfMemory(Returned::Run(run)),
         }
     }
 }
@@ -199,13 +201,16 @@ pub struct Presenting<'a> {
     pub kept: &'a mut Option<Segment>,
 }
 
-impl Answers for Presenting<'_> {
-    ghost answers = { λ _ _ _ _. Unit };
+impl Responder for Presenting<'_> {
+    ghost use Rattle.std.specs.Prelude.{◌≡◌};
+
+    // it keeps the loans that it has
+    ghost answers = { λ old _ _ new. (new.engine.ghost_name ≡ old.engine.ghost_name) × (new.kept.ghost_name ≡ old.kept.ghost_name) };
 
     fn answer(&mut self, event: Event<'_>) -> Reply {
         let run = match event {
             Event::Advance { run } => run.back(),
-            other => return Reply::Unfit(other.owned()),
+            other => return Reply::NotAdmitted(other.owned()),
         };
         match mem::replace(self.kept, None) {
             Some(segment) => {
@@ -213,7 +218,7 @@ impl Answers for Presenting<'_> {
                 *self.kept = back;
                 reply
             }
-            None => Reply::Unfit(Back::Run(run)),
+            None => Reply::NotAdmitted(Returned::Run(run)),
         }
     }
 }

@@ -2,22 +2,21 @@
 // lines.
 
 use crate::asking::{Presenting, Stretching};
-use crate::side::{Side, ask, put, put_totals};
-use world_calls::Totals;
-use engine_core::Event;
-use host_handles::Told;
-use interpreter::Segment;
+use crate::side::{Side, put, put_totals};
+use host_handles::Unanswered;
 use host_live::{Request, request_of};
-use scenario::{Command, is_skipped};
+use interpreter::Segment;
+use scenario::is_skipped;
 use std::alloc::{AllocError, Global};
 use std::mem;
+use world_calls::Totals;
 
 /// What became of a line.
 #[derive(Clone, Copy, Debug, PartialEq, Eq)]
 enum Became {
     Done,
     /// C4 or C6: what was handed in came back.
-    Unfit,
+    NotAdmitted,
     /// What was to be handed in is not there.
     NotHeld,
     /// The sums are to be told.
@@ -36,12 +35,13 @@ pub struct Desk {
     out: Vec<u8>,
 }
 
-// What was replied, as what became of a line.
-fn outcome_of(told: Told) -> Became {
-    match told {
-        Told::Answered(_) | Told::Goes(_) | Told::Ended(_) => Became::Done,
-        Told::Unfit => Became::Unfit,
-        Told::OutOfMemory => Became::OutOfMemory,
+// What was answered, as what became of a line.
+fn outcome_of<T: Drop>(answered: Result<T, Unanswered>) -> Became {
+    match answered {
+        Ok(_) => Became::Done,
+        Err(Unanswered::NotHeld) => Became::NotHeld,
+        Err(Unanswered::NotAdmitted) => Became::NotAdmitted,
+        Err(Unanswered::OutOfMemory) => Became::OutOfMemory,
     }
 }
 
@@ -106,7 +106,7 @@ impl Desk {
     fn tell(&mut self, became: Became) -> Result<(), AllocError> {
         match became {
             Became::Done => Ok(()),
-            Became::Unfit => put(&mut self.out, b"unfit\n"),
+            Became::NotAdmitted => put(&mut self.out, b"unfit\n"),
             Became::NotHeld => put(&mut self.out, b"not held\n"),
             Became::Sums => put_totals(&mut self.out, self.asked.totals()),
             Became::Unknown => put(&mut self.out, b"unknown\n"),
@@ -115,14 +115,13 @@ impl Desk {
     }
 
     fn attempt(&mut self, line: &str) -> Became {
-        match request_of(line) {
-            Some(Request::Command(command)) => self.command(command),
-            Some(Request::Totals) => Became::Sums,
-            Some(Request::Step(run)) => self.step(run),
-            Some(Request::Park(run)) => self.park(run),
-            Some(Request::Resume(run)) => outcome_of(self.asked.ask(Event::Resume { run })),
-            Some(Request::Drive(_)) => Became::Unknown,
-            None => self.attempt_own(line),
+        match request_of(*self.out.allocator(), line) {
+            Ok(Some(Request::Call(call))) => outcome_of(self.asked.call(&call)),
+            Ok(Some(Request::Totals)) => Became::Sums,
+            Ok(Some(Request::Step(run))) => outcome_of(self.asked.step(run)),
+            Ok(Some(Request::Drive(_) | Request::Drain)) => Became::Unknown,
+            Ok(None) => self.attempt_own(line),
+            Err(AllocError) => Became::OutOfMemory,
         }
     }
 
@@ -146,74 +145,24 @@ impl Desk {
         }
     }
 
-    fn command(&mut self, command: Command) -> Became {
-        let told = match command {
-            Command::Submit {
-                queue,
-                priority,
-                retries,
-            } => self.asked.ask(Event::Submit {
-                queue,
-                priority,
-                retries,
-            }),
-            Command::Dispatch { queue } => self.asked.ask(Event::Dispatch { queue }),
-            Command::Complete { completion } => self.asked.ask(Event::Complete {
-                completion: &completion,
-            }),
-            Command::Drain => return Became::Unknown,
-            Command::GuestFreeze { place, guest } => {
-                self.asked.ask(Event::GuestFreeze { place, guest })
-            }
-            Command::GuestRelease { freeze } => match self.asked.hands.take_token(freeze) {
-                Some(token) => self.asked.ask(Event::GuestRelease { token }),
-                None => return Became::NotHeld,
-            },
-            Command::Clock { reading } => self.asked.ask(Event::Clock { reading }),
-        };
-        outcome_of(told)
-    }
-
-    fn step(&mut self, number: u32) -> Became {
-        match self.asked.hands.take_run(number) {
-            Some(run) => outcome_of(self.asked.ask(Event::Advance { run: run.to_stop() })),
-            None => Became::NotHeld,
-        }
-    }
-
-    fn park(&mut self, number: u32) -> Became {
-        match self.asked.hands.take_run(number) {
-            Some(run) => outcome_of(self.asked.ask(Event::Park { run })),
-            None => Became::NotHeld,
-        }
-    }
-
     // Keeps what a run does up to its next stop.
     fn stretch(&mut self, number: u32) -> Became {
-        let Some(run) = self.asked.hands.take_run(number) else {
-            return Became::NotHeld;
-        };
-        let event = Event::Advance { run: run.to_stop() };
         let mut stretching = Stretching { kept: None };
-        let told = ask(&mut self.asked.hands, &mut stretching, event);
+        let answered = self.asked.hands.advance(&mut stretching, number);
         if stretching.kept.is_some() {
             self.kept = stretching.kept;
             Became::Done
         } else {
-            outcome_of(told)
+            outcome_of(answered)
         }
     }
 
     // Hands a run in with what was kept.
     fn present(&mut self, number: u32) -> Became {
-        let Some(run) = self.asked.hands.take_run(number) else {
-            return Became::NotHeld;
-        };
-        let event = Event::Advance { run: run.to_stop() };
         let mut presenting = Presenting {
             engine: &mut self.asked.asked.engine,
             kept: &mut self.kept,
         };
-        outcome_of(ask(&mut self.asked.hands, &mut presenting, event))
+        outcome_of(self.asked.hands.advance(&mut presenting, number))
     }
 }

@@ -9,7 +9,6 @@ mod desk;
 mod side;
 
 use asking::Manner;
-use test_tally::{Tally, words};
 use desk::Desk;
 use side::{Side, engine_of};
 use std::alloc::{AllocError, Global};
@@ -17,6 +16,7 @@ use std::process::ExitCode;
 use std::rt::Files;
 use std::{fs, io};
 use test_cases::{Case, CaseError};
+use test_tally::{Tally, words};
 
 /// The manners in which an engine is asked.
 const MANNERS: [Manner; 3] = [Manner::Events, Manner::Methods, Manner::Segments];

@@ -3,17 +3,17 @@
 
 use crate::asking::{Asked, Manner};
 use base::OrMemory;
-use trace_lines::Text;
-use world_calls::{Record, Totals};
-use engine_core::{Config, Engine, Event};
-use host_handles::{Answers, Hands, Told};
+use engine_core::{Config, Engine};
+use host_handles::{HeldHandles, Unanswered};
 use std::alloc::{AllocError, Global};
 use trace::{print_entry, print_totals};
+use trace_lines::Text;
+use world_calls::{Call, CallAnswer, Record, Totals};
 
 /// An engine, and what it gave.
 pub struct Side {
     pub asked: Asked,
-    pub hands: Hands,
+    pub hands: HeldHandles,
     // of how many records the lines were told
     told: usize,
 }
@@ -78,26 +78,12 @@ pub fn put_totals(out: &mut Vec<u8>, totals: Totals) -> Result<(), AllocError> {
     put(out, text.as_slice())
 }
 
-/// Asks what an event leads to, and keeps what is given or what comes back. If there is no memory for room, the same is asked once more.
-pub fn ask<A: Answers>(hands: &mut Hands, asked: &mut A, event: Event<'_>) -> Told {
-    match hands.ask(asked, event) {
-        Ok(told) => told,
-        Err(event) => match hands.ask(asked, event) {
-            Ok(told) => told,
-            Err(event) => {
-                event.forfeit();
-                Told::OutOfMemory
-            }
-        },
-    }
-}
-
 impl Side {
     /// An engine of which nothing was asked.
     pub fn of(alloc: Global, engine: Engine, manner: Manner) -> Self {
         Side {
             asked: Asked { engine, manner },
-            hands: Hands::empty(alloc),
+            hands: HeldHandles::empty(alloc),
             told: 0,
         }
     }
@@ -107,9 +93,14 @@ impl Side {
         self.asked.engine.totals()
     }
 
-    /// Asks the engine, and keeps what it gives or what comes back.
-    pub fn ask(&mut self, event: Event<'_>) -> Told {
-        ask(&mut self.hands, &mut self.asked, event)
+    /// Makes a call of the engine, and keeps what it gives or what comes back.
+    pub fn call(&mut self, call: &Call) -> Result<CallAnswer, Unanswered> {
+        self.hands.call(&mut self.asked, call)
+    }
+
+    /// Lets the run of that number go on to its next stop.
+    pub fn step(&mut self, run: u32) -> Result<(), Unanswered> {
+        self.hands.advance(&mut self.asked, run)
     }
 
     /// Puts the lines of the records that are not told yet.
@@ -126,10 +117,9 @@ impl Side {
     pub fn end(self) -> Totals {
         let Side {
             asked,
-            hands,
+            hands: _,
             told: _,
         } = self;
-        hands.forfeit();
         let Asked { engine, manner: _ } = asked;
         engine.shut().totals
     }

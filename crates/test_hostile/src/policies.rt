@@ -1,8 +1,8 @@
 // Each byte of a policy by each other value: what is decoded is spelled so, what is accepted runs to its end within its budget, and a
 // witness that is shown each check changes nothing of the answer.
 
-use bpf_accepted::Accepted;
 use base::OrMemory;
+use bpf_accepted::Accepted;
 use bpf_decode::{decode, encode};
 use bpf_insn::Program;
 use ccb::{CamStatus, CcbId, Completion, QueueId};

@@ -5,10 +5,10 @@ ghost use Rattle.std.specs.Prelude.{None};
 ghost use Rattle.trace.specs.HasText.{AllHaveText};
 
 use base::OrMemory;
-use world_calls::{Silent, Trace};
 use manifest::Manifest;
 use std::alloc::{AllocError, Global};
 use trace::{Sink, WriteFailed};
+use world_calls::{Silent, Trace};
 
 const TWO_PROGRAMS: &str =
     "version = 1\n[[queue]]\nopenings = 2\nprogram = \"by_code\"\n[[queue]]\nopenings = 255\nprogram = \"by_asm\"\n\

@@ -4,11 +4,11 @@ use crate::calling::{
     advance, clock, complete, dispatch, drive, end, freeze_controller, freeze_queue, lines,
     live_runs, opened, park, release, resume, stretch, submit,
 };
-use world_calls::CallRefusal;
 use ccb::CamStatus;
 use host_embedding::{CallResult, EngineHandle, PutLines, RunHandle};
 use host_opening::{OpenFault, put_fault};
 use std::alloc::Global;
+use world_calls::CallRefusal;
 
 /// One queue, under a controller, with the policy of the README.
 const MANIFEST: &str = "version = 2

@@ -6,10 +6,10 @@
 mod calling;
 mod checks;
 
-use test_tally::{Tally, is_wanted, words};
 use std::alloc::Global;
 use std::io;
 use std::process::ExitCode;
+use test_tally::{Tally, is_wanted, words};
 
 /// A check.
 #[derive(Clone, Copy, Debug, PartialEq, Eq)]

@@ -2,7 +2,7 @@
 
 ghost use Rattle.std.specs.Prelude.{false};
 
-use cli_commands::{Handing, serve};
+use cli_commands::{WriterSink, serve};
 use host_live::{Came, Input};
 use std::alloc::Global;
 
@@ -44,21 +44,27 @@ struct Late<'a> {
     now: u64,
     // a timer was waited for when the clock read too much
     is_waited_for: bool,
+    has_ended: bool,
+}
+
+// The first line with its line feed, and what stands after it, if there is a line.
+fn first_line(bytes: &[u8]) -> Option<(&[u8], &[u8])> {
+    let place = bytes.iter().position(|byte| *byte == b'\n')?;
+    bytes.split_at_checked(place + 1)
 }
 
 impl Input for Late<'_> {
     ghost has_failed = { λ _. false };
 
+    ghost has_ended = { λ late. late.has_ended };
+
     fn wait(&mut self, until: Option<u64>) -> Came {
         if self.now > LAST && until.is_some() {
             self.is_waited_for = true;
         }
-        let Some(place) = self.rest.iter().position(|byte| *byte == b'\n') else {
+        let Some((line, rest)) = first_line(self.rest) else {
+            self.has_ended = true;
             return Came::End;
-        };
-        let (line, rest) = match self.rest.split_at_checked(place + 1) {
-            Some(parts) => parts,
-            None => return Came::End,
         };
         self.line = line;
         self.rest = rest;
@@ -85,6 +91,7 @@ pub fn a_clock_beyond_the_last_reading(alloc: Global) -> bool {
         came: 0,
         now: 0,
         is_waited_for: false,
+        has_ended: false,
     };
     let mut out = Vec::new(alloc);
     let mut err = Vec::new(alloc);
@@ -93,7 +100,7 @@ pub fn a_clock_beyond_the_last_reading(alloc: Global) -> bool {
         ("m.toml", MANIFEST.as_bytes()),
         false,
         &mut input,
-        &mut Handing::new(&mut out),
+        &mut WriterSink::new(&mut out),
         &mut err,
     );
     status == 0 && out.as_slice() == TRACE.as_bytes() && err.is_empty() && !input.is_waited_for

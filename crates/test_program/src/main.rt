@@ -9,13 +9,13 @@ mod printing;
 mod traces;
 mod writers;
 
-use test_tally::{Tally, is_wanted, words};
 use std::alloc::Global;
 use std::io;
 use std::process::ExitCode;
 use std::rt::Files;
 use std::sync::Wait;
 use std::thread::Threads;
+use test_tally::{Tally, is_wanted, words};
 use writers::Task;
 
 /// A check.

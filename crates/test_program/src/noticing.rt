@@ -1,13 +1,13 @@
 // What is told of a run and of a replay while it is done, where that is wanted, and how it is worded.
 
 use crate::writers::{MANIFEST, SCENARIO, TRACE};
-use world_calls::{Notice, Notices, Totals};
-use cli_line::{Plan, Watch};
 use cli_commands::carry;
+use cli_line::{Plan, Watch};
 use std::alloc::{AllocError, Global};
 use std::sync::Wait;
 use std::sync::atomic::{AtomicU64, Ordering};
 use std::thread::Threads;
+use world_calls::{Notice, Notices, Totals};
 
 /// A replay tells how far it is after so many records.
 const OFTEN: u64 = 4096;

@@ -3,9 +3,9 @@
 ghost use Rattle.std.specs.Prelude.{◌≤◌, IfSome};
 ghost use Rattle.trace.specs.HasText.{AllHaveText};
 
-use world_calls::Trace;
 use std::alloc::Global;
 use trace::{PrintFault, Sink, WriteFailed, print, read};
+use world_calls::Trace;
 
 // Sense bytes, traced bytes, and the greatest numbers.
 const TEXT: &str = "camr-trace 1\ncomplete 1 0c 02 7000060a = run 1 freeze 1\n\

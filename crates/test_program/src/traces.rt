@@ -3,7 +3,7 @@
 // `test_system`.
 
 use base::OrMemory;
-use cli_commands::Handing;
+use cli_commands::WriterSink;
 use std::alloc::{AllocError, Global};
 use std::fs;
 use std::io::Write;
@@ -29,7 +29,7 @@ fn told(alloc: Global, text: &str) -> Result<Vec<u8>, AllocError> {
     let mut out = Vec::new(alloc);
     match read(alloc, text) {
         Ok(trace) => {
-            if print(&trace, &mut Handing::new(&mut out)).is_err() {
+            if print(&trace, &mut WriterSink::new(&mut out)).is_err() {
                 return Err(AllocError);
             }
         }

@@ -1,13 +1,13 @@
 // Writers that fail, and memory that is refused. Expected texts are worked out by hand.
 
-use world_calls::Silent;
-use cli_line::{Plan, Watch};
 use cli_commands::carry;
+use cli_line::{Plan, Watch};
 use std::alloc::{AllocError, Global};
 use std::io;
 use std::io::{ErrorKind, Write};
 use std::sync::Wait;
 use std::thread::Threads;
+use world_calls::Silent;
 
 // The two paths have 5 and 7 instructions: jeq r2, 0, +2; mov64 r1, r2; call 2; mov64 r1, 1; call 4;
 // mov64 r0, 0; exit.

@@ -4,7 +4,7 @@
 use crate::running;
 use crate::tally::Tally;
 use anyhow::Result;
-use explain_codes::{CODES, Code, POLICY, POLICY_BYTES, Shown};
+use explain_codes::{Code, POLICY, POLICY_BYTES, SERIES, Shown};
 use std::alloc::{AllocError, Global};
 use std::io::Write;
 use std::sync::Wait;
@@ -27,35 +27,41 @@ pub fn test_all<R: AllocGlobal + Threads + Wait + Sync, W: Write>(
     tally: &mut Tally,
     out: &mut W,
 ) -> Result<()> {
-    for code in CODES {
-        let row = code.explanation();
-        let name = format!(in rt.alloc(); "{code}")?;
-        let told = told_of(rt, rt.alloc(), name.as_str())?;
-        see(
-            code,
-            "what is said",
-            &told,
-            told.status == 0 && tells(&told, name.as_str(), ":"),
-            tally,
-            out,
-        )?;
-        if row.shown == Shown::Call {
-            continue;
+    for series in SERIES {
+        for number in 1..series.end {
+            let name = format!(in rt.alloc(); "{}{number}", char::from(series.letter))?;
+            match Code::of(name.as_str()) {
+                Some(code) => test_code(rt, code, name.as_str(), tally, out)?,
+                None => {
+                    writeln!(out, "{name}: it is no code")?;
+                    tally.count(false);
+                }
+            }
         }
-        let came = shown(rt, rt.alloc(), row.shown, row.example)?;
-        see(
-            code,
-            "its text",
-            &came,
-            tells(&came, name.as_str(), ""),
-            tally,
-            out,
-        )?;
-        let mended = shown(rt, rt.alloc(), row.shown, row.mended)?;
-        let is_good = mended.status == 0 && !tells(&mended, name.as_str(), "");
-        see(code, "its text mended", &mended, is_good, tally, out)?;
     }
     Ok(())
+}
+
+// Tests what is said of a code, and its two texts.
+fn test_code<R: AllocGlobal + Threads + Wait + Sync, W: Write>(
+    rt: &R,
+    code: Code,
+    name: &str,
+    tally: &mut Tally,
+    out: &mut W,
+) -> Result<()> {
+    let row = code.explanation();
+    let told = told_of(rt, rt.alloc(), name)?;
+    let is_told = told.status == 0 && tells(&told, name, ":");
+    see(code, "what is said", &told, is_told, tally, out)?;
+    if row.shown == Shown::Call {
+        return Ok(());
+    }
+    let came = shown(rt, rt.alloc(), row.shown, row.example)?;
+    see(code, "its text", &came, tells(&came, name, ""), tally, out)?;
+    let mended = shown(rt, rt.alloc(), row.shown, row.mended)?;
+    let is_good = mended.status == 0 && !tells(&mended, name, "");
+    see(code, "its text mended", &mended, is_good, tally, out)
 }
 
 // Counts a case, and prints what came where it does not pass.

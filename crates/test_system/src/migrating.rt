@@ -4,13 +4,13 @@
 ghost use Rattle.std.specs.Prelude.{◌≡◌, length};
 
 use crate::running::words_of;
-use world_calls::Silent;
-use cli_line::{Plan, plan};
 use cli_commands::carry;
+use cli_line::{Plan, plan};
 use std::alloc::{AllocError, Global};
 use std::sync::Wait;
 use std::thread::Threads;
 use test_cases::{Case, File, Outcome};
+use world_calls::Silent;
 
 /// How a trace of the first version begins, and the version's place in it.
 const HEADER: &[u8] = b"camr-trace 1\n";

@@ -17,6 +17,7 @@ pub struct Pieces<'a> {
     rest: &'a [u8],
     piece: &'a [u8],
     now: Option<u64>,
+    has_ended: bool,
 }
 
 impl<'a> Pieces<'a> {
@@ -26,6 +27,7 @@ impl<'a> Pieces<'a> {
             rest: bytes,
             piece: &[],
             now: if is_clocked { Some(0) } else { None },
+            has_ended: false,
         }
     }
 
@@ -44,6 +46,8 @@ impl<'a> Pieces<'a> {
 impl Input for Pieces<'_> {
     ghost has_failed = { λ _. false };
 
+    ghost has_ended = { λ pieces. pieces.has_ended };
+
     fn wait(&mut self, until: Option<u64>) -> Came {
         if let Some(now) = self.now {
             let next = now.saturating_add(PAUSE);
@@ -56,6 +60,7 @@ impl Input for Pieces<'_> {
             }
         }
         if self.rest.is_empty() {
+            self.has_ended = true;
             return Came::End;
         }
         let (piece, rest) = match self.rest.split_at_checked(self.size()) {

@@ -6,15 +6,15 @@ ghost use Rattle.cli_line.specs.Files.{input_paths};
 ghost use Rattle.cli_inspect_line.specs.Files.{input_paths as inspected_paths};
 
 use crate::pieces::Pieces;
-use world_calls::Silent;
-use cli_line::{Plan, not_utf8, plan};
-use cli_commands::{Fault, Handing, carry, report_usage, serve};
+use cli_commands::{Fault, WriterSink, carry, report_usage, serve};
 use cli_inspect_line::Plan as InspectPlan;
 use cli_inspection::carry as inspect;
+use cli_line::{Plan, not_utf8, plan};
 use std::alloc::{AllocError, Global};
 use std::sync::Wait;
 use std::thread::Threads;
 use test_cases::{Case, Outcome};
+use world_calls::Silent;
 
 /// What the case's words show over its files. A file that it does not have is one that cannot be read.
 pub fn run<R: Threads + Wait + Sync>(
@@ -91,7 +91,7 @@ fn carry_out<R: Threads + Wait + Sync>(
         Plan::Live(manner, manifest) => {
             let manifest = (manifest.as_str(), inputs[0].as_slice());
             let mut input = Pieces::of(&case.input, manner.is_clocked);
-            let mut out = Handing::new(out);
+            let mut out = WriterSink::new(out);
             serve(
                 alloc,
                 manifest,

@@ -1,15 +1,15 @@
 // What a caller asks a shared engine beside a service, what it is given, and how the sharing ends.
 
-use world_calls::{Totals, Trace};
-use engine_core::{Engine, Event, Given, Reply, Run};
+use engine_core::{Engine, Event, Reply, Run, Success};
 use engine_lock::{Caller, Object, Shared, Unclosed};
 use std::sync::Wait;
 use workers::{Open, Undriven, drive};
+use world_calls::{Totals, Trace};
 
 /// What a reply gives; nothing if it gives nothing.
-pub fn given_by(reply: Reply) -> Option<Given> {
+pub fn given_by(reply: Reply) -> Option<Success> {
     match reply {
-        Reply::Given(given) => Some(given),
+        Reply::Success(given) => Some(given),
         other => {
             other.forfeit();
             None
@@ -23,14 +23,14 @@ pub fn given<B: Object, R: Wait>(
     shared: &Shared<B>,
     caller: &mut Caller<B>,
     event: Event<'_>,
-) -> Option<Given> {
+) -> Option<Success> {
     given_by(shared.call(rt, caller, event))
 }
 
 /// Whether a CCB is given.
-pub fn is_ccb(given: Option<Given>) -> bool {
+pub fn is_ccb(given: Option<Success>) -> bool {
     match given {
-        Some(Given::Ccb(_)) => true,
+        Some(Success::Ccb(_)) => true,
         Some(other) => {
             other.forfeit();
             false
@@ -40,9 +40,9 @@ pub fn is_ccb(given: Option<Given>) -> bool {
 }
 
 /// The run that is given.
-pub fn run_of(given: Option<Given>) -> Option<Run> {
+pub fn run_of(given: Option<Success>) -> Option<Run> {
     match given? {
-        Given::Started(run, _) | Given::Resumed(run) => Some(run),
+        Success::Started(run, _) | Success::Resumed(run) => Some(run),
         other => {
             other.forfeit();
             None

@@ -7,7 +7,6 @@ ghost use Rattle.workers.specs.declared.serving.TheConstants.{MAX_WORKERS};
 
 use crate::asking::{caller_of, closed, put_in, told};
 use crate::services::{Service, serve_by};
-use world_calls::{Totals, Trace};
 use ccb::{CamStatus, CcbId, Completion};
 use engine_core::Run;
 use engine_lock::{Caller, Object, Shared};
@@ -17,6 +16,7 @@ use std::mem;
 use std::sync::Wait;
 use std::thread::Threads;
 use workers::{Gate, Open, Seat, Served, Settled, seated, settle};
+use world_calls::{Totals, Trace};
 
 /// How many completions find room in the inbox.
 const CAPACITY: usize = 16;

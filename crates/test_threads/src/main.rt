@@ -16,7 +16,6 @@ mod settling;
 mod sharing;
 mod watching;
 
-use test_tally::{Tally, is_wanted, words};
 use inboxes::many;
 use on_engine::{OfEngine, holds_of_engine};
 use std::alloc::Global;
@@ -24,6 +23,7 @@ use std::io;
 use std::process::ExitCode;
 use std::sync::Wait;
 use std::thread::Threads;
+use test_tally::{Tally, is_wanted, words};
 
 /// A check.
 #[derive(Clone, Copy)]

@@ -6,7 +6,6 @@ use crate::crew::Crew;
 use crate::engines::QUEUE;
 use crate::services::Service;
 use crate::watching::comes;
-use world_calls::Totals;
 use ccb::QueueId;
 use engine_core::Event;
 use engine_lock::{Caller, Object, Shared};
@@ -16,6 +15,7 @@ use std::sync::Wait;
 use std::sync::atomic::{AtomicBool, Ordering};
 use std::thread::{Threads, join_mut, yield_now};
 use workers::{MAX_WORKERS, Open};
+use world_calls::Totals;
 
 /// How many CCBs fail in a round.
 pub const CCBS: u32 = 16;

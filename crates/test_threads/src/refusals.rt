@@ -5,16 +5,16 @@
 use crate::asking::{are_sums, ends, given, given_by, is_ccb, run_of};
 use crate::crew::Crew;
 use crate::engines::QUEUE;
-use trace_lines::Text;
-use world_calls::{Call, Record, Totals, Trace};
 use ccb::{CamStatus, CcbId, Completion};
-use engine_core::{Event, Given, Reply};
+use engine_core::{Event, Reply, Success};
 use engine_lock::{Caller, Object, Shared};
 use monitor::Watch;
 use std::alloc::Global;
 use std::sync::Wait;
 use std::thread::Threads;
 use trace::print_entry;
+use trace_lines::Text;
+use world_calls::{Call, Record, Totals, Trace};
 
 /// Two openings, and a policy that gives the freeze back and lets the CCB wait again. None of its stops takes memory.
 pub const PLAIN_MANIFEST: &str =
@@ -80,7 +80,7 @@ fn ask<B: Object, R: Wait>(
     watch: &mut Watch<B>,
     caller: &mut Caller<B>,
     asked: Asked,
-) -> Option<Given> {
+) -> Option<Success> {
     let before = sums(rt, shared, watch);
     match shared.call(rt, caller, event_of(asked)) {
         Reply::OutOfMemory(back) => {

@@ -7,7 +7,6 @@ ghost use Rattle.workers.specs.declared.serving.TheConstants.{MAX_WORKERS};
 use crate::asking::are_sums;
 use crate::crew::{Course, Crew};
 use crate::services::Service;
-use world_calls::Totals;
 use ccb::CamStatus;
 use engine_lock::{Object, Shared};
 use std::alloc::Global;
@@ -16,6 +15,7 @@ use std::sync::atomic::{AtomicBool, AtomicU32, Ordering};
 use std::thread;
 use std::thread::Threads;
 use workers::{Gate, Open};
+use world_calls::Totals;
 
 // How often one that is held up looks for the others.
 const TURNS: u32 = 1_000_000;

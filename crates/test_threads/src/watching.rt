@@ -6,9 +6,8 @@ use crate::asking::{are_sums, caller_of, closed, given, put_in};
 use crate::crew::Crew;
 use crate::engines::QUEUE;
 use crate::services::Service;
-use world_calls::Totals;
 use ccb::Place;
-use engine_core::{Event, Given};
+use engine_core::{Event, Success};
 use engine_lock::{Caller, Object, Pause, Shared};
 use monitor::Watch;
 use std::alloc::Global;
@@ -16,6 +15,7 @@ use std::sync::atomic::{AtomicBool, Ordering};
 use std::sync::{Mutex, Wait};
 use std::thread::{Threads, join_mut, yield_now};
 use workers::Gate;
+use world_calls::Totals;
 
 // How often one that is held up looks for the other.
 const TURNS: u32 = 1_000_000;
@@ -212,9 +212,9 @@ impl<B: Object> Pair<B> {
 }
 
 // Whether a freeze is given. It is not given back.
-fn is_freeze(given: Option<Given>) -> bool {
+fn is_freeze(given: Option<Success>) -> bool {
     match given {
-        Some(Given::Freeze(token)) => {
+        Some(Success::Freeze(token)) => {
             token.forfeit();
             true
         }

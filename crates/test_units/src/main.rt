@@ -11,10 +11,10 @@ mod tokens;
 mod verdicts;
 mod waiting;
 
-use test_tally::{Tally, is_wanted, words};
 use std::alloc::{AllocError, Global};
 use std::io;
 use std::process::ExitCode;
+use test_tally::{Tally, is_wanted, words};
 
 /// A check.
 #[derive(Clone, Copy, Debug, PartialEq, Eq)]

@@ -1,6 +1,6 @@
 // The calls of a device queue, whose waiting CCBs stand in a heap, answer as a plain list of these does.
 
-use ccb::CcbId;
+use ccb::{CallRefusal, CcbId};
 use dev_queue::{DevQueue, Frozen, MAX_LIVE, QueueFault, WaitingCcb};
 use std::alloc::{AllocError, Global};
 
@@ -104,16 +104,16 @@ impl PlainQueue {
 
     fn start(&mut self, freezes: &Freezes) -> Result<CcbId, QueueFault> {
         if freezes.queue != 0 {
-            return Err(QueueFault::Frozen);
+            return Err(QueueFault::Refused(CallRefusal::Frozen));
         }
         if self.active >= u32::from(self.openings) {
-            return Err(QueueFault::NoOpening);
+            return Err(QueueFault::Refused(CallRefusal::NoOpening));
         }
         let Some(pair) = self.least() else {
-            return Err(QueueFault::NothingWaits);
+            return Err(QueueFault::Refused(CallRefusal::NothingWaits));
         };
         if freezes.controller != 0 {
-            return Err(QueueFault::ControllerFrozen);
+            return Err(QueueFault::Refused(CallRefusal::ControllerFrozen));
         }
         let number = pair.number;
         self.waiting.retain(|other| other.number != number);

@@ -1,7 +1,7 @@
 // What can be frozen: a device queue or a controller. It relies on the name of a queue.
 
 ghost use Rattle.std.specs.Prelude.{◌≡◌};
-ghost use Rattle.ccb.specs.Places.{index_of, is_place};
+ghost use Rattle.ccb.specs.Places.{index_of, is_place, kind_word, number_of};
 
 use crate::QueueId;
 
@@ -23,6 +23,26 @@ impl Place {
         match self {
             Place::Device(queue) => 2 * queue.0 as usize,
             Place::Controller(controller) => 2 * controller as usize + 1,
+        }
+    }
+
+    /// Its number among the places of its kind, from 0.
+    pub fn number(self) -> u32
+        ensures { result ≡ number_of self }
+    {
+        match self {
+            Place::Device(queue) => queue.0,
+            Place::Controller(controller) => controller,
+        }
+    }
+
+    /// The word for its kind: `queue` or `controller`.
+    pub fn kind_word(self) -> &'static str
+        ensures { result.now ≡ kind_word self }
+    {
+        match self {
+            Place::Device(_) => "queue",
+            Place::Controller(_) => "controller",
         }
     }
 

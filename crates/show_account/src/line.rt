@@ -1,7 +1,7 @@
 // The line of an event: when, where, and what. It relies on `show_events` for its words, and on `names` for names.
 
 use crate::names::{failure_of, name_of_code, status_name};
-use ccb::{CamStatus, Place};
+use ccb::CamStatus;
 use cli_text_page::Page;
 use show_events::{Cause, Event, Programs, Subject, Values};
 
@@ -29,8 +29,10 @@ fn put_time(clock: u64, page: &mut Page) {
 fn put_place(subject: &Subject, width: usize, page: &mut Page) {
     let before = page.len();
     match subject.place {
-        Some(Place::Device(queue)) => page.fill("queue {}", &[u64::from(queue.0)]),
-        Some(Place::Controller(controller)) => page.fill("controller {}", &[u64::from(controller)]),
+        Some(place) => {
+            page.text(place.kind_word());
+            page.fill(" {}", &[u64::from(place.number())]);
+        }
         None => page.text(if subject.ccb.is_none() && subject.run.is_none() {
             "clock"
         } else {

@@ -1,6 +1,6 @@
 // What a summary says of what is left: runs, freezes with their holders, and CCBs. It relies on `show_events` for the world.
 
-use ccb::{CcbId, Place};
+use ccb::CcbId;
 use cli_text_page::Page;
 use engine_core::CcbState;
 use freeze_ledger::Holder;
@@ -51,16 +51,10 @@ fn print_run(walk: &Walk<'_>, run: u32, times: &RunTimes, page: &mut Page) {
 }
 
 fn print_freeze(walk: &Walk<'_>, freeze: u32, times: &FreezeTimes, page: &mut Page) {
-    let (pattern, place) = match times.place {
-        Place::Device(queue) => ("  freeze {} of queue {}, since {} ms, is held by ", queue.0),
-        Place::Controller(controller) => {
-            (
-                "  freeze {} of controller {}, since {} ms, is held by ",
-                controller,
-            )
-        }
-    };
-    page.fill(pattern, &[u64::from(freeze), u64::from(place), times.since]);
+    page.fill("  freeze {} of ", &[u64::from(freeze)]);
+    page.text(times.place.kind_word());
+    let place = u64::from(times.place.number());
+    page.fill(" {}, since {} ms, is held by ", &[place, times.since]);
     print_holder(walk.holder(times.place, freeze), page);
 }
 

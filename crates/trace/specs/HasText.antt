@@ -1,7 +1,7 @@
 -- Which records have a text in a version. That their numbers and bytes are as their types have them is no part of it.
 use Rattle.std.specs.Prelude.{◌<◌, ◌^◌, All, IsSome, List}
 use Rattle.std.specs.List.{AllByRecursion}
-use Rattle.ccb.specs.declared.place.Place.TheVariants.{Controller, Device}
+use Rattle.ccb.specs.Places.{number_of}
 use Rattle.world_calls.specs.declared.call.Call.{Call}
 use Rattle.world_calls.specs.declared.call.Call.TheVariants as calls
 use Rattle.world_calls.specs.declared.call_answer.CallAnswer.{CallAnswer}
@@ -18,8 +18,7 @@ abbrev pub CallFits : Call → Type 0
 CallFits (calls.Submit queue priority retries) = (queue.0 < 2 ^ 32) × (priority < 2 ^ 32) × (retries < 2 ^ 32)
 CallFits (calls.Dispatch queue) = queue.0 < 2 ^ 32
 CallFits (calls.Complete outcome) = outcome.ccb.0 < 2 ^ 32
-CallFits (calls.GuestFreeze (Device queue) guest) = (queue.0 < 2 ^ 32) × (guest < 2 ^ 32)
-CallFits (calls.GuestFreeze (Controller controller) guest) = (controller < 2 ^ 32) × (guest < 2 ^ 32)
+CallFits (calls.GuestFreeze place guest) = (number_of place < 2 ^ 32) × (guest < 2 ^ 32)
 CallFits (calls.GuestRelease freeze) = freeze < 2 ^ 32
 CallFits (calls.Clock reading) = reading < 2 ^ 64
 CallFits (calls.Park run) = run < 2 ^ 32

@@ -4,7 +4,6 @@
 ghost use Rattle.std.specs.Prelude.{◌<◌, ◌^◌, All};
 ghost use Rattle.trace.specs.HasText.{AnswerFits, CallFits, NumbersFit, StopFits};
 
-use ccb::Place;
 use world_calls::{Call, CallAnswer, Record, StoppedAt};
 
 /// The numbers of a record are below 2^32, or 2^64, and its bytes are bytes.
@@ -39,16 +38,10 @@ fn call_fits(call: &Call)
         }
         Call::Dispatch { queue } => number_fits(queue.0),
         Call::Complete { completion } => number_fits(completion.ccb().0),
-        Call::GuestFreeze { place, guest } => match place {
-            Place::Device(queue) => {
-                number_fits(queue.0);
-                number_fits(*guest);
-            }
-            Place::Controller(controller) => {
-                number_fits(*controller);
-                number_fits(*guest);
-            }
-        },
+        Call::GuestFreeze { place, guest } => {
+            number_fits(place.number());
+            number_fits(*guest);
+        }
         Call::GuestRelease { freeze } => number_fits(*freeze),
         Call::Clock { reading } => long_number_fits(*reading),
         Call::Park { run } | Call::Resume { run } => number_fits(*run),

@@ -11,6 +11,5 @@ mod sorted;
 mod unanswered;
 
 pub use held_handles::HeldHandles;
-pub use making::completion_of;
 pub use responder::Responder;
 pub use unanswered::Unanswered;

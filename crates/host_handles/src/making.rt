@@ -1,7 +1,6 @@
 // A call is made, and a run goes on: the event that is asked takes along what it names. It relies on `keeping` for what is kept then.
 
-ghost use Rattle.std.specs.Prelude.{◌≡◌, ◌<◌, Err, MatchResult, Ok, SomeIff, length, vec_capacity};
-ghost use Rattle.ccb.specs.Completion.{IsCompletion};
+ghost use Rattle.std.specs.Prelude.{◌≡◌, ◌<◌, Err, MatchResult, Ok, length, vec_capacity};
 ghost use Rattle.world_calls.specs.declared.call_answer.CallAnswer.{CallAnswer};
 ghost use Rattle.host_handles.specs.Handles.{AreSorted, HasNoRun, IsAdvanceOf, IsOfCall, IsSettled, IsUnheld, handles};
 
@@ -10,9 +9,7 @@ use crate::keeping::ask;
 use crate::responder::Responder;
 use crate::sorted::take;
 use crate::unanswered::Unanswered;
-use ccb::Completion;
 use engine_core::{Call, CallAnswer, Event};
-use world_calls::CompletionRecord;
 
 /// Asks what a call leads to, with the run or the token that it names, and keeps what is given or comes back. There is room for that.
 pub(crate) fn make<A: Responder>(
@@ -43,7 +40,7 @@ pub(crate) fn make<A: Responder>(
             },
         ),
         Call::Dispatch { queue } => ask(runs, tokens, asked, Event::Dispatch { queue: *queue }),
-        Call::Complete { completion } => match completion_of(completion) {
+        Call::Complete { completion } => match completion.completion() {
             Some(completion) => ask(
                 runs,
                 tokens,
@@ -114,17 +111,4 @@ pub(crate) fn advance<A: Responder>(
         Ok(_) => Ok(()),
         Err(fault) => Err(fault),
     }
-}
-
-/// The completion that was reported so; `None` exactly where no device reports it.
-pub fn completion_of(reported: &CompletionRecord) -> Option<Completion>
-    ensures { SomeIff result (IsCompletion reported.now) reported.now }
-{
-    let sense = reported.sense();
-    Completion::new(
-        reported.ccb(),
-        reported.status(),
-        reported.scsi(),
-        sense.as_slice(),
-    )
 }

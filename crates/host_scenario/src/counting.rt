@@ -54,15 +54,7 @@ pub(crate) fn is_by_host(made: &Record) -> bool
 pub(crate) fn is_hosts(call: &Call) -> bool
     ensures { result ≡ is_hosts call.now }
 {
-    match call {
-        Call::Complete { .. } | Call::Park { .. } => false,
-        Call::Submit { .. }
-        | Call::Dispatch { .. }
-        | Call::GuestFreeze { .. }
-        | Call::GuestRelease { .. }
-        | Call::Clock { .. }
-        | Call::Resume { .. } => true,
-    }
+    !matches!(call, Call::Complete { .. } | Call::Park { .. })
 }
 
 // How many of these tell a completion.

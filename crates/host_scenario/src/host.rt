@@ -19,7 +19,7 @@ use crate::counting::{Counts, is_hosts};
 use crate::watching::Watching;
 use ccb::Completion;
 use engine_lock::{Caller, Object, Shared};
-use host_handles::{HeldHandles, Unanswered, completion_of};
+use host_handles::{HeldHandles, Unanswered};
 use inbox::{Inbox, PutPass, TakePass};
 use monitor::Watch;
 use scenario::{Scenario, Step};
@@ -289,7 +289,7 @@ fn completion_in(call: &Call) -> Option<Completion>
     ensures { IfSome result (λ completion. call.now ≡ Complete completion) }
 {
     match call {
-        Call::Complete { completion } => completion_of(completion),
+        Call::Complete { completion } => completion.completion(),
         _ => None,
     }
 }

@@ -1,6 +1,7 @@
 // A completion as the history keeps it. It relies on `ccb` for completions and on `base` for sense bytes.
 
-ghost use Rattle.std.specs.Prelude.{◌≡◌, [], IfOk, IsOk};
+ghost use Rattle.std.specs.Prelude.{◌≡◌, [], IfOk, IsOk, SomeIff};
+ghost use Rattle.ccb.specs.Completion.{IsCompletion};
 
 use base::ShortBytes;
 use ccb::{CamStatus, CcbId, Completion};
@@ -90,5 +91,13 @@ impl CompletionRecord {
             Kept::WithoutSense { .. } => ShortBytes::none(),
             Kept::Whole(completion) => completion.sense(),
         }
+    }
+
+    /// What the device reported, as it is reported; `None` exactly where no device reports it.
+    pub fn completion(&self) -> Option<Completion>
+        ensures { SomeIff result (IsCompletion self.now) self.now }
+    {
+        let sense = self.sense();
+        Completion::new(self.ccb(), self.status(), self.scsi(), sense.as_slice())
     }
 }

@@ -75,7 +75,7 @@ its_own_step before event instruction it = subst (λ (k : ℕ). is_step_of k eve
 step_is_own : (event : Event) (run : ℕ) → is_step_of run event ≡ true → is_own_of run event ≡ true
 step_is_own event run its = ap (λ (b : Bool). b || is_turn_of run event) its
 
--- and so are its park and its resume
+-- and so is what parks it or lets it go on
 turn_is_own : (before : World) (event : Event) (reply : Reply) (after : World) → (it : Turns before event reply after) → is_own_of it.run.number event ≡ true
 turn_is_own before event reply after it =
     subst (λ (k : ℕ). is_own_of k event ≡ true) (sym (found_key run_key it.number before.runs.list it.run it.found))

@@ -5,6 +5,7 @@ pub mod Values
 pub mod Fronts
 pub mod Printing
 pub mod Names
+pub mod Called
 pub mod Words
 pub mod Printed
 pub mod Parsed

@@ -36,6 +36,11 @@ pub fn found_by_name()
     ensures { (mnemonic : Mnemonic) → mnemonic_of (name_of mnemonic) ≡ Some mnemonic }
 {}
 
+/// What is found by a name is the mnemonic that has this name.
+pub fn called_as_found()
+    ensures { (word : List ℕ) (mnemonic : Mnemonic) → mnemonic_of word ≡ Some mnemonic → name_of mnemonic ≡ word }
+{}
+
 /// The tokens of a text are the lexemes of its lines, each of them a name, a number or a mark, at their places in the text: between them
 /// stand only blanks, comments and line feeds.
 pub fn tokens_cover_the_text()

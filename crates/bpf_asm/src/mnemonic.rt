@@ -1,11 +1,11 @@
-// The names of the instructions.
+// The names of the instructions. Those of operations and conditions stand in the rows of `bpf_insn`.
 
-ghost use Rattle.std.specs.Prelude.{◌≡◌, ◌++◌, codes, bytes_eq};
-ghost use Rattle.bpf_insn.specs.declared.insn.Width.TheVariants.{Bits32, Bits64};
+ghost use Rattle.std.specs.Prelude.{◌≡◌, ◌++◌, codes, bytes_eq, find};
 ghost use Rattle.bpf_asm.specs.declared.mnemonic.Mnemonic.TheVariants as mnemonics;
-ghost use Rattle.bpf_asm.specs.Mnemonics.{name_of, mnemonic_of, op_name, bits, extension_name, condition_name, jump_bits, load_name, size_name};
+ghost use Rattle.bpf_asm.specs.declared.table.TheConstants.{OTHER_MNEMONICS};
+ghost use Rattle.bpf_asm.specs.Mnemonics.{name_of, mnemonic_of, extension_name, load_name, size_name};
 
-use crate::table::MNEMONICS;
+use crate::table::OTHER_MNEMONICS;
 use bpf_insn::{
     AluOp, ByteOrder, Condition, InPlaceOp, LoadForm, SignExtension, StoreSize, Width, WordSize,
 };
@@ -25,50 +25,6 @@ pub enum Mnemonic {
     StoreImmediate(StoreSize),
     StoreRegister(StoreSize),
     LoadImmediate,
-}
-
-/// The name of arithmetic of 32 bits.
-fn alu32_name(op: AluOp) -> &'static str
-    ensures { result.now ≡ op_name op ++ bits Bits32 }
-{
-    match op {
-        AluOp::Add => "add32",
-        AluOp::Sub => "sub32",
-        AluOp::Mul => "mul32",
-        AluOp::Div => "div32",
-        AluOp::SignedDiv => "sdiv32",
-        AluOp::Or => "or32",
-        AluOp::And => "and32",
-        AluOp::Lsh => "lsh32",
-        AluOp::Rsh => "rsh32",
-        AluOp::Mod => "mod32",
-        AluOp::SignedMod => "smod32",
-        AluOp::Xor => "xor32",
-        AluOp::Mov => "mov32",
-        AluOp::Arsh => "arsh32",
-    }
-}
-
-/// The name of arithmetic of 64 bits.
-fn alu64_name(op: AluOp) -> &'static str
-    ensures { result.now ≡ op_name op ++ bits Bits64 }
-{
-    match op {
-        AluOp::Add => "add64",
-        AluOp::Sub => "sub64",
-        AluOp::Mul => "mul64",
-        AluOp::Div => "div64",
-        AluOp::SignedDiv => "sdiv64",
-        AluOp::Or => "or64",
-        AluOp::And => "and64",
-        AluOp::Lsh => "lsh64",
-        AluOp::Rsh => "rsh64",
-        AluOp::Mod => "mod64",
-        AluOp::SignedMod => "smod64",
-        AluOp::Xor => "xor64",
-        AluOp::Mov => "mov64",
-        AluOp::Arsh => "arsh64",
-    }
 }
 
 /// The name of what is done in place.
@@ -100,44 +56,6 @@ fn extension_name(extension: SignExtension) -> &'static str
         SignExtension::From8To64 => "movsx64_8",
         SignExtension::From16To64 => "movsx64_16",
         SignExtension::From32To64 => "movsx64_32",
-    }
-}
-
-/// The name of a jump that compares 64 bits.
-fn jump_name(condition: Condition) -> &'static str
-    ensures { result.now ≡ condition_name condition ++ jump_bits Bits64 }
-{
-    match condition {
-        Condition::Equal => "jeq",
-        Condition::Greater => "jgt",
-        Condition::GreaterOrEqual => "jge",
-        Condition::AnyBit => "jset",
-        Condition::NotEqual => "jne",
-        Condition::SignedGreater => "jsgt",
-        Condition::SignedGreaterOrEqual => "jsge",
-        Condition::Less => "jlt",
-        Condition::LessOrEqual => "jle",
-        Condition::SignedLess => "jslt",
-        Condition::SignedLessOrEqual => "jsle",
-    }
-}
-
-/// The name of a jump that compares 32 bits.
-fn jump32_name(condition: Condition) -> &'static str
-    ensures { result.now ≡ condition_name condition ++ jump_bits Bits32 }
-{
-    match condition {
-        Condition::Equal => "jeq32",
-        Condition::Greater => "jgt32",
-        Condition::GreaterOrEqual => "jge32",
-        Condition::AnyBit => "jset32",
-        Condition::NotEqual => "jne32",
-        Condition::SignedGreater => "jsgt32",
-        Condition::SignedGreaterOrEqual => "jsge32",
-        Condition::Less => "jlt32",
-        Condition::LessOrEqual => "jle32",
-        Condition::SignedLess => "jslt32",
-        Condition::SignedLessOrEqual => "jsle32",
     }
 }
 
@@ -186,14 +104,12 @@ impl Mnemonic {
         ensures { result.now ≡ name_of self }
     {
         match self {
-            Mnemonic::Alu(Width::Bits32, op) => alu32_name(op),
-            Mnemonic::Alu(Width::Bits64, op) => alu64_name(op),
+            Mnemonic::Alu(width, op) => op.name(width),
             Mnemonic::InPlace(op) => in_place_name(op),
             Mnemonic::SignExtend(extension) => extension_name(extension),
             Mnemonic::JumpNear => "ja",
             Mnemonic::JumpFar => "ja32",
-            Mnemonic::JumpIf(Width::Bits32, condition) => jump32_name(condition),
-            Mnemonic::JumpIf(Width::Bits64, condition) => jump_name(condition),
+            Mnemonic::JumpIf(width, condition) => condition.name(width),
             Mnemonic::Call => "call",
             Mnemonic::Exit => "exit",
             Mnemonic::Load(form) => load_name(form),
@@ -210,14 +126,33 @@ impl Mnemonic {
         self.name().as_bytes() == word
     }
 
+    // Of the others, the mnemonic of a name.
+    fn other(word: &[u8]) -> Option<Self>
+        ensures { result ≡ find (λ mnemonic. bytes_eq (name_of mnemonic) word.now) OTHER_MNEMONICS }
+    {
+        OTHER_MNEMONICS
+            .iter()
+            .copied()
+            .find(|mnemonic| mnemonic.is_called(word))
+    }
+
     /// The mnemonic of a name, if there is one.
     #[tactic(auto, unfolding(crate::specs::Mnemonics::mnemonic_of))]
     pub fn from_name(word: &[u8]) -> Option<Self>
         ensures { result ≡ mnemonic_of word.now }
     {
-        MNEMONICS
-            .iter()
-            .copied()
-            .find(|mnemonic| mnemonic.is_called(word))
+        if let Some(op) = AluOp::from_name(Width::Bits32, word) {
+            return Some(Mnemonic::Alu(Width::Bits32, op));
+        }
+        if let Some(op) = AluOp::from_name(Width::Bits64, word) {
+            return Some(Mnemonic::Alu(Width::Bits64, op));
+        }
+        if let Some(condition) = Condition::from_name(Width::Bits32, word) {
+            return Some(Mnemonic::JumpIf(Width::Bits32, condition));
+        }
+        if let Some(condition) = Condition::from_name(Width::Bits64, word) {
+            return Some(Mnemonic::JumpIf(Width::Bits64, condition));
+        }
+        Mnemonic::other(word)
     }
 }

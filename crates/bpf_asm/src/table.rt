@@ -1,40 +1,11 @@
-// All mnemonics, each once, so that a name is looked up among their names.
+// The mnemonics that are no operation's and no condition's, each once, so that a name is looked up among their names. Those of operations
+// and conditions stand in the rows of `bpf_insn`.
 
 use crate::mnemonic::Mnemonic;
-use bpf_insn::{
-    AluOp, ByteOrder, Condition, InPlaceOp, LoadForm, SignExtension, StoreSize, Width, WordSize,
-};
+use bpf_insn::{ByteOrder, InPlaceOp, LoadForm, SignExtension, StoreSize, Width, WordSize};
 
-/// Each mnemonic once.
-pub const MNEMONICS: [Mnemonic; 86] = [
-    Mnemonic::Alu(Width::Bits32, AluOp::Add),
-    Mnemonic::Alu(Width::Bits64, AluOp::Add),
-    Mnemonic::Alu(Width::Bits32, AluOp::Sub),
-    Mnemonic::Alu(Width::Bits64, AluOp::Sub),
-    Mnemonic::Alu(Width::Bits32, AluOp::Mul),
-    Mnemonic::Alu(Width::Bits64, AluOp::Mul),
-    Mnemonic::Alu(Width::Bits32, AluOp::Div),
-    Mnemonic::Alu(Width::Bits64, AluOp::Div),
-    Mnemonic::Alu(Width::Bits32, AluOp::SignedDiv),
-    Mnemonic::Alu(Width::Bits64, AluOp::SignedDiv),
-    Mnemonic::Alu(Width::Bits32, AluOp::Or),
-    Mnemonic::Alu(Width::Bits64, AluOp::Or),
-    Mnemonic::Alu(Width::Bits32, AluOp::And),
-    Mnemonic::Alu(Width::Bits64, AluOp::And),
-    Mnemonic::Alu(Width::Bits32, AluOp::Lsh),
-    Mnemonic::Alu(Width::Bits64, AluOp::Lsh),
-    Mnemonic::Alu(Width::Bits32, AluOp::Rsh),
-    Mnemonic::Alu(Width::Bits64, AluOp::Rsh),
-    Mnemonic::Alu(Width::Bits32, AluOp::Mod),
-    Mnemonic::Alu(Width::Bits64, AluOp::Mod),
-    Mnemonic::Alu(Width::Bits32, AluOp::SignedMod),
-    Mnemonic::Alu(Width::Bits64, AluOp::SignedMod),
-    Mnemonic::Alu(Width::Bits32, AluOp::Xor),
-    Mnemonic::Alu(Width::Bits64, AluOp::Xor),
-    Mnemonic::Alu(Width::Bits32, AluOp::Mov),
-    Mnemonic::Alu(Width::Bits64, AluOp::Mov),
-    Mnemonic::Alu(Width::Bits32, AluOp::Arsh),
-    Mnemonic::Alu(Width::Bits64, AluOp::Arsh),
+/// Each of them once.
+pub const OTHER_MNEMONICS: [Mnemonic; 36] = [
     Mnemonic::InPlace(InPlaceOp::Neg(Width::Bits32)),
     Mnemonic::InPlace(InPlaceOp::Neg(Width::Bits64)),
     Mnemonic::InPlace(InPlaceOp::Reorder(ByteOrder::Little, WordSize::Word16)),
@@ -53,28 +24,6 @@ pub const MNEMONICS: [Mnemonic; 86] = [
     Mnemonic::SignExtend(SignExtension::From32To64),
     Mnemonic::JumpNear,
     Mnemonic::JumpFar,
-    Mnemonic::JumpIf(Width::Bits64, Condition::Equal),
-    Mnemonic::JumpIf(Width::Bits32, Condition::Equal),
-    Mnemonic::JumpIf(Width::Bits64, Condition::Greater),
-    Mnemonic::JumpIf(Width::Bits32, Condition::Greater),
-    Mnemonic::JumpIf(Width::Bits64, Condition::GreaterOrEqual),
-    Mnemonic::JumpIf(Width::Bits32, Condition::GreaterOrEqual),
-    Mnemonic::JumpIf(Width::Bits64, Condition::AnyBit),
-    Mnemonic::JumpIf(Width::Bits32, Condition::AnyBit),
-    Mnemonic::JumpIf(Width::Bits64, Condition::NotEqual),
-    Mnemonic::JumpIf(Width::Bits32, Condition::NotEqual),
-    Mnemonic::JumpIf(Width::Bits64, Condition::SignedGreater),
-    Mnemonic::JumpIf(Width::Bits32, Condition::SignedGreater),
-    Mnemonic::JumpIf(Width::Bits64, Condition::SignedGreaterOrEqual),
-    Mnemonic::JumpIf(Width::Bits32, Condition::SignedGreaterOrEqual),
-    Mnemonic::JumpIf(Width::Bits64, Condition::Less),
-    Mnemonic::JumpIf(Width::Bits32, Condition::Less),
-    Mnemonic::JumpIf(Width::Bits64, Condition::LessOrEqual),
-    Mnemonic::JumpIf(Width::Bits32, Condition::LessOrEqual),
-    Mnemonic::JumpIf(Width::Bits64, Condition::SignedLess),
-    Mnemonic::JumpIf(Width::Bits32, Condition::SignedLess),
-    Mnemonic::JumpIf(Width::Bits64, Condition::SignedLessOrEqual),
-    Mnemonic::JumpIf(Width::Bits32, Condition::SignedLessOrEqual),
     Mnemonic::Call,
     Mnemonic::Exit,
     Mnemonic::Load(LoadForm::Byte),

@@ -15,13 +15,14 @@ use Rattle.bpf_insn.specs.declared.insn.AluOp.TheVariants.{Add}
 use Rattle.bpf_insn.specs.declared.insn.Condition.{Condition}
 use Rattle.bpf_insn.specs.declared.insn.Condition.TheVariants.{Equal}
 use Rattle.bpf_insn.specs.Reg.{number_of}
+use Rattle.bpf_insn.specs.Operations.{alu_code, alu_offset, condition_code}
 use Rattle.bpf_decode.specs.declared.fields.Fields.{Fields}
 use Rattle.bpf_decode.specs.declared.used.Used.{Used}
 use Rattle.bpf_decode.specs.declared.kind.Kind.TheVariants as kinds
 use Rattle.bpf_decode.specs.declared.transfer.Transfer.TheVariants.{Constant}
 use Rattle.bpf_decode.specs.FieldTests.{class_in, code_in, takes_register, is_one_of, is_zero, is_arithmetic, is_division, is_register_move, is_sign_extension, is_byte_order, is_conditional, is_load_immediate, has_beside_imm, has_field_beside, has_unused_field, has_word_size, has_no_form, used}
 use Rattle.bpf_decode.specs.Kinds.{IsKind, IsTransfer, IsSpelled, form_in, operand_in, word_of}
-use Rattle.bpf_decode.specs.Spells.{row, opcode_of, alu_class, alu_code, alu_offset, jump_class, condition_code, source_of, src_of, imm_of}
+use Rattle.bpf_decode.specs.Spells.{row, opcode_of, alu_class, jump_class, source_of, src_of, imm_of}
 use Rattle.bpf_decode.proofs.Words.{low_of_word, high_of_word, word_fits}
 
 -- the tests on class and code, of arithmetic

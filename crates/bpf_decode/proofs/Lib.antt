@@ -1,4 +1,5 @@
 pub mod Words
+pub mod KnownCodes
 pub mod KindRows
 pub mod Rows
 pub mod Texts

@@ -1,5 +1,6 @@
 -- One row of the table: fields spell at most one instruction, and no fault holds of what they spell.
 use Rattle.std.proofs.Common.{◌≡◌, ◌<◌, ◌%◌, ℕ, ℤ, pos, false, nat_lt, ◌==◌, List, [], ◌∷◌, Option, None, if◌then◌else◌, refl, ◌∙◌, arith}
+use Rattle.std.specs.Option.{unwrap_or}
 use Rattle.std.specs.Ordering.{int_eq}
 use Rattle.bpf_insn.specs.declared.reg.Reg.{Reg}
 use Rattle.bpf_insn.specs.declared.reg.Reg.TheVariants.{R0, R1, R2, R3, R4, R5, R6, R7, R8, R9, R10}
@@ -10,7 +11,7 @@ use Rattle.bpf_insn.specs.declared.insn.Callee.TheVariants.{Helper, Local}
 use Rattle.bpf_insn.specs.declared.insn.Distance.TheVariants.{Near, Far}
 use Rattle.bpf_insn.specs.declared.insn.Width.TheVariants.{Bits32, Bits64}
 use Rattle.bpf_insn.specs.declared.insn.AluOp.{AluOp}
-use Rattle.bpf_insn.specs.declared.insn.AluOp.TheVariants.{Add, Sub, Mul, Div, SignedDiv, Mod, SignedMod, Or, And, Xor, Lsh, Rsh, Arsh, Mov}
+use Rattle.bpf_insn.specs.declared.insn.AluOp.TheVariants.{Add}
 use Rattle.bpf_insn.specs.declared.insn.InPlaceOp.TheVariants.{Neg, Reorder}
 use Rattle.bpf_insn.specs.declared.insn.ByteOrder.TheVariants.{Little, Big, Swapped}
 use Rattle.bpf_insn.specs.declared.insn.WordSize.{WordSize}
@@ -18,18 +19,19 @@ use Rattle.bpf_insn.specs.declared.insn.WordSize.TheVariants.{Word16, Word32, Wo
 use Rattle.bpf_insn.specs.declared.insn.SignExtension.{SignExtension}
 use Rattle.bpf_insn.specs.declared.insn.SignExtension.TheVariants.{From8To32, From16To32, From8To64, From16To64, From32To64}
 use Rattle.bpf_insn.specs.declared.insn.Condition.{Condition}
-use Rattle.bpf_insn.specs.declared.insn.Condition.TheVariants.{Equal, NotEqual, Greater, GreaterOrEqual, Less, LessOrEqual, AnyBit, SignedGreater, SignedGreaterOrEqual, SignedLess, SignedLessOrEqual}
+use Rattle.bpf_insn.specs.declared.insn.Condition.TheVariants.{Equal}
 use Rattle.bpf_insn.specs.declared.insn.LoadForm.{LoadForm}
 use Rattle.bpf_insn.specs.declared.insn.LoadForm.TheVariants as loads
 use Rattle.bpf_insn.specs.declared.insn.StoreSize.{StoreSize}
 use Rattle.bpf_insn.specs.declared.insn.StoreSize.TheVariants as stores
 use Rattle.bpf_insn.specs.Reg.{number_of}
+use Rattle.bpf_insn.specs.Operations.{alu_code, condition_code, alu_of_form, condition_of_code}
 use Rattle.bpf_insn.specs.Program.{is_frame_pointer, writes_frame_pointer}
 use Rattle.bpf_decode.specs.declared.fields.Fields.{Fields}
 use Rattle.bpf_decode.specs.FieldTests.{class_in, code_in, size_in, mode_in, is_sign_extension, fault_of}
 use Rattle.bpf_decode.specs.FieldTests as tests
-use Rattle.bpf_decode.specs.Kinds.{operand_in, callee_in, word_of, AreBehind}
-use Rattle.bpf_decode.specs.Spells.{row, further_rows, HasWord, opcode_of, alu_code, condition_code, source_of}
+use Rattle.bpf_decode.specs.Kinds.{form_in, operand_in, callee_in, word_of, AreBehind}
+use Rattle.bpf_decode.specs.Spells.{row, further_rows, HasWord, opcode_of, source_of}
 use Rattle.bpf_decode.proofs.Words.{word_of_halves}
 
 -- the register of a number
@@ -52,12 +54,7 @@ is_ten r = refl
 
 -- the operation of a code and an offset, the size of an imm, the extension of a class and an offset, the condition of a code
 abbrev op_from : ℕ → ℤ → AluOp
-op_from code offset =
-    if code == 0x0 then Add else if code == 0x1 then Sub else if code == 0x2 then Mul
-    else if code == 0x3 then (if int_eq offset (pos 1) then SignedDiv else Div)
-    else if code == 0x4 then Or else if code == 0x5 then And else if code == 0x6 then Lsh else if code == 0x7 then Rsh
-    else if code == 0x9 then (if int_eq offset (pos 1) then SignedMod else Mod)
-    else if code == 0xa then Xor else if code == 0xb then Mov else Arsh
+op_from code offset = unwrap_or (alu_of_form code (form_in code offset)) Add
 
 abbrev size_from : ℤ → WordSize
 size_from imm = if int_eq imm (pos 16) then Word16 else if int_eq imm (pos 32) then Word32 else Word64
@@ -69,11 +66,7 @@ extension_from class offset =
     else if int_eq offset (pos 8) then From8To32 else From16To32
 
 abbrev condition_from : ℕ → Condition
-condition_from code =
-    if code == 0x1 then Equal else if code == 0x2 then Greater else if code == 0x3 then GreaterOrEqual
-    else if code == 0x4 then AnyBit else if code == 0x5 then NotEqual else if code == 0x6 then SignedGreater
-    else if code == 0x7 then SignedGreaterOrEqual else if code == 0xa then Less else if code == 0xb then LessOrEqual
-    else if code == 0xc then SignedLess else SignedLessOrEqual
+condition_from code = unwrap_or (condition_of_code code) Equal
 
 -- the load of a mode and a size, and the store of a size
 abbrev load_from : ℕ → ℕ → LoadForm
@@ -113,6 +106,7 @@ HasFurther (second ∷ rows) further = second.imm ≡ further
 
 -- A line for Add or Equal stands above one for all others, which is checked for each of them.
 pub insn_from_row : (i : Insn) (further : ℤ) → HasFurther (further_rows i) further → HasWord i → insn_from (row i) further ≡ i
+unfolding alu_of_form condition_of_code
 insn_from_row (Alu Bits32 Add dst (Immediate value)) further h w = rw (reg_of-number_of dst) refl
 insn_from_row (Alu Bits32 op dst (Immediate value)) further h w = rw (reg_of-number_of dst) refl
 insn_from_row (Alu Bits32 Add dst (Register src)) further h w = rw (reg_of-number_of dst, reg_of-number_of src) refl

@@ -10,6 +10,7 @@ use Rattle.bpf_insn.specs.declared.insn.Callee.{Callee}
 use Rattle.bpf_insn.specs.declared.insn.Callee.TheVariants.{Helper, Local}
 use Rattle.bpf_insn.specs.declared.reg.Reg.{Reg}
 use Rattle.bpf_insn.specs.declared.insn.SignExtension.{SignExtension}
+use Rattle.bpf_insn.specs.Operations.{alu_code, alu_offset, condition_code}
 use Rattle.bpf_decode.specs.declared.fields.Fields.{Fields}
 use Rattle.bpf_decode.specs.declared.kind.Kind.{Kind}
 use Rattle.bpf_decode.specs.declared.kind.Kind.TheVariants.{Alu, Neg, Reorder, SignExtend, JumpIf, JumpNear, JumpFar, Call, Exit}
@@ -17,7 +18,7 @@ use Rattle.bpf_decode.specs.declared.kind.Kind.TheVariants as kinds
 use Rattle.bpf_decode.specs.declared.transfer.Transfer.{Transfer}
 use Rattle.bpf_decode.specs.declared.transfer.Transfer.TheVariants.{Constant, Load, StoreImmediate, StoreRegister}
 use Rattle.bpf_decode.specs.FieldTests.{is_one_of, class_in, code_in, size_in, mode_in, takes_register, is_sign_extension}
-use Rattle.bpf_decode.specs.Spells.{row, further_rows, HasWord, alu_class, alu_code, alu_offset, order_source, order_class, extension_offset, extension_class, jump_class, condition_code, load_mode, load_size, store_size}
+use Rattle.bpf_decode.specs.Spells.{row, further_rows, HasWord, alu_class, order_source, order_class, extension_offset, extension_class, jump_class, load_mode, load_size, store_size}
 
 -- 1 where the code is that of a division and the offset makes it signed, and else 0
 abbrev pub form_in : ℕ → ℤ → ℤ

@@ -1,5 +1,6 @@
 -- Which bytes spell which program (RFC 9669, sections 3 to 5). Each instruction has a row of fields for each of its slots,
--- here by class, code and source of its opcode, or by class, mode and size.
+-- here by class, code and source of its opcode, or by class, mode and size. Which code and offset an operation or a condition has is
+-- said by the rows of `bpf_insn`.
 use Rattle.std.specs.Prelude.{◌≡◌, ◌<◌, ◌≤◌, ◌+◌, ◌*◌, ◌^◌, ◌/◌, ◌%◌, ℕ, ℤ, pos, List, [], ◌∷◌, length, drop, slice_index}
 use Rattle.std.specs.Int.{w32, cast_signed}
 use Rattle.bpf_insn.specs.declared.insn.Insn.{Insn}
@@ -14,8 +15,6 @@ use Rattle.bpf_insn.specs.declared.insn.StoreSize.{StoreSize}
 use Rattle.bpf_insn.specs.declared.insn.StoreSize.TheVariants as stores
 use Rattle.bpf_insn.specs.declared.insn.Width.{Width}
 use Rattle.bpf_insn.specs.declared.insn.Width.TheVariants.{Bits32, Bits64}
-use Rattle.bpf_insn.specs.declared.insn.AluOp.{AluOp}
-use Rattle.bpf_insn.specs.declared.insn.AluOp.TheVariants.{Add, Sub, Mul, Div, SignedDiv, Mod, SignedMod, Or, And, Xor, Lsh, Rsh, Arsh, Mov}
 use Rattle.bpf_insn.specs.declared.insn.InPlaceOp.TheVariants.{Neg, Reorder}
 use Rattle.bpf_insn.specs.declared.insn.ByteOrder.{ByteOrder}
 use Rattle.bpf_insn.specs.declared.insn.ByteOrder.TheVariants.{Little, Big, Swapped}
@@ -23,11 +22,10 @@ use Rattle.bpf_insn.specs.declared.insn.WordSize.{WordSize}
 use Rattle.bpf_insn.specs.declared.insn.WordSize.TheVariants.{Word16, Word32, Word64}
 use Rattle.bpf_insn.specs.declared.insn.SignExtension.{SignExtension}
 use Rattle.bpf_insn.specs.declared.insn.SignExtension.TheVariants.{From8To32, From16To32, From8To64, From16To64, From32To64}
-use Rattle.bpf_insn.specs.declared.insn.Condition.{Condition}
-use Rattle.bpf_insn.specs.declared.insn.Condition.TheVariants.{Equal, NotEqual, Greater, GreaterOrEqual, Less, LessOrEqual, AnyBit, SignedGreater, SignedGreaterOrEqual, SignedLess, SignedLessOrEqual}
 use Rattle.bpf_insn.specs.declared.program.Slot.{Slot}
 use Rattle.bpf_insn.specs.Reg.{number_of}
 use Rattle.bpf_insn.specs.Program.{IsProgram, insns_in, slots_of}
+use Rattle.bpf_insn.specs.Operations.{alu_code, alu_offset, condition_code}
 use Rattle.bpf_decode.specs.declared.fields.Fields.{Fields}
 use Rattle.bpf_decode.specs.Fields.{fields_of}
 
@@ -45,29 +43,6 @@ alu_class Bits64 = 7
 abbrev pub jump_class : Width → ℕ
 jump_class Bits32 = 6
 jump_class Bits64 = 5
-
--- Code and offset of an operation, as in the table of section 4.1. The offset tells signed divisions from unsigned ones.
-abbrev pub alu_form : AluOp → ℕ × ℤ
-alu_form Add = (0x0, pos 0)
-alu_form Sub = (0x1, pos 0)
-alu_form Mul = (0x2, pos 0)
-alu_form Div = (0x3, pos 0)
-alu_form SignedDiv = (0x3, pos 1)
-alu_form Or = (0x4, pos 0)
-alu_form And = (0x5, pos 0)
-alu_form Lsh = (0x6, pos 0)
-alu_form Rsh = (0x7, pos 0)
-alu_form Mod = (0x9, pos 0)
-alu_form SignedMod = (0x9, pos 1)
-alu_form Xor = (0xa, pos 0)
-alu_form Mov = (0xb, pos 0)
-alu_form Arsh = (0xc, pos 0)
-
-abbrev pub alu_code : AluOp → ℕ
-alu_code op = (alu_form op).0
-
-abbrev pub alu_offset : AluOp → ℤ
-alu_offset op = (alu_form op).1
 
 -- Source and class of a byte order (section 4.2). In ALU the source tells little-endian from big-endian.
 abbrev pub order_source : ByteOrder → ℕ
@@ -99,20 +74,6 @@ extension_offset extension = (extension_form extension).0
 
 abbrev pub extension_class : SignExtension → ℕ
 extension_class extension = alu_class (extension_form extension).1
-
--- the code of a condition, as in the table of section 4.3
-abbrev pub condition_code : Condition → ℕ
-condition_code Equal = 0x1
-condition_code Greater = 0x2
-condition_code GreaterOrEqual = 0x3
-condition_code AnyBit = 0x4
-condition_code NotEqual = 0x5
-condition_code SignedGreater = 0x6
-condition_code SignedGreaterOrEqual = 0x7
-condition_code Less = 0xa
-condition_code LessOrEqual = 0xb
-condition_code SignedLess = 0xc
-condition_code SignedLessOrEqual = 0xd
 
 -- the second operand: source K and a constant in imm, or source X and a register in src
 abbrev pub source_of : Operand → ℕ

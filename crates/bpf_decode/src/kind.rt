@@ -1,10 +1,10 @@
 // The tables of opcodes: what an instruction does, by class, code and source (RFC 9669, section 4). What
-// the tables do not list is not known. It relies on `fields` for the parts of an opcode, and on
-// `transfer` for loads and stores.
+// the tables do not list is not known. It relies on `fields` for the parts of an opcode, on `bpf_insn` for
+// the rows of operations and conditions, and on `transfer` for loads and stores.
 
 ghost use Rattle.std.specs.Prelude.{◌≡◌, ◌&&◌, ◌==◌, not, nat_le, is_some, IfSome};
+ghost use Rattle.bpf_insn.specs.Operations.{alu_code, alu_offset, condition_code};
 ghost use Rattle.bpf_decode.specs.FieldTests.{is_known};
-ghost use Rattle.bpf_decode.specs.Spells.{alu_code, alu_offset, condition_code};
 ghost use Rattle.bpf_decode.specs.Kinds.{IsKind, form_in};
 
 use crate::fields::{ALU, ALU64, CALL, DIV, END, EXIT, Fields, JA, JMP, JMP32, MOD, MOV, NEG};
@@ -26,51 +26,34 @@ pub enum Kind {
     Transfer(Transfer),
 }
 
+/// The offset that tells an operation from the other one of its code: 1 makes a division a signed one.
+fn form(code: u8, offset: i16) -> i16
+    ensures { result ≡ form_in code offset }
+{
+    if matches!(code, DIV | MOD) && offset == 1 {
+        1
+    } else {
+        0
+    }
+}
+
 /// The operation of a code (RFC 9669, section 4.1). With the offset 1 a division is a signed one.
+#[tactic(auto, using(crate::proofs::KnownCodes::known_op))]
 fn alu_op(code: u8, offset: i16) -> Option<AluOp>
     ensures code { IfSome result (λ op. code ≡ alu_code op) }
     ensures form { IfSome result (λ op. alu_offset op ≡ form_in code offset) }
     ensures known { is_some result ≡ (nat_le code 0xc && not (code == 0x8)) }
 {
-    let is_signed = offset == 1;
-    Some(match code {
-        0x0 => AluOp::Add,
-        0x1 => AluOp::Sub,
-        0x2 => AluOp::Mul,
-        DIV if is_signed => AluOp::SignedDiv,
-        DIV => AluOp::Div,
-        0x4 => AluOp::Or,
-        0x5 => AluOp::And,
-        0x6 => AluOp::Lsh,
-        0x7 => AluOp::Rsh,
-        MOD if is_signed => AluOp::SignedMod,
-        MOD => AluOp::Mod,
-        0xa => AluOp::Xor,
-        MOV => AluOp::Mov,
-        0xc => AluOp::Arsh,
-        _ => return None,
-    })
+    AluOp::from_form(code, form(code, offset))
 }
 
 /// The condition of a code (RFC 9669, section 4.3).
+#[tactic(auto, using(crate::proofs::KnownCodes::known_condition))]
 fn condition(code: u8) -> Option<Condition>
     ensures code { IfSome result (λ condition. code ≡ condition_code condition) }
     ensures known { is_some result ≡ (nat_le 0x1 code && nat_le code 0xd && not (code == 0x8) && not (code == 0x9)) }
 {
-    Some(match code {
-        0x1 => Condition::Equal,
-        0x2 => Condition::Greater,
-        0x3 => Condition::GreaterOrEqual,
-        0x4 => Condition::AnyBit,
-        0x5 => Condition::NotEqual,
-        0x6 => Condition::SignedGreater,
-        0x7 => Condition::SignedGreaterOrEqual,
-        0xa => Condition::Less,
-        0xb => Condition::LessOrEqual,
-        0xc => Condition::SignedLess,
-        0xd => Condition::SignedLessOrEqual,
-        _ => return None,
-    })
+    Condition::from_code(code)
 }
 
 /// The kind of the instruction whose fields these are, and None where it is not known.

@@ -1,15 +1,11 @@
-// What an operation, a condition or a form is in the fields of a slot: the tables of `kind` and `transfer`
+// What a width, a byte order or a form is in the fields of a slot: the tables of `kind` and `transfer`
 // the other way (RFC 9669, sections 4 and 5). It relies on `fields` for the parts of an opcode.
 
 ghost use Rattle.std.specs.Prelude.{◌≡◌, ◌<◌, ◌≤◌};
-ghost use Rattle.bpf_decode.specs.Spells.{opcode_of, memory_opcode, alu_class, alu_form, jump_class, order_source, order_class, size_imm, extension_offset, extension_class, condition_code, load_mode, load_size, store_size, source_of, src_of, imm_of};
+ghost use Rattle.bpf_decode.specs.Spells.{opcode_of, memory_opcode, alu_class, jump_class, order_source, order_class, size_imm, extension_offset, extension_class, load_mode, load_size, store_size, source_of, src_of, imm_of};
 
-use crate::fields::{
-    ALU, ALU64, BYTE, DIV, DOUBLE_WORD, HALF_WORD, JMP, JMP32, MEM, MEMSX, MOD, MOV, WORD,
-};
-use bpf_insn::{
-    AluOp, ByteOrder, Condition, LoadForm, Operand, SignExtension, StoreSize, Width, WordSize,
-};
+use crate::fields::{ALU, ALU64, BYTE, DOUBLE_WORD, HALF_WORD, JMP, JMP32, MEM, MEMSX, WORD};
+use bpf_insn::{ByteOrder, LoadForm, Operand, SignExtension, StoreSize, Width, WordSize};
 
 /// The source of a constant, in imm.
 pub const CONSTANT: u8 = 0;
@@ -56,49 +52,6 @@ pub fn jump_class(width: Width) -> u8
     match width {
         Width::Bits32 => JMP32,
         Width::Bits64 => JMP,
-    }
-}
-
-/// Code and offset of an operation.
-pub fn alu_form(op: AluOp) -> (u8, i16)
-    ensures form { result ≡ alu_form op }
-    ensures in_range { result.0 < 16 }
-{
-    match op {
-        AluOp::Add => (0x0, 0),
-        AluOp::Sub => (0x1, 0),
-        AluOp::Mul => (0x2, 0),
-        AluOp::Div => (DIV, 0),
-        AluOp::SignedDiv => (DIV, 1),
-        AluOp::Or => (0x4, 0),
-        AluOp::And => (0x5, 0),
-        AluOp::Lsh => (0x6, 0),
-        AluOp::Rsh => (0x7, 0),
-        AluOp::Mod => (MOD, 0),
-        AluOp::SignedMod => (MOD, 1),
-        AluOp::Xor => (0xa, 0),
-        AluOp::Mov => (MOV, 0),
-        AluOp::Arsh => (0xc, 0),
-    }
-}
-
-/// The code of a condition.
-pub fn condition_code(condition: Condition) -> u8
-    ensures code { result ≡ condition_code condition }
-    ensures in_range { result < 16 }
-{
-    match condition {
-        Condition::Equal => 0x1,
-        Condition::Greater => 0x2,
-        Condition::GreaterOrEqual => 0x3,
-        Condition::AnyBit => 0x4,
-        Condition::NotEqual => 0x5,
-        Condition::SignedGreater => 0x6,
-        Condition::SignedGreaterOrEqual => 0x7,
-        Condition::Less => 0xa,
-        Condition::LessOrEqual => 0xb,
-        Condition::SignedLess => 0xc,
-        Condition::SignedLessOrEqual => 0xd,
     }
 }
 

@@ -1,5 +1,5 @@
 // The rows of an instruction: the fields of its slots (RFC 9669, sections 3 to 5). It relies on `opcodes`
-// for the tables, and on `bpf_insn` for what an instruction is.
+// for the tables, and on `bpf_insn` for what an instruction is and for the rows of operations and conditions.
 
 ghost use Rattle.std.specs.Prelude.{◌≡◌, ◌≤◌, [], ◌∷◌, IfSome, IfNone};
 ghost use Rattle.bpf_insn.specs.declared.insn.Insn.TheVariants.{Alu, InPlace, SignExtend, JumpIf, Jump, Load, Store, Call};
@@ -11,8 +11,8 @@ use crate::fields::{
     NEG, ST, STX,
 };
 use crate::opcodes::{
-    CONSTANT, REGISTER, alu_class, alu_form, condition_code, extension_form, jump_class, load_form,
-    memory_opcode, opcode, operand, order_form, size_imm, store_size,
+    CONSTANT, REGISTER, alu_class, extension_form, jump_class, load_form, memory_opcode, opcode,
+    operand, order_form, size_imm, store_size,
 };
 use bpf_insn::{
     AluOp, Callee, Condition, Distance, InPlaceOp, Insn, LoadForm, Operand, Reg, SignExtension,
@@ -22,13 +22,12 @@ use bpf_insn::{
 fn alu_row(width: Width, op: AluOp, dst: Reg, src: Operand) -> Fields
     ensures { IsRow result (Alu width op dst src) }
 {
-    let (code, offset) = alu_form(op);
     let (source, src, imm) = operand(src);
     Fields {
-        opcode: opcode(code, source, alu_class(width)),
+        opcode: opcode(op.code(), source, alu_class(width)),
         dst: dst.number(),
         src,
-        offset,
+        offset: op.offset(),
         imm,
     }
 }
@@ -70,7 +69,7 @@ fn jump_if_row(width: Width, condition: Condition, dst: Reg, src: Operand, offse
 {
     let (source, src, imm) = operand(src);
     Fields {
-        opcode: opcode(condition_code(condition), source, jump_class(width)),
+        opcode: opcode(condition.code(), source, jump_class(width)),
         dst: dst.number(),
         src,
         offset,

@@ -4,3 +4,4 @@ pub mod SameWords
 pub mod WordRows
 pub mod OperandRows
 pub mod RowLists
+pub mod FoundRows

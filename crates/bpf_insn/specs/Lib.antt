@@ -3,3 +3,4 @@ pub mod Program
 pub mod Target
 pub mod Words
 pub mod Rows
+pub mod Operations

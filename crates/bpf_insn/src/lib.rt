@@ -4,6 +4,7 @@
 
 mod insn;
 mod opcode;
+mod operation;
 mod program;
 mod reg;
 mod row;
@@ -15,6 +16,7 @@ pub use insn::{
     SignExtension, StoreSize, Width, WordSize,
 };
 pub use opcode::{Opcode, QUICK_OPS, QuickOp};
+pub use operation::{ALU_OPS, CONDITIONS};
 pub use program::{MAX_SLOTS, Program, ProgramBuilder, Slot};
 pub use reg::Reg;
 pub use row::Row;

@@ -1,3 +1,3 @@
 pub mod QuickResults
 pub mod SignedWords
-pub mod WordRows
+pub mod Worked

@@ -36,6 +36,13 @@ impl HeldFreezes {
         }
     }
 
+    /// Whether both are the same freezes in the same order. Only those that are held are looked at.
+    pub fn is_same(&self, other: &Self) -> bool
+        ensures { IsTrue result ↔ (self.now ≡ other.now) }
+    {
+        self.numbers.is_same(&other.numbers)
+    }
+
     /// The freeze that a run was started with, or none as 0.
     pub fn at_start(freeze: u32) -> Self
         ensures { result ≡ (if freeze == 0 then [] else freeze ∷ []) }

@@ -23,7 +23,7 @@ use crate::stepping::advance;
 use base::ShortBytes;
 use bpf_insn::{Callee, Insn, Program, Reg, jump_target};
 use bpf_semantics::Stop;
-use bpf_stack_frame::Frames;
+use bpf_stack_frame::{Frames, same_bytes};
 use helpers::{Answer, ArgKind, Arguments, Change, Helper, Request, Tells, Written};
 use std::marker::Model;
 
@@ -114,10 +114,10 @@ impl Machine {
     {
         self.pc == other.pc
             && self.registers.is_same(&other.registers)
-            && self.context == other.context
+            && same_bytes(&self.context, &other.context)
             && self.frames.is_same(&other.frames)
             && self.open_calls.is_same(&other.open_calls)
-            && self.held == other.held
+            && self.held.is_same(&other.held)
             && self.disposed == other.disposed
     }
 

@@ -10,6 +10,7 @@ ghost use Rattle.bpf_machine.specs.RegisterWords.{word_of};
 ghost use Rattle.bpf_machine.specs.Unchecked.{second_word, word_at, word_for, with_word};
 
 use bpf_insn::{Operand, Reg, Row};
+use bpf_stack_frame::same_words;
 use std::marker::Model;
 
 /// Where the word stands that is always 0.
@@ -53,7 +54,7 @@ impl Registers {
     pub fn is_same(&self, other: &Self) -> bool
         ensures { IsTrue result ↔ (self.now ≡ other.now) }
     {
-        self == other
+        same_words(&self.words, &other.words) && self.written == other.written
     }
 
     /// What a register holds, where it is written.

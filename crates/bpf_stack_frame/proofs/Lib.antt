@@ -1,3 +1,4 @@
+pub mod Differences
 pub mod Bits
 pub mod Sets
 pub mod Words

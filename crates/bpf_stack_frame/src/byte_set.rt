@@ -1,9 +1,10 @@
 // Sets of the bytes of a stack frame, kept as a bit for each byte, so that a word's bytes are added or looked up by
-// masks. It relies on nothing but `base`, for lists of sets.
+// masks. It relies on `alike` for which are the same, and on `base` for lists of sets.
 
 ghost use Rattle.std.specs.Prelude.{◌≡◌, ◌<◌, ◌≤◌, ◌+◌, ◌-◌, ◌%◌, ◌^◌, ◌&&◌, ◌↔◌, ℕ, IsTrue, false, length, replicate, slice_index_or};
 ghost use Rattle.bpf_stack_frame.specs.ByteSet.{no_bytes, with_all, HasAll};
 
+use crate::alike::same_words;
 use base::Blank;
 use std::marker::Model;
 
@@ -43,21 +44,6 @@ fn ones(first: usize, count: usize) -> u64
     } else {
         (u64::MAX >> (64 - count)) << first
     }
-}
-
-// Whether all words are the same, without a jump for each.
-#[inline(always)]
-fn same_words(words: &[u64; 8], others: &[u64; 8]) -> bool
-    ensures { IsTrue result ↔ (words.now ≡ others.now) }
-{
-    (words[0] == others[0])
-        & (words[1] == others[1])
-        & (words[2] == others[2])
-        & (words[3] == others[3])
-        & (words[4] == others[4])
-        & (words[5] == others[5])
-        & (words[6] == others[6])
-        & (words[7] == others[7])
 }
 
 impl Blank for ByteSet {

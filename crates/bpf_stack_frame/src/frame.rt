@@ -1,10 +1,11 @@
 // A stack frame: 512 bytes, and which of them are written. A load or a store of a word has no loop. It relies on
-// `byte_set` for what is written, and on `byteorder` for words in memory.
+// `byte_set` for what is written, on `alike` for bytes that are the same, and on `byteorder` for words in memory.
 
 ghost use Rattle.std.specs.Prelude.{◌≡◌, ◌≤◌, ◌+◌, ◌↔◌, IsTrue, length, replicate, None, is_some, map, take, drop};
 ghost use Rattle.byteorder.specs.Endian.{little_bytes};
 ghost use Rattle.bpf_stack_frame.specs.Frame.{all_written, byte_of, word_at, written_at};
 
+use crate::alike::same_bytes;
 use crate::byte_set::{ByteSet, MOST_BYTES};
 use base::Blank;
 use byteorder::{ByteOrder, LittleEndian};
@@ -62,10 +63,14 @@ impl Frame {
         }
     }
 
+    // The same of frames of which something is written. It is apart, so that frames of which nothing is written are told apart in
+    // few words.
+    #[cold]
+    #[inline(never)]
     fn has_same_bytes(&self, other: &Self) -> bool
         ensures { IsTrue result ↔ (self.now ≡ other.now) }
     {
-        self.written.is_same(&other.written) && self.bytes == other.bytes
+        self.written.is_same(&other.written) && same_bytes(&self.bytes, &other.bytes)
     }
 
     /// Makes this frame the other one. Where both are unwritten no byte is copied.

@@ -3,10 +3,12 @@
 // `padded_list` for how frames are kept.
 #![tactic(auto)]
 
+mod alike;
 mod byte_set;
 mod frame;
 mod frames;
 
+pub use alike::{same_bytes, same_words};
 pub use byte_set::{ByteSet, MOST_BYTES};
 pub use frame::Frame;
 pub use frames::{Frames, MAX_FRAMES};

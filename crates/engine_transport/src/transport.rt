@@ -16,6 +16,7 @@ ghost use Rattle.world.specs.declared.ccb_state.CcbState.TheVariants.{Waiting, A
 ghost use Rattle.world.specs.World.{Setup, World, queue_count, queue_setup, LiveCcb as WorldCcb};
 ghost use Rattle.world.specs.Capacities.{most_controllers, most_queues, most_ccbs, last_reading};
 ghost use Rattle.world.specs.Lookups.{is_waiting, is_active, ccb_of, with_ccb};
+ghost use Rattle.world.specs.Refusals.{is_unknown};
 ghost use Rattle.world_calls.specs.declared.call.Call.TheVariants.{Submit, Dispatch, GuestFreeze, GuestRelease, Clock};
 ghost use Rattle.world_calls.specs.declared.call_answer.CallAnswer.TheVariants as answers;
 ghost use Rattle.ccb.specs.declared.call_refusal.CallRefusal.TheVariants.{Unknown};
@@ -122,9 +123,8 @@ impl Transport {
     }
 
     /// Starts the waiting CCB of the queue that has the lowest priority number, and among these the lowest CCB number:
-    /// it is active. C1 where there is no such queue, Q2 where it is frozen, Q3 where as many of its CCBs are active
-    /// as it has openings, Q4 where none waits, Q5 where the controller is frozen that the queue is under. A refusal changes
-    /// nothing.
+    /// it is active. Refused with the first refusal of a dispatch that holds (`ccb::REFUSALS` has them in their order), which
+    /// changes nothing.
     pub fn dispatch(&mut self, queue: QueueId, controller: u32) -> Result<CcbId, CallRefusal>
         requires { controller < most_controllers }
         ensures step { (setup : Setup) (world : World) → queue_count setup ≡ length self.old.openings → (queue_setup setup queue.0).controller ≡ controller →
@@ -279,13 +279,26 @@ impl Transport {
         self.ledger.len() as u32
     }
 
-    /// The number and the holder of each freeze of a place, by rising number; `None` exactly where there is no such place:
-    /// neither a queue, nor one of as many controllers as there may be.
-    pub fn holders(&self, place: Place) -> Option<Holders<'_>>
-        ensures there { IsSome result ↔ (index_of place < places_of (length self.now.openings) most_controllers) }
+    // Whether there is such a place: a queue, or one of so many controllers.
+    fn has_place(&self, place: Place, controllers: u32) -> bool
+        requires { controllers ≤ most_controllers }
+        ensures known { (setup : Setup) → queue_count setup ≡ length self.now.openings → setup.controllers ≡ controllers → result ≡ not (is_unknown setup place) }
+        ensures within { IsTrue result → index_of place < places_of (length self.now.openings) most_controllers }
+    {
+        match place {
+            Place::Device(queue) => self.has_queue(queue),
+            Place::Controller(controller) => controller < controllers,
+        }
+    }
+
+    /// The number and the holder of each freeze of a place, by rising number; `None` exactly where there is no such place, so many
+    /// controllers being there.
+    pub fn holders(&self, place: Place, controllers: u32) -> Option<Holders<'_>>
+        requires { controllers ≤ most_controllers }
+        ensures there { (setup : Setup) → queue_count setup ≡ length self.now.openings → setup.controllers ≡ controllers → IsSome result ↔ (is_unknown setup place ≡ false) }
         ensures holders { IfSome result (λ holders. holders ≡ holders_of place self.now.freezes) }
     {
-        if place.index() < self.ledger.places() {
+        if self.has_place(place, controllers) {
             Some(self.ledger.holders(place))
         } else {
             None
@@ -356,11 +369,7 @@ impl Transport {
         ensures token { IfOk result (λ token. (token.place ≡ place) × (token.holder ≡ Guest guest) × (self.new.freezes ≡ self.old.freezes ++ token ∷ [])) }
         ensures refused { OnErr result (self.new ≡ self.old) }
     {
-        let is_known = match place {
-            Place::Device(queue) => (queue.0 as usize) < self.queues.len(),
-            Place::Controller(controller) => controller < controllers,
-        };
-        if !is_known {
+        if !self.has_place(place, controllers) {
             return Err(CallRefusal::Unknown);
         }
         self.take(place, Holder::Guest(guest))

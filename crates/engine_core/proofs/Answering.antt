@@ -1,7 +1,8 @@
 -- An event's reply: what fits, the room for its record, and what the engine is behind it.
-use Rattle.std.proofs.Common.{◌≡◌, ℕ, ◌+◌, ◌<◌, ◌≤◌, true, false, List, [], ◌∷◌, ◌++◌, length, Result, Ok, Err, Option, Some, None, refl, ap, sym, ◌∙◌, arith}
-use Rattle.std.specs.Prelude.{IfOk, IfNone, IsSome, OnErr}
+use Rattle.std.proofs.Common.{◌≡◌, ℕ, ◌+◌, ◌<◌, ◌≤◌, true, false, List, [], ◌∷◌, ◌++◌, length, Result, Ok, Err, Option, Some, None, refl, ap, sym, subst, ◌∙◌, arith}
+use Rattle.std.specs.Prelude.{IfOk, IfErr, OnOk}
 use Rattle.std.specs.Result.{is_err}
+use Rattle.std.proofs.lemmas.List.{length_push}
 use Rattle.std.proofs.lemmas.List.Sums.{count_by-le-length}
 use Rattle.ccb.specs.declared.QueueId.{QueueId}
 use Rattle.engine_runs.specs.Admits.{KnowsProgram}
@@ -9,39 +10,33 @@ use Rattle.engine_runs.specs.RunsState.{RunsState}
 use Rattle.world_calls.specs.declared.record.Record.{Record}
 use Rattle.world.specs.World.{Transport, Setup, LiveRun, World, queue_setup}
 use Rattle.engine_core.specs.declared.event.Event.{Event}
-use Rattle.engine_core.specs.declared.event.Event.TheVariants.{Advance, GuestRelease, Park}
+use Rattle.engine_core.specs.declared.event.Event.TheVariants.{Advance, Complete, GuestFreeze, Resume}
 use Rattle.engine_core.specs.declared.reply.Reply.{Reply}
-use Rattle.engine_core.specs.declared.reply.Reply.TheVariants.{Success, Refused, NotAdmitted, OutOfMemory}
+use Rattle.engine_core.specs.declared.reply.Reply.TheVariants.{Success, Refused}
+use Rattle.ccb.specs.declared.call_refusal.CallRefusal.{CallRefusal}
+use Rattle.ccb.specs.declared.place.Place.{Place}
+use Rattle.freeze_ledger.specs.declared.freeze.Freeze.{Freeze}
+use Rattle.freeze_ledger.specs.declared.freeze.Holder.TheVariants.{Guest}
+use Rattle.std.specs.Borrow.{Bor}
+use Rattle.ccb.specs.declared.completion.Completion.{Completion}
+use Rattle.world_calls.specs.declared.call.Call.{Call}
+use Rattle.world_calls.specs.declared.call.Call.TheVariants as calls
+use Rattle.engine_core.specs.declared.answers.CompleteAnswer.{CompleteAnswer}
+use Rattle.engine_core.specs.declared.answers.CompleteAnswer.TheVariants as completes
+use Rattle.engine_core.specs.declared.answers.AdvanceAnswer.{AdvanceAnswer}
+use Rattle.engine_core.specs.declared.answers.AdvanceAnswer.TheVariants as advances
+use Rattle.engine_core.specs.Answers.{GoesOrEnds, StartsOut}
+use Rattle.world_calls.specs.declared.call_answer.CallAnswer.{CallAnswer}
+use Rattle.world_calls.specs.declared.call_answer.CallAnswer.TheVariants as answers
+use Rattle.world_calls.specs.declared.record.Record.TheVariants.{Called}
+use Rattle.engine_core.specs.EngineState.{EngineState, GuestHolds, Records, world_of}
+use Rattle.engine_core.specs.Faults.{FaultIs, given}
 use Rattle.engine_core.specs.Invariant.{HistoryHasRoom, KeepsEngine}
-use Rattle.engine_core.specs.Performing.{FitsAt, IsRoomFor, LeavesRoom, Performs, world_with}
-use Rattle.engine_core.specs.RunState.{StoppedState}
-use Rattle.engine_core.specs.Replies.{IsFit, IsOfKnown, IsUnfit, ToldFit, owns, record_of}
-use Rattle.engine_core.proofs.Parking.{known_run, room_to_park}
+use Rattle.engine_core.specs.Performing.{Performs}
+use Rattle.engine_core.specs.RunState.{IsOutUnder, RunState, StoppedState, before_stop}
+use Rattle.engine_core.specs.Replies.{GivesAsRecorded, IsOfKnown, completed_reply, given_advanced, resumed_answer, resumed_reply, token_reply}
+use Rattle.engine_core.proofs.Parking.{known_run, room_kept}
 use Rattle.engine_core.proofs.Recording.{Goes, goes, kept_sound}
-
--- what was not found does not fit
-pub none_fits : (o : Option ℕ) (fact : World → Type 0) → ((world : World) → fact world → IsSome o) → IfNone o ((world : World) → fact world → ⊥)
-none_fits None fact shows = λ world it. let bad : false ≡ true = shows world it in absurd cc
-none_fits (Some place) fact shows = tt
-
-pub for_these : {A B C : Type 0} (r : Result A B) (holds : C → A → Type 0) (these : C) → IfOk r (λ it. (c : C) → holds c it) → IfOk r (λ it. holds these it)
-for_these (Ok it) holds these all = all these
-for_these (Err fault) holds these all = tt
-
-pub on_err : {A B : Type 0} (r : Result A B) (fact : Type 0) → is_err r ≡ true → OnErr r fact → fact
-on_err (Ok it) fact failed holds = absurd (let bad : false ≡ true = failed in cc)
-on_err (Err fault) fact failed holds = holds
-
-pub unless_err : {A B : Type 0} (r : Result A B) (fact : Type 0) → is_err r ≡ false → IfOk r (λ it. fact) → fact
-unless_err (Ok it) fact failed holds = holds
-unless_err (Err fault) fact failed holds = absurd (let bad : true ≡ false = failed in cc)
-
--- what owns nothing fits always
-pub unfit_owns : (event : Event) (world : World) → IsUnfit world event → owns event ≡ true
-unfit_owns (Advance run) world unfit = refl
-unfit_owns (GuestRelease token) world unfit = refl
-unfit_owns (Park run) world unfit = refl
-unfit_owns event world unfit = absurd (unfit tt)
 
 -- a queue's program is that of each live run of this queue
 pub knows_program : (setup : Setup) (history : List Record) (transport : Transport) (runs : RunsState) (run : StoppedState) (known : Option QueueId) → KeepsEngine setup history transport runs → IsOfKnown setup (Advance run) known → KnowsProgram runs.runs.list run.number run.segment.program.program known
@@ -49,34 +44,9 @@ knows_program setup history transport runs run None kept of = tt
 knows_program setup history transport runs run (Some queue) kept of = λ it found its.
     of ∙ (ap (λ (n : ℕ). (queue_setup setup n).program) (sym its) ∙ sym (known_run setup history transport runs run.number it kept found).program)
 
--- what was found fits
-pub fit_at : (event : Event) (place : ℕ) (transport : Transport) (runs : RunsState) (world : World) → FitsAt place transport runs event → IsFit (world_with transport runs world) event
-fit_at (Advance run) place transport runs world fit = record { it = fit.0.it; found = fit.0.found; out = fit.0.recorded.0; program_is = sym fit.0.recorded.1; machine_is = sym fit.0.recorded.2 }
-fit_at (GuestRelease token) place transport runs world fit = fit
-fit_at (Park run) place transport runs world fit = record { it = fit.0.it; found = fit.0.found; out = fit.0.recorded.0; program_is = sym fit.0.recorded.1; machine_is = sym fit.0.recorded.2 }
-fit_at event place transport runs world fit = tt
-
--- a reply that is recorded does not tell that the event is unfit
-pub told_fit : (event : Event) (reply : Reply) (told : Record) (world : World) → record_of event reply ≡ Some told → IsFit world event → ToldFit world event reply
-told_fit event (Success given) told world is fit = fit
-told_fit event (Refused refusal) told world is fit = fit
-told_fit event (NotAdmitted back) told world is fit = absurd (let bad : None ≡ Some told = is in cc)
-told_fit event (OutOfMemory back) told world is fit = fit
-
--- there is room for its record
-pub room_to_tell : (event : Event) (place : ℕ) (transport : Transport) (runs : RunsState) (records was capacity : ℕ) → FitsAt place transport runs event → HistoryHasRoom records was runs.runs.list → was ≤ capacity → IsRoomFor event records capacity → records < capacity
-room_to_tell (Park run) place transport runs records was capacity fit had more room =
-    let one = room_to_park records was run.number runs.runs.list fit.0.it had fit.0.found fit.0.recorded.0 in
-    omega (arith, one, more)
-room_to_tell event place transport runs records was capacity fit had more room = omega (arith, room)
-
 -- and behind it for that of a park of each run that is out
 few_out : (runs : List LiveRun) (records capacity : ℕ) → records + 257 ≤ capacity → length runs ≤ 256 → HistoryHasRoom (records + 1) capacity runs
 few_out runs records capacity room few = omega (arith, room, few, count_by-le-length (λ (run : LiveRun). run.out) runs)
-
-pub room_behind : (event : Event) (old new : List LiveRun) (records was capacity : ℕ) → LeavesRoom event old new → length new ≤ 256 → HistoryHasRoom records was old → was ≤ capacity → IsRoomFor event records capacity → HistoryHasRoom (records + 1) capacity new
-room_behind (Park run) old new records was capacity leaves few had more room = leaves records capacity (omega (arith, had, more))
-room_behind event old new records was capacity leaves few had more room = few_out new records capacity room few
 
 -- the engine behind an event that was performed
 pub performed : (setup : Setup) (history later : List Record) (event : Event) (transport : Transport) (old : RunsState) (more : Transport) (new : RunsState) (reply : Reply) (told : Record) → KeepsEngine setup history transport old → later ≡ history ++ told ∷ [] → Performs setup event transport old more new reply told → Goes setup history later transport more old new told
@@ -84,3 +54,59 @@ performed setup history later event transport old more new reply told kept is it
 
 pub few_runs : (setup : Setup) (history : List Record) (transport : Transport) (runs : RunsState) → KeepsEngine setup history transport runs → length runs.runs.list ≤ 256
 few_runs setup history transport runs kept = (kept_sound setup history transport runs kept).kept.runs.all
+
+-- an engine, as contracts see it
+abbrev pub seen : Setup → List Record → Transport → RunsState → EngineState
+seen setup history transport runs = record { setup = setup; history = history; world = world_of setup history transport runs.runs }
+
+-- an engine after a call that was performed, with one record more
+pub record Appended (setup : Setup) (history later : List Record) (transport : Transport) (old : RunsState) (more : Transport) (new : RunsState) (told : Record) (capacity : ℕ) : Type 0 where
+  pub records : Records (seen setup history transport old) (seen setup later more new) told
+  pub kept : KeepsEngine setup later more new
+  pub room : HistoryHasRoom (length later) capacity new.runs.list
+
+-- where room was taken for it, and for that of a park of each run
+pub appended : (setup : Setup) (history reserved later : List Record) (event : Event) (transport : Transport) (old : RunsState) (more : Transport) (new : RunsState) (reply : Reply) (told : Record) (capacity last : ℕ) → KeepsEngine setup history transport old → reserved ≡ history → later ≡ reserved ++ told ∷ [] → length reserved + 257 ≤ capacity → last ≡ capacity → Performs setup event transport old more new reply told → Appended setup history later transport old more new told last
+appended setup history reserved later event transport old more new reply told capacity last kept same is room held it =
+    let all : later ≡ history ++ told ∷ [] = is ∙ ap (λ (h : List Record). h ++ told ∷ []) same in
+    let one = performed setup history later event transport old more new reply told kept all it in
+    let few = few_runs setup later more new one.kept in record {
+      records = record { history = all; setup = refl; step = one.leads };
+      kept = one.kept;
+      room = room_kept _ _ _ _ new.runs.list (few_out new.runs.list (length reserved) capacity room few) (ap length is ∙ length_push _ _) held;
+    }
+
+-- a call gives what is recorded, or is refused as is recorded
+pub gives : {T : Type 0} (answer : Result T CallRefusal) (tells : Result T CallRefusal → CallAnswer) (old new : EngineState) (call : Call) (told : Record) → told ≡ Called (tells answer) call → Records old new told → IfOk (given answer) (λ it. Records old new (Called (tells (Ok it)) call))
+gives (Ok it) tells old new call told is records = subst (λ (r : Record). Records old new r) is records
+gives (Err refusal) tells old new call told is records = tt
+
+pub refuses : {T : Type 0} (answer : Result T CallRefusal) (tells : Result T CallRefusal → CallAnswer) (old new : EngineState) (call : Call) (told : Record) → ((refusal : CallRefusal) → tells (Err refusal) ≡ answers.Refused refusal) → told ≡ Called (tells answer) call → Records old new told → IfErr (given answer) (λ fault. FaultIs fault (new ≡ old) (λ refusal. Records old new (Called (answers.Refused refusal) call)))
+refuses (Ok it) tells old new call told says is records = tt
+refuses (Err refusal) tells old new call told says is records =
+    subst (λ (a : CallAnswer). Records old new (Called a call)) (says refusal) (subst (λ (r : Record). Records old new r) is records)
+
+-- room that was not refused was taken
+pub on_ok : {A B : Type 0} (r : Result A B) (fact : Type 0) → is_err r ≡ false → OnOk r fact → fact
+on_ok (Ok it) fact failed holds = holds
+on_ok (Err fault) fact failed holds = absurd (let bad : true ≡ false = failed in cc)
+
+-- a guest's freeze is what the world has then
+pub token_so : (setup : Setup) (before after : World) (place : Place) (guest : ℕ) (answer : Result Freeze CallRefusal) → GivesAsRecorded setup before (GuestFreeze place guest) after (token_reply answer) → IfOk (given answer) (λ token. GuestHolds after token × (token.place ≡ place) × (token.holder ≡ Guest guest))
+token_so setup before after place guest (Ok token) its = its
+token_so setup before after place guest (Err refusal) its = tt
+
+-- a run that a completion started is out
+pub starts_so : (setup : Setup) (before after : World) (completion : Bor Completion) (answer : Result CompleteAnswer CallRefusal) → GivesAsRecorded setup before (Complete completion) after (completed_reply answer) → IfOk (given answer) (StartsOut setup after)
+starts_so setup before after completion (Ok completes.Done) its = tt
+starts_so setup before after completion (Ok (completes.Started run freeze)) its = its
+starts_so setup before after completion (Err refusal) its = tt
+
+-- so is one that goes on
+pub goes_so : (setup : Setup) (before after : World) (run : StoppedState) (answer : AdvanceAnswer) → GivesAsRecorded setup before (Advance run) after (Success (given_advanced answer)) → GoesOrEnds setup before after (before_stop run) run.segment answer
+goes_so setup before after run (advances.Goes again r0) its = its
+goes_so setup before after run (advances.Ended r0) its = its
+
+pub resumes_so : (old new : EngineState) (run : ℕ) (answer : Result RunState CallRefusal) (told : Record) → told ≡ Called (resumed_answer answer) (calls.Resume run) → Records old new told → GivesAsRecorded old.setup old.world (Resume run) new.world (resumed_reply answer) → IfOk (given answer) (λ again. Records old new (Called answers.Ok (calls.Resume run)) × (again.number ≡ run) × IsOutUnder new.setup new.world again)
+resumes_so old new run (Ok again) told is records its = (subst (λ (r : Record). Records old new r) is records, its.0, subst (λ (s : Setup). IsOutUnder s new.world again) (sym records.setup) its.1)
+resumes_so old new run (Err refusal) told is records its = tt

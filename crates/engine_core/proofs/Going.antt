@@ -3,19 +3,18 @@ use Rattle.std.proofs.Common.{suc, ◌+◌, inr, ◌≡◌, ℕ, List, Some, ref
 use Rattle.bpf_insn.specs.declared.program.Slot.{Slot}
 use Rattle.bpf_semantics.specs.MachineState.{MachineState}
 use Rattle.bpf_semantics.specs.Reached.{Reached}
-use Rattle.bpf_accepted.specs.Verdict.{Verdict, IsAccepted}
+use Rattle.bpf_accepted.specs.Verdict.{Verdict}
 use Rattle.helpers.specs.declared.request.Answer.{Answer}
-use Rattle.bpf_semantics.specs.Reached.{PrivateSteps}
 use Rattle.bpf_semantics.specs.Step.{IsAnswer, answered}
-use Rattle.bpf_semantics.specs.Stops.{stop_at}
 use Rattle.interpreter.proofs.Stops.{segment_calls, segment_reaches}
-use Rattle.interpreter.specs.Segments.{SegmentState, IsSegment, stop_there, stretch}
+use Rattle.interpreter.specs.Segments.{SegmentState, IsSegment}
 use Rattle.engine_runs.specs.RunsState.{RunsState}
 use Rattle.engine_runs.specs.Admits.{IsOutWith}
 use Rattle.engine_runs.specs.RunPlaces.{HasRunAt}
-use Rattle.engine_core.specs.RunState.{RunState, StoppedState, IsOut, IsOutUnder, IsReached, before_stop}
+use Rattle.engine_core.specs.RunState.{RunState, StoppedState, IsOut, IsOutUnder, IsReached, IsStopped, before_stop}
 use Rattle.world_calls.specs.declared.record.Record.{Record}
 use Rattle.helpers.specs.declared.request.Request.{Request}
+use Rattle.bpf_semantics.specs.declared.stop.Stop.{Stop}
 use Rattle.bpf_semantics.specs.declared.stop.Stop.TheVariants.{Helper}
 use Rattle.world.specs.World.{Transport, Setup, LiveRun, World, queue_setup}
 use Rattle.world.specs.Lookups.{run_of}
@@ -23,12 +22,12 @@ use Rattle.engine_core.specs.declared.answers.AdvanceAnswer.{AdvanceAnswer}
 use Rattle.engine_core.specs.declared.answers.AdvanceAnswer.TheVariants.{Goes, Ended}
 use Rattle.engine_core.specs.Answers.{GoesOrEnds}
 use Rattle.engine_core.specs.Invariant.{KeepsEngine}
-use Rattle.engine_core.specs.TakingOver.{GoesAs, IsAdmitted}
+use Rattle.engine_core.specs.TakingOver.{ArrivesAt, GoesAs, IsAdmitted, RunContinues}
 use Rattle.engine_core.proofs.PrivateWays.{with_machine}
 use Rattle.engine_core.specs.Performing.{IsPlaced}
 use Rattle.engine_core.proofs.Recording.{goes, kept_sound}
 
-there : (runs : List LiveRun) (number place : ℕ) (program : List Slot) (machine : MachineState) → (out : IsOutWith runs number program machine) → IsPlaced runs number place → HasRunAt runs place out.it
+pub there : (runs : List LiveRun) (number place : ℕ) (program : List Slot) (machine : MachineState) → (out : IsOutWith runs number program machine) → IsPlaced runs number place → HasRunAt runs place out.it
 there runs number place program machine out at =
     let both : Some at.0 ≡ Some out.it = sym at.1 ∙ out.found in
     let same : at.0 ≡ out.it = cc in
@@ -47,6 +46,27 @@ is_admitted setup history transport runs number place segment kept out at = reco
     next = record { program_is = out.recorded.1; segment_program_is = out.recorded.1; start_is = out.recorded.2 };
   };
   there = there runs.runs.list number place segment.program.program segment.from out at;
+}
+
+-- a run that stands at its stop arrives there
+pub arrives_at : (setup : Setup) (history : List Record) (transport : Transport) (runs : RunsState) (run : StoppedState) (place : ℕ) (machine : MachineState) (stop : Stop) → KeepsEngine setup history transport runs → IsOutWith runs.runs.list run.number run.segment.program.program run.segment.from → IsPlaced runs.runs.list run.number place → IsStopped run → machine ≡ run.segment.to → run.segment.stop ≡ stop → ArrivesAt transport runs place machine stop
+arrives_at setup history transport runs run place machine stop kept out at stopped to stops = record {
+  segment = run.segment;
+  ends = record { segment_is = stopped.segment; machine_is = sym to; stop_is = stops };
+  number = run.number;
+  admitted = is_admitted setup history transport runs run.number place run.segment kept out at;
+}
+
+-- the same run goes on from there
+pub goes_as : (run : StoppedState) (again : RunState) (machine : MachineState) (stop : Stop) (old new : List LiveRun) (place : ℕ) (on : RunContinues machine stop old new place) → machine ≡ run.segment.to → run.segment.stop ≡ stop → again ≡ record (before_stop run) { machine = on.machine } → GoesAs run again old new place
+goes_as run again machine stop old new place on to stops is = record {
+  on = record {
+    machine = on.machine;
+    stands = on.stands;
+    found = on.found;
+    reached = λ segment ends. on.reached segment (record { segment_is = ends.segment_is; machine_is = ends.machine_is ∙ sym to; stop_is = ends.stop_is ∙ stops });
+  };
+  is = is;
 }
 
 -- it is out, and is under the setup if it was before
@@ -78,27 +98,11 @@ recorded_reached setup history transport runs run machine kept out =
     let reached = (kept_sound setup history transport runs kept).reached run.number out.it out.found in
     (reached.0, subst (λ (m : MachineState). Reached run.program.program reached.0 m) (sym out.recorded.2) (subst (λ (p : List Slot). Reached p reached.0 out.it.machine) (sym out.recorded.1) reached.1))
 
--- a run whose call is answered is in a machine that its program reaches
-pub answered_reached : (s : SegmentState) (request : Request) (answer : Answer) (machine : MachineState) → IsSegment s → ((n : ℕ) × Reached s.program.program n s.from) → s.stop ≡ Helper request → IsAnswer s.to request answer → machine ≡ answered request answer s.to → (n : ℕ) × Reached s.program.program n machine
-answered_reached s request answer machine is from stop allowed machine_is =
-    let to = segment_reaches s from.0 is from.1 in
-    (suc (from.0 + is.private), (s.to, to, inr (request, answer, segment_calls s request is stop, (allowed, machine_is))))
-
--- a segment of the same instructions, as one of another verdict
-pub same_stretch : (s : SegmentState) (v : Verdict) → IsSegment s → v.program ≡ s.program.program → stretch v s.from s.to s.steps ≡ record s { program = v }
-same_stretch s v is same =
-    let stop : stop_there (stop_at v.program s.to) ≡ s.stop = ap (λ (p : List Slot). stop_there (stop_at p s.to)) same ∙ ap stop_there is.stands in
-    λ i. record { program = v; from = s.from; to = s.to; steps = s.steps; stop = stop i }
-
-pub is_stretch : (s : SegmentState) (v : Verdict) → IsSegment s → IsAccepted v → v.program ≡ s.program.program → IsSegment (stretch v s.from s.to s.steps)
-is_stretch s v is accepted same = record {
-  accepted = accepted;
-  private = is.private;
-  count = is.count;
-  way = subst (λ (p : List Slot). PrivateSteps p is.private s.from s.to) (sym same) is.way;
-  stands =
-      ap (λ (p : List Slot). stop_at p s.to) same ∙ (is.stands ∙ ap Some (sym (ap (λ (p : List Slot). stop_there (stop_at p s.to)) same ∙ ap stop_there is.stands)));
-}
+-- a run whose call is answered is in a machine that its program reaches, by as many instructions more
+pub answered_reached : (s : SegmentState) (request : Request) (answer : Answer) (machine : MachineState) (is : IsSegment s) (n : ℕ) → Reached s.program.program n s.from → s.stop ≡ Helper request → IsAnswer s.to request answer → machine ≡ answered request answer s.to → Reached s.program.program (suc (n + is.private)) machine
+answered_reached s request answer machine is n from stop allowed machine_is =
+    let to = segment_reaches s n is from in
+    (s.to, to, inr (request, answer, segment_calls s request is stop, (allowed, machine_is)))
 
 -- what becomes of a run at its stop becomes of the run and its segment apart
 pub goes_apart : (setup : Setup) (before after : World) (at run : RunState) (s t : SegmentState) (answer : AdvanceAnswer) → at.number ≡ run.number → at.program ≡ run.program → s.stop ≡ t.stop → IsOut before at → GoesOrEnds setup before after at s answer → GoesOrEnds setup before after run t answer

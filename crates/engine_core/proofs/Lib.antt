@@ -12,6 +12,8 @@ pub mod Calls
 pub mod Freezing
 pub mod Going
 pub mod Performing
+pub mod Stepping
+pub mod Driven
 pub mod Answering
 pub mod Guests
 pub mod Numbered

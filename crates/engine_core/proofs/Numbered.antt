@@ -1,5 +1,5 @@
 -- An engine that keeps no history: what stands behind it, and what may follow that.
-use Rattle.std.proofs.Common.{◌≡◌, ℕ, zero, suc, ◌+◌, ◌<◌, ◌≤◌, List, [], ◌∷◌, ◌++◌, true, false, replicate, length, drop, Option, Some, None, inl, inr, refl, ap, ap₂, sym, subst, ◌∙◌, arith}
+use Rattle.std.proofs.Common.{◌≡◌, ℕ, zero, suc, ◌+◌, ◌<◌, ◌≤◌, List, [], ◌∷◌, ◌++◌, true, false, replicate, length, drop, Option, Some, None, inl, inr, refl, ap, sym, subst, ◌∙◌, arith}
 use Rattle.std.specs.List.{find}
 use Rattle.std.specs.Option.{option_map}
 use Rattle.std.proofs.lemmas.Bool.{cases_Bool, cond-false, cond-true}
@@ -7,14 +7,13 @@ use Rattle.std.proofs.lemmas.List.{drop_all, drop_more, get_or_default}
 use Rattle.ccb.specs.Completion.{Outcome, IsCompletion}
 use Rattle.freeze_ledger.specs.declared.freeze.Freeze.{Freeze}
 use Rattle.freeze_ledger.specs.Freezes.{entry_of}
-use Rattle.engine_runs.specs.Admits.{IsOutWith}
 use Rattle.engine_runs.specs.RunsState.{RunsState, no_runs}
 use Rattle.engine_runs.specs.RunPlaces.{HasRunAt}
 use Rattle.helpers.specs.declared.limits.HelperLimits.{HelperLimits}
 use Rattle.bpf_semantics.specs.declared.stop.Stop.{Stop}
 use Rattle.bpf_semantics.specs.declared.stop.Stop.TheVariants.{Helper, Exit}
 use Rattle.world_calls.specs.declared.call.Call.{Call}
-use Rattle.world_calls.specs.declared.call.Call.TheVariants.{Submit, Dispatch, Complete, Clock, GuestRelease, Park, Resume}
+use Rattle.world_calls.specs.declared.call.Call.TheVariants.{Complete, GuestRelease, Park}
 use Rattle.world_calls.specs.declared.call_answer.CallAnswer.{CallAnswer}
 use Rattle.world_calls.specs.declared.call_answer.CallAnswer.TheVariants as answers
 use Rattle.world_calls.specs.declared.record.StoppedAt.{StoppedAt}
@@ -36,18 +35,18 @@ use Rattle.world.proofs.Steps.Moves.{lists_of, run_key}
 use Rattle.world_laws.proofs.Leads.{leads_split, world_after_leads}
 use Rattle.engine_core.specs.declared.event.Event.{Event as TheEvent}
 use Rattle.engine_core.specs.declared.event.Event.TheVariants as events
-use Rattle.engine_core.specs.declared.reply.Success.{Success}
 use Rattle.engine_core.specs.declared.reply.Reply.{Reply as TheReply}
 use Rattle.engine_core.specs.declared.reply.Reply.TheVariants as replied
-use Rattle.engine_core.specs.Answers.{stopped_at}
+use Rattle.engine_core.specs.declared.run_events.Progress.{Progress}
+use Rattle.engine_core.specs.Answers.{r0_of, stopped_at}
+use Rattle.engine_core.specs.Stepping.{IsOutAt, IsStep}
 use Rattle.engine_core.specs.EngineState.{world_of}
 use Rattle.engine_core.specs.Invariant.{HoldEntries, KeepsEngine}
 use Rattle.engine_core.specs.Looking.{AsksNext, StopsNext, asked_at, first_out}
 use Rattle.engine_core.specs.Performing.{Performs}
-use Rattle.engine_core.specs.Replies.{answer_of, call_of, r0_given, record_given, record_of}
 use Rattle.engine_core.specs.RunState.{IsAgain, IsStopped, RunState, StoppedState, before_stop}
 use Rattle.engine_core.specs.TakingOver.{LeadsTo}
-use Rattle.engine_core.specs.ByNumber.{AreTokens, IsAdvanceOf, IsPlain, NumberedState, IsBehind, RecordFollows, CannotFollow, KeepsNumbered, answer_told, guests_of}
+use Rattle.engine_core.specs.ByNumber.{AreTokens, IsAdvanceOf, NumberedState, IsBehind, RecordFollows, CannotFollow, KeepsNumbered, answer_told, guests_of}
 use Rattle.engine_core.proofs.Recording.{flat_push, world_is, goes, kept_sound}
 use Rattle.engine_core.proofs.Holding.{run_changed}
 use Rattle.engine_core.proofs.Parking.{parks_run, with_out_run}
@@ -175,54 +174,6 @@ parks_out setup transport runs after number it found out same = record {
   tokens = λ history kept. run_changed transport.freezes runs after (record it { out = false }) kept.tokens same;
 }
 
--- where a plain call is recorded: by the call itself, which is no guest's
-pub record IsCallOf (event : TheEvent) (told : Record) : Type 0 where
-  pub call : Call
-  pub call_is : call_of event ≡ Some call
-  pub told_is : told ≡ Called (answer_told told) call
-  pub others : IsOthers (called call)
-
-called_as : (event : TheEvent) (call : Call) (reply : TheReply) (told : Record) → call_of event ≡ Some call → ((given : Success) → record_given event given ≡ Called (answer_of given) call) → IsOthers (called call) → record_of event reply ≡ Some told → IsCallOf event told
-called_as event call (replied.Success given) told its made others is =
-    let both : Some (Called (answer_of given) call) ≡ Some told = sym (ap Some (made given)) ∙ is in
-    let same : Called (answer_of given) call ≡ told = cc in
-    record { call = call; call_is = its; told_is = sym same ∙ ap (λ (a : CallAnswer). Called a call) (ap answer_told same); others = others }
-called_as event call (replied.Refused refusal) told its made others is =
-    let both : Some (Called (answers.Refused refusal) call) ≡ Some told = sym (ap (option_map (λ (c : Call). Called (answers.Refused refusal) c)) its) ∙ is in
-    let same : Called (answers.Refused refusal) call ≡ told = cc in
-    record { call = call; call_is = its; told_is = sym same ∙ ap (λ (a : CallAnswer). Called a call) (ap answer_told same); others = others }
-called_as event call (replied.NotAdmitted back) told its made others is = absurd (let bad : None ≡ Some told = is in cc)
-called_as event call (replied.OutOfMemory back) told its made others is = absurd (let bad : None ≡ Some told = is in cc)
-
-pub call_told : (event : TheEvent) (reply : TheReply) (told : Record) → IsPlain event → record_of event reply ≡ Some told → IsCallOf event told
-call_told (events.Submit queue priority retries) reply told plain is = called_as (events.Submit queue priority retries) (Submit queue priority retries) reply told refl (λ given. refl) tt is
-call_told (events.Dispatch queue) reply told plain is = called_as (events.Dispatch queue) (Dispatch queue) reply told refl (λ given. refl) tt is
-call_told (events.Complete completion) reply told plain is = called_as (events.Complete completion) (Complete completion.now) reply told refl (λ given. refl) tt is
-call_told (events.Advance run) reply told plain is = absurd plain
-call_told (events.Clock reading) reply told plain is = called_as (events.Clock reading) (Clock reading) reply told refl (λ given. refl) tt is
-call_told (events.GuestFreeze place guest) reply told plain is = absurd plain
-call_told (events.GuestRelease token) reply told plain is = absurd plain
-call_told (events.Park run) reply told plain is = absurd plain
-call_told (events.Resume run) reply told plain is = called_as (events.Resume run) (Resume run) reply told refl (λ given. refl) tt is
-
-pub call_is_others : (event : TheEvent) (told : Record) → IsCallOf event told → AreOthers (events_of told)
-call_is_others event told it = subst (λ (r : Record). AreOthers (events_of r)) (sym it.told_is) (it.others, tt)
-
-pub call_is_told : (event : TheEvent) (told : Record) (call : Call) (answer : CallAnswer) → IsCallOf event told → call_of event ≡ Some call → answer ≡ answer_told told → told ≡ Called answer call
-call_is_told event told call answer it its is =
-    let both : Some it.call ≡ Some call = sym it.call_is ∙ its in
-    let same : it.call ≡ call = cc in
-    it.told_is ∙ ap₂ Called (sym is) same
-
--- where an advance is recorded
-pub advance_told : (run : StoppedState) (number : ℕ) (reply : TheReply) (told : Record) → run.number ≡ number → record_of (events.Advance run) reply ≡ Some told → IsAdvanceOf number told
-advance_told run number (replied.Success given) told named is =
-    let same : Advance run.number run.segment.steps (stopped_at run.segment.stop) (r0_given given) ≡ told = cc in
-    record { instructions = run.segment.steps; stop = stopped_at run.segment.stop; r0 = r0_given given; is = sym same ∙ ap (λ (n : ℕ). Advance n run.segment.steps (stopped_at run.segment.stop) (r0_given given)) named }
-advance_told run number (replied.Refused refusal) told named is = absurd (let bad : None ≡ Some told = is in cc)
-advance_told run number (replied.NotAdmitted back) told named is = absurd (let bad : None ≡ Some told = is in cc)
-advance_told run number (replied.OutOfMemory back) told named is = absurd (let bad : None ≡ Some told = is in cc)
-
 pub advance_of_others : (number : ℕ) (told : Record) → IsAdvanceOf number told → AreOthers (events_of told)
 advance_of_others number told it = subst (λ (r : Record). AreOthers (events_of r)) (sym it.is) (advance_is_others number it.instructions it.stop it.r0)
 
@@ -233,20 +184,30 @@ pub its_tokens_rise : (setup : Setup) (transport : Transport) (runs : RunsState)
 its_tokens_rise setup transport runs tokens kept =
     subst AreTokens (sym kept.1) (tokens_rise transport.freezes transport.greatest_freeze (kept_sound setup kept.0.0 transport runs kept.0.1).kept.freezes.numbered)
 
--- a run that is made again has its number, and stands where its record does
-pub number_again : (setup : Setup) (list : List LiveRun) (number : ℕ) (it : LiveRun) (again : RunState) (run : StoppedState) → run_of number list ≡ Some it → IsAgain setup it again → before_stop run ≡ again → run.number ≡ number
-number_again setup list number it again run found is stopped = ap (λ (r : RunState). r.number) stopped ∙ (is.number ∙ found_key run_key number list it found)
-
-pub stands_out : (setup : Setup) (list : List LiveRun) (number : ℕ) (it : LiveRun) (again : RunState) (run : StoppedState) → run_of number list ≡ Some it → it.out ≡ true → IsAgain setup it again → before_stop run ≡ again → IsOutWith list run.number run.segment.program.program run.segment.from
-stands_out setup list number it again run found out is stopped = record {
-  it = it;
-  found = ap (λ (n : ℕ). run_of n list) (number_again setup list number it again run found is stopped) ∙ found;
-  recorded = (out, ap (λ (r : RunState). r.program.program) stopped ∙ is.program, ap (λ (r : RunState). r.machine) stopped ∙ is.machine);
-}
-
 -- one run stands at a place
 pub stands_once : (list : List LiveRun) (place : ℕ) (a b : LiveRun) → HasRunAt list place a → HasRunAt list place b → a ≡ b
 stands_once list place a b first second = sym first.here ∙ (get_or_default list place a b first.within ∙ second.here)
+
+-- the run that stands there and is out
+pub out_there : (list : List LiveRun) (place number : ℕ) (it : LiveRun) → run_of number list ≡ Some it → it.out ≡ true → HasRunAt list place it → IsOutAt list place
+out_there list place number it found out there = record {
+  it = it;
+  there = there;
+  found = ap (λ (n : ℕ). run_of n list) (found_key run_key number list it found) ∙ found;
+  out = out;
+}
+
+-- what it did up to its next stop is recorded by its number
+pub advance_by : (setup : Setup) (transport more : Transport) (runs after : RunsState) (place number : ℕ) (it : LiveRun) (progress : Progress) (told : Record) → run_of number runs.runs.list ≡ Some it → HasRunAt runs.runs.list place it → IsStep setup transport runs place more after progress told → IsAdvanceOf number told
+advance_by setup transport more runs after place number it progress told found there step =
+    let named : step.next.run.number ≡ number =
+    step.next.again.number ∙ (ap (λ (run : LiveRun). run.number) (stands_once runs.runs.list place step.next.out.it it step.next.out.there there) ∙ found_key run_key number runs.runs.list it found) in
+    record {
+      instructions = step.next.run.segment.steps;
+      stop = stopped_at step.next.run.segment.stop;
+      r0 = r0_of step.answer;
+      is = step.told_is ∙ ap (λ (n : ℕ). Advance n step.next.run.segment.steps (stopped_at step.next.run.segment.stop) (r0_of step.answer)) named;
+    }
 
 -- a run that is made again, at its stop
 pub stops_next : (setup : Setup) (list : List LiveRun) (number : ℕ) (it : LiveRun) (again : RunState) (run : StoppedState) → run_of number list ≡ Some it → it.out ≡ true → IsAgain setup it again → before_stop run ≡ again → IsStopped run
@@ -293,3 +254,10 @@ out_first list place it stands out =
 
 pub none_out : (list : List LiveRun) (place : ℕ) → length list ≤ place → first_out (drop place list) ≡ None
 none_out list place all = ap first_out (drop_all place list all)
+
+-- a record of this call tells its answer, and is no guest's if the call is none
+pub called_by : (told : Record) (answer given : CallAnswer) (call : Call) → told ≡ Called answer call → given ≡ answer_told told → told ≡ Called given call
+called_by told answer given call is its = is ∙ ap (λ (a : CallAnswer). Called a call) (sym (its ∙ ap answer_told is))
+
+pub others_by : (told : Record) (answer : CallAnswer) (call : Call) → told ≡ Called answer call → IsOthers (called call) → AreOthers (events_of told)
+others_by told answer call is others = subst (λ (r : Record). AreOthers (events_of r)) (sym is) (others, tt)

@@ -36,11 +36,13 @@ use Rattle.engine_core.specs.declared.event.Event.TheVariants.{Submit, Dispatch,
 use Rattle.engine_core.specs.declared.reply.Success.{Success as TheGiven}
 use Rattle.engine_core.specs.declared.reply.Success.TheVariants as given
 use Rattle.engine_core.specs.declared.reply.Reply.TheVariants.{Success, Refused}
-use Rattle.engine_core.specs.Answers.{stopped_at}
+use Rattle.engine_core.specs.declared.answers.AdvanceAnswer.{AdvanceAnswer}
+use Rattle.engine_core.specs.declared.answers.AdvanceAnswer.TheVariants as advances
+use Rattle.engine_core.specs.Answers.{r0_of, stopped_at}
 use Rattle.engine_core.specs.EngineState.{world_of}
 use Rattle.engine_core.specs.Invariant.{HistoryHasRoom, HoldEntries, KeepsEngine}
 use Rattle.engine_core.specs.Performing.{IsPlaced, Performs, world_with}
-use Rattle.engine_core.specs.Replies.{IsAdvanced, IsGiven, ccb_reply, removed_reply, r0_given}
+use Rattle.engine_core.specs.Replies.{IsAdvanced, IsGiven, ccb_reply, removed_reply, r0_given, given_advanced}
 use Rattle.engine_core.specs.TakingOver.{Becomes, LeadsBy}
 use Rattle.engine_core.proofs.Going.{goes_out, is_admitted}
 use Rattle.engine_core.proofs.OneMore.{once, by_transport}
@@ -232,14 +234,16 @@ takes_over setup transport more runs after run place number steps stop r0 what n
     })
 
 -- what becomes of it is what is given
-pub given_so : (setup : Setup) (transport more : Transport) (runs after : RunsState) (run : StoppedState) (place : ℕ) (what : TheGiven) → IsOutWith runs.runs.list run.number run.segment.program.program run.segment.from → IsPlaced runs.runs.list run.number place → Becomes run what runs.runs.list after.runs.list place → (before later : World) → IsGiven setup (world_with transport runs before) (Advance run) (world_with more after later) what
-given_so setup transport more runs after run place (given.Goes again r0) out at goes before later = goes_out setup (world_with transport runs before) (world_with more after later) run place again out at goes
-given_so setup transport more runs after run place (given.Ended r0) out at ends before later = ends
-given_so setup transport more runs after run place (given.Ccb ccb) out at goes before later = absurd goes
-given_so setup transport more runs after run place given.Done out at goes before later = absurd goes
-given_so setup transport more runs after run place (given.Started started freeze) out at goes before later = absurd goes
-given_so setup transport more runs after run place (given.Freeze token) out at goes before later = absurd goes
-given_so setup transport more runs after run place (given.Left count) out at goes before later = absurd goes
-given_so setup transport more runs after run place (given.Removed count) out at goes before later = absurd goes
-given_so setup transport more runs after run place given.Parked out at goes before later = absurd goes
-given_so setup transport more runs after run place (given.Resumed again) out at goes before later = absurd goes
+pub given_so : (setup : Setup) (transport more : Transport) (runs after : RunsState) (run : StoppedState) (place : ℕ) (answer : AdvanceAnswer) → IsOutWith runs.runs.list run.number run.segment.program.program run.segment.from → IsPlaced runs.runs.list run.number place → Becomes run answer runs.runs.list after.runs.list place → (before later : World) → IsGiven setup (world_with transport runs before) (Advance run) (world_with more after later) (given_advanced answer)
+given_so setup transport more runs after run place (advances.Goes again r0) out at goes before later = goes_out setup (world_with transport runs before) (world_with more after later) run place again out at goes
+given_so setup transport more runs after run place (advances.Ended r0) out at ends before later = ends
+
+-- an advance gives what it may
+pub gives_advanced : (answer : AdvanceAnswer) → IsAdvanced (given_advanced answer)
+gives_advanced (advances.Goes again r0) = tt
+gives_advanced (advances.Ended r0) = tt
+
+-- R0 of what an advance gives
+pub r0_same : (answer : AdvanceAnswer) → r0_given (given_advanced answer) ≡ r0_of answer
+r0_same (advances.Goes run r0) = refl
+r0_same (advances.Ended r0) = refl

@@ -1,5 +1,5 @@
 -- The stops of admitted segments, as the tables of CCBs and of runs carry them out.
-use Rattle.std.proofs.Common.{◌≡◌, ℕ, List, [], true, Option, Some, refl, ap, sym, subst, ◌∙◌, ltb-true}
+use Rattle.std.proofs.Common.{◌≡◌, ℕ, suc, ◌+◌, arith, List, [], true, Option, Some, refl, ap, sym, subst, ◌∙◌, ltb-true}
 use Rattle.std.proofs.lemmas.Bool.{and_parts, leb-true}
 use Rattle.helpers.specs.declared.limits.HelperLimits.{HelperLimits}
 use Rattle.helpers.specs.declared.request.Request.{Request}
@@ -15,7 +15,8 @@ use Rattle.helpers.specs.declared.request.Answer.{Answer}
 use Rattle.bpf_insn.specs.declared.program.Slot.{Slot}
 use Rattle.bpf_semantics.specs.MachineState.{MachineState}
 use Rattle.bpf_semantics.specs.Calls.{meets, meets_need, meets_rule}
-use Rattle.bpf_semantics.specs.Step.{request_at, StackHasRoom, HasRoomFor, answered}
+use Rattle.bpf_semantics.specs.Reached.{Reached}
+use Rattle.bpf_semantics.specs.Step.{request_at, IsAnswer, StackHasRoom, HasRoomFor, answered}
 use Rattle.bpf_semantics.specs.declared.stop.Stop.{Stop}
 use Rattle.bpf_semantics.specs.declared.stop.Stop.TheVariants.{Helper, Exit}
 use Rattle.interpreter.specs.Segments.{SegmentState, IsSegment, StandsAt}
@@ -34,11 +35,11 @@ use Rattle.world.proofs.Steps.Moves.{run_key}
 use Rattle.engine_core.specs.EngineState.{world_of}
 use Rattle.engine_core.specs.Answers.{stopped_at, IsCode, NamesCode, StopsByCode}
 use Rattle.engine_core.specs.Invariant.{HoldEntries, KeepsEngine}
-use Rattle.engine_core.specs.RunState.{RunState, StoppedState, before_stop}
-use Rattle.engine_core.specs.TakingOver.{Goes, GoesAs, Stands, IsAdmitted, LeadsTo, LeadsBy, Does}
+use Rattle.engine_core.specs.TakingOver.{Goes, Stands, RunContinues, IsAdmitted, LeadsTo, LeadsBy, Does}
 use Rattle.engine_core.proofs.PrivateWays.{with_machine}
 use Rattle.engine_core.proofs.Holding.{run_changed, run_gone, tokens_here}
 use Rattle.engine_core.proofs.Recording.{kept_sound}
+use Rattle.engine_core.proofs.Going.{answered_reached}
 use Rattle.engine_core.proofs.Stops.{Arrives, arrives, called, call_leads, nothing_held, exit_leads}
 
 -- what the rule of a call says: there is room for the number of a freeze, and a status code is one
@@ -105,16 +106,17 @@ machine_moved runs number it machine found =
 pub still_there : (old changed : List LiveRun) (place : ℕ) (it : LiveRun) → changed ≡ old → HasRunAt old place it → HasRunAt changed place it
 still_there old changed place it same at = subst (λ (runs : List LiveRun). HasRunAt runs place it) (sym same) at
 
-pub goes_as : (run : StoppedState) (again : RunState) (old changed after : RunsState) (place : ℕ) (machine : MachineState) → changed.runs.list ≡ old.runs.list → Goes changed after place machine → Stands changed after place machine → again ≡ record (before_stop run) { machine = machine } → GoesAs run again old.runs.list after.runs.list place
-goes_as run again old changed after place machine same goes stands is = record {
-  on = record {
-    machine = machine;
-    stands = λ it at. stands it (still_there old.runs.list changed.runs.list place it same at);
-    found = λ number it at found.
-        ap (λ (r : RunsState). run_of number r.runs.list) (goes it (still_there old.runs.list changed.runs.list place it same at))
-        ∙ machine_moved changed.runs.list number it machine (ap (run_of number) same ∙ found);
-  };
-  is = is;
+pub continues : (old changed after : RunsState) (place : ℕ) (at : MachineState) (request : Request) (given : Answer) → changed.runs.list ≡ old.runs.list → IsAnswer at request given → Goes changed after place (answered request given at) → Stands changed after place (answered request given at) → RunContinues at (Helper request) old.runs.list after.runs.list place
+continues old changed after place at request given same allowed goes stands = record {
+  machine = answered request given at;
+  stands = λ it here. stands it (still_there old.runs.list changed.runs.list place it same here);
+  found = λ number it here found.
+      ap (λ (r : RunsState). run_of number r.runs.list) (goes it (still_there old.runs.list changed.runs.list place it same here))
+      ∙ machine_moved changed.runs.list number it (answered request given at) (ap (run_of number) same ∙ found);
+  reached = λ segment ends n reached.
+      let steps : suc (n + ends.segment_is.private) ≡ n + segment.steps = omega (arith, ends.segment_is.count) in
+      subst (λ (k : ℕ). Reached segment.program.program k (answered request given at)) steps
+      (answered_reached segment request given (answered request given at) ends.segment_is n reached ends.stop_is (subst (λ (m : MachineState). IsAnswer m request given) (sym ends.machine_is) allowed) (ap (answered request given) (sym ends.machine_is)));
 }
 
 -- a call that was carried out, with its run behind it

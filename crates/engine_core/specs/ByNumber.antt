@@ -1,8 +1,9 @@
 -- What contracts see of an engine that keeps no history, and which histories may be behind it.
-use Rattle.std.specs.Prelude.{◌≡◌, ℕ, List, [], ◌∷◌, ◌++◌, length, filter, count_by, Option, Some, None, map}
+use Rattle.std.specs.Prelude.{◌≡◌, ℕ, List, [], ◌∷◌, ◌++◌, length, filter, count_by, Option, Some, None, map, Bool, true, false}
 use Rattle.ccb.specs.Rising.{AreRising}
 use Rattle.freeze_ledger.specs.declared.freeze.Freeze.{Freeze}
 use Rattle.world_calls.specs.declared.call.Call.{Call}
+use Rattle.world_calls.specs.declared.call.Call.TheVariants.{Complete, GuestFreeze, Resume}
 use Rattle.world_calls.specs.declared.call_answer.CallAnswer.{CallAnswer}
 use Rattle.world_calls.specs.declared.call_answer.CallAnswer.TheVariants as answers
 use Rattle.world_calls.specs.declared.record.StoppedAt.{StoppedAt}
@@ -15,7 +16,6 @@ use Rattle.world.specs.FreezeSteps.{is_guest}
 use Rattle.world.specs.WorldRun.{WorldRun}
 use Rattle.world.specs.Flat.{flat}
 use Rattle.engine_runs.specs.RunsState.{RunsState}
-use Rattle.engine_core.specs.declared.event.Event.{Event}
 use Rattle.engine_core.specs.declared.event.Event.TheVariants as events
 use Rattle.engine_core.specs.Invariant.{KeepsEngine}
 use Rattle.engine_core.specs.TakingOver.{LeadsTo}
@@ -58,6 +58,13 @@ abbrev pub AnswersCall : NumberedState → Call → Option CallAnswer → Number
 AnswersCall old call None new = (new ≡ old) × ((answer : CallAnswer) → CannotFollow old (Called answer call))
 AnswersCall old call (Some answer) new = RecordFollows old (Called answer call) new
 
+-- a completion, a guest's freeze and a resume take memory, and no other call does
+abbrev pub takes_memory : Call → Bool
+takes_memory (Complete outcome) = true
+takes_memory (GuestFreeze place guest) = true
+takes_memory (Resume run) = true
+takes_memory call = false
+
 -- the record is one of an advance of this run
 pub record IsAdvanceOf (run : ℕ) (told : Record) : Type 0 where
   pub instructions : ℕ
@@ -84,14 +91,6 @@ sums_behind records state = record {
 -- the numbers of these freezes rise
 abbrev pub AreTokens : List Freeze → Type 0
 AreTokens tokens = (greatest : ℕ) × AreRising 0 (map (λ token. token.number) tokens) greatest
-
--- a call that is an event always, and that gives a guest nothing
-abbrev pub IsPlain : Event → Type 0
-IsPlain (events.Advance run) = ⊥
-IsPlain (events.GuestFreeze place guest) = ⊥
-IsPlain (events.GuestRelease token) = ⊥
-IsPlain (events.Park run) = ⊥
-IsPlain event = Unit {0}
 
 abbrev pub IsCalled : Record → Type 0
 IsCalled (Called answer call) = Unit {0}

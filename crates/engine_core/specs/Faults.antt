@@ -1,4 +1,5 @@
 -- What each fault says.
+use Rattle.std.specs.Prelude.{Result, Ok, Err}
 use Rattle.ccb.specs.declared.call_refusal.CallRefusal.{CallRefusal}
 use Rattle.engine_core.specs.declared.answers.CallFault.{CallFault}
 use Rattle.engine_core.specs.declared.answers.CallFault.TheVariants.{OutOfMemory, Refused}
@@ -21,3 +22,8 @@ HoldsUnlessTold release_memory fact = fact
 abbrev pub AdmitsUnlessTold : AdvanceFault → Type 0 → Type 0
 AdmitsUnlessTold NotOut fact = fact → ⊥
 AdmitsUnlessTold advance_memory fact = fact
+
+-- what a call gives, or its refusal as a fault
+abbrev pub given : {T : Type 0} → Result T CallRefusal → Result T CallFault
+given (Ok it) = Ok it
+given (Err refusal) = Err (Refused refusal)

@@ -18,3 +18,5 @@ pub mod Replies
 pub mod Performing
 pub mod ByNumber
 pub mod Looking
+pub mod Stepping
+pub mod Driving

@@ -19,6 +19,10 @@ pub record IsRunTold (number : ℕ) (runs : List LiveRun) (told : RunInfo) : Typ
   pub controller : told.controller ≡ it.controller
   pub out : told.is_out ≡ it.out
 
+-- a run of that number is out
+abbrev pub HasRunOut : List LiveRun → ℕ → Type 0
+HasRunOut runs number = (it : LiveRun) × (run_of number runs ≡ Some it) × (it.out ≡ true)
+
 -- A run of that number is out, and by its next segment it comes to this stop.
 pub record StopsNext (runs : List LiveRun) (number : ℕ) (stop : Stop) : Type 0 where
   pub it : LiveRun

@@ -1,17 +1,14 @@
 -- What an event needs of an engine's parts, and what it makes of them.
-use Rattle.std.specs.Prelude.{◌≡◌, ℕ, ◌+◌, ◌≤◌, List, Some, Contains, true}
+use Rattle.std.specs.Prelude.{◌≡◌, ℕ, ◌+◌, ◌≤◌, List, Some}
 use Rattle.engine_runs.specs.RunsState.{RunsState}
-use Rattle.engine_runs.specs.Admits.{IsOutWith}
 use Rattle.engine_runs.specs.RunPlaces.{HasRunAt}
 use Rattle.world_calls.specs.declared.record.Record.{Record}
 use Rattle.world.specs.World.{Setup, LiveRun, Transport, World}
 use Rattle.world.specs.Lookups.{run_of}
-use Rattle.world.specs.FreezeSteps.{is_guest}
 use Rattle.world.specs.Flat.{events_of}
 use Rattle.engine_core.specs.declared.event.Event.{Event}
-use Rattle.engine_core.specs.declared.event.Event.TheVariants.{Advance, GuestRelease, Park}
+use Rattle.engine_core.specs.declared.event.Event.TheVariants.{Park}
 use Rattle.engine_core.specs.declared.reply.Reply.{Reply}
-use Rattle.engine_core.specs.declared.engine.TheConstants.{ROOM}
 use Rattle.engine_core.specs.EngineState.{world_of}
 use Rattle.engine_core.specs.Invariant.{HoldEntries, KeepsEngine, HistoryHasRoom}
 use Rattle.engine_core.specs.Replies.{record_of, ReplyMatchesEvent, GivesAsRecorded}
@@ -24,20 +21,6 @@ world_with transport runs world = record world { transport = transport; runs = r
 -- a run of that number is live, and stands at this place
 abbrev pub IsPlaced : List LiveRun → ℕ → ℕ → Type 0
 IsPlaced runs number place = (it : LiveRun) × (run_of number runs ≡ Some it) × HasRunAt runs place it
-
--- the event fits: its run is out so, and stands at this place, or its token is that of a guest's freeze
-abbrev pub FitsAt : ℕ → Transport → RunsState → Event → Type 0
-FitsAt place transport runs (Advance run) =
-    IsOutWith runs.runs.list run.number run.segment.program.program run.segment.from × IsPlaced runs.runs.list run.number place
-FitsAt place transport runs (GuestRelease token) = Contains transport.freezes token × (is_guest token.holder ≡ true)
-FitsAt place transport runs (Park run) =
-    IsOutWith runs.runs.list run.number run.program.program run.machine × IsPlaced runs.runs.list run.number place
-FitsAt place transport runs event = Unit {0}
-
--- a history of so many records has the room that the event's record needs, with that of a park of each run that is out
-abbrev pub IsRoomFor : Event → ℕ → ℕ → Type 0
-IsRoomFor (Park run) records capacity = Unit {0}
-IsRoomFor event records capacity = records + ROOM ≤ capacity
 
 -- one run that is out more needs its room no more behind a park
 abbrev pub LeavesRoom : Event → List LiveRun → List LiveRun → Type 0

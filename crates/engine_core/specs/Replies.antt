@@ -12,12 +12,15 @@ use Rattle.world_calls.specs.declared.call_answer.CallAnswer.TheVariants as answ
 use Rattle.ccb.specs.declared.call_refusal.CallRefusal.{CallRefusal}
 use Rattle.world_calls.specs.declared.record.Record.{Record}
 use Rattle.world_calls.specs.declared.record.Record.TheVariants.{Called, Advance as advanced}
-use Rattle.engine_core.specs.RunState.{IsOut, IsOutUnder, before_stop}
+use Rattle.engine_core.specs.RunState.{IsOut, IsOutUnder, RunState, before_stop}
 use Rattle.world.specs.World.{Setup, World, queue_setup}
 use Rattle.engine_core.specs.declared.answers.CompleteAnswer.{CompleteAnswer}
 use Rattle.engine_core.specs.declared.answers.CompleteAnswer.TheVariants as completes
 use Rattle.engine_core.specs.declared.answers.AdvanceAnswer.{AdvanceAnswer}
 use Rattle.engine_core.specs.declared.answers.AdvanceAnswer.TheVariants as advances
+use Rattle.freeze_ledger.specs.declared.freeze.Freeze.{Freeze as TheFreeze}
+use Rattle.engine_core.specs.declared.answers.CallFault.{CallFault}
+use Rattle.engine_core.specs.declared.answers.CallFault.TheVariants as faults
 use Rattle.engine_core.specs.declared.event.Event.{Event}
 use Rattle.engine_core.specs.declared.event.Event.TheVariants.{Submit, Dispatch, Complete, Advance, Clock, GuestFreeze, GuestRelease, Park, Resume}
 use Rattle.engine_core.specs.declared.reply.Success.{Success}
@@ -26,7 +29,7 @@ use Rattle.engine_core.specs.declared.reply.Returned.{Returned}
 use Rattle.engine_core.specs.declared.reply.Returned.TheVariants as back
 use Rattle.engine_core.specs.declared.reply.Reply.{Reply}
 use Rattle.engine_core.specs.declared.reply.Reply.TheVariants as replied
-use Rattle.engine_core.specs.Answers.{stopped_at, GoesOrEnds}
+use Rattle.engine_core.specs.Answers.{completed_of, stopped_at, GoesOrEnds}
 use Rattle.engine_core.specs.EngineState.{EngineState, Records, GuestHolds}
 
 -- What may be given, by the event.
@@ -90,14 +93,6 @@ owned (Advance run) = back.Run (before_stop run)
 owned (GuestRelease token) = back.Token token
 owned (Park run) = back.Run run
 owned event = back.Nothing
-
-abbrev pub IsRunBack : Returned → Type 0
-IsRunBack (back.Run run) = Unit {0}
-IsRunBack other = ⊥
-
-abbrev pub IsTokenBack : Returned → Type 0
-IsTokenBack (back.Token token) = Unit {0}
-IsTokenBack other = ⊥
 
 abbrev pub is_park : Event → Bool
 is_park (Park run) = true
@@ -215,16 +210,6 @@ abbrev pub GivesAsRecorded : Setup → World → Event → World → Reply → T
 GivesAsRecorded setup before event after (replied.Success given) = IsGiven setup before event after given
 GivesAsRecorded setup before event after reply = Unit {0}
 
--- why a call that owns nothing is not carried out
-abbrev pub IsFault : Reply → Type 0
-IsFault (replied.Refused refusal) = Unit {0}
-IsFault (replied.OutOfMemory back) = Unit {0}
-IsFault reply = ⊥
-
-abbrev pub IsMemory : Reply → Type 0
-IsMemory (replied.OutOfMemory back) = Unit {0}
-IsMemory reply = ⊥
-
 -- What is replied where the code gives a value or a refusal.
 
 abbrev pub ccb_reply : Result CcbId CallRefusal → Reply
@@ -235,6 +220,33 @@ abbrev pub removed_reply : Result ℕ CallRefusal → Reply
 removed_reply (Ok count) = replied.Success (Removed count)
 removed_reply (Err refusal) = replied.Refused refusal
 
--- a call that is refused, as it is replied and recorded
-abbrev pub refused_as : CallRefusal → Call → Reply × Record
-refused_as refusal call = (replied.Refused refusal, Called (answers.Refused refusal) call)
+abbrev pub completed_reply : Result CompleteAnswer CallRefusal → Reply
+completed_reply (Ok answer) = replied.Success (given_completed answer)
+completed_reply (Err refusal) = replied.Refused refusal
+
+abbrev pub token_reply : Result TheFreeze CallRefusal → Reply
+token_reply (Ok token) = replied.Success (Freeze token)
+token_reply (Err refusal) = replied.Refused refusal
+
+abbrev pub resumed_reply : Result RunState CallRefusal → Reply
+resumed_reply (Ok run) = replied.Success (Resumed run)
+resumed_reply (Err refusal) = replied.Refused refusal
+
+-- why a call that owns nothing is not carried out
+abbrev pub fault_reply : CallFault → Reply
+fault_reply faults.OutOfMemory = replied.OutOfMemory back.Nothing
+fault_reply (faults.Refused refusal) = replied.Refused refusal
+
+-- What is recorded where the code gives a value or a refusal.
+
+abbrev pub completed_answer : Result CompleteAnswer CallRefusal → CallAnswer
+completed_answer (Ok answer) = completed_of answer
+completed_answer (Err refusal) = answers.Refused refusal
+
+abbrev pub token_answer : Result TheFreeze CallRefusal → CallAnswer
+token_answer (Ok token) = answers.Freeze token.number
+token_answer (Err refusal) = answers.Refused refusal
+
+abbrev pub resumed_answer : Result RunState CallRefusal → CallAnswer
+resumed_answer (Ok run) = answers.Ok
+resumed_answer (Err refusal) = answers.Refused refusal

@@ -1,5 +1,5 @@
 -- What it takes to take a segment over, and what that leaves.
-use Rattle.std.specs.Prelude.{◌≡◌, ℕ, List, Some}
+use Rattle.std.specs.Prelude.{◌≡◌, ℕ, ◌+◌, Bool, true, false, List, Some}
 use Rattle.ccb.specs.declared.place.Place.{Place}
 use Rattle.ccb.specs.declared.place.Place.TheVariants.{Controller}
 use Rattle.ccb.specs.Places.{device}
@@ -10,7 +10,9 @@ use Rattle.helpers.specs.declared.request.Request.{Request}
 use Rattle.helpers.specs.declared.request.Answer.{Answer}
 use Rattle.bpf_insn.specs.declared.program.Slot.{Slot}
 use Rattle.bpf_semantics.specs.MachineState.{MachineState}
+use Rattle.bpf_semantics.specs.Reached.{Reached}
 use Rattle.bpf_semantics.specs.Step.{IsAnswer}
+use Rattle.bpf_semantics.specs.declared.stop.Stop.{Stop}
 use Rattle.bpf_semantics.specs.declared.stop.Stop.TheVariants.{Helper as at_helper, Exit as at_exit}
 use Rattle.interpreter.specs.Segments.{SegmentState, IsSegment}
 use Rattle.engine_runs.specs.RunsState.{RunsState}
@@ -25,8 +27,11 @@ use Rattle.world.specs.Event.{Event, Reply}
 use Rattle.world.specs.RunSteps.{goes_on, answers, step_request}
 use Rattle.world.specs.WorldRun.{Leads}
 use Rattle.world.specs.Flat.{events_of}
-use Rattle.engine_core.specs.declared.reply.Success.{Success}
-use Rattle.engine_core.specs.declared.reply.Success.TheVariants as given
+use Rattle.engine_core.specs.declared.answers.AdvanceAnswer.{AdvanceAnswer}
+use Rattle.engine_core.specs.declared.answers.AdvanceAnswer.TheVariants as advances
+use Rattle.engine_core.specs.declared.commit_segment.Onward.{Onward}
+use Rattle.engine_core.specs.declared.commit_segment.Onward.TheVariants as onward
+use Rattle.engine_core.specs.Answers.{stopped_at}
 use Rattle.engine_core.specs.EngineState.{world_of}
 use Rattle.engine_core.specs.Invariant.{HoldEntries, KeepsEngine}
 
@@ -112,11 +117,19 @@ pub record RefinesHelperStep (place : ℕ) (request : Request) (given : Answer) 
 abbrev pub RefinesOnRuns : ℕ → Request → Answer → RunsState → RunsState → Type 0
 RefinesOnRuns place request given runs after = (transport : Transport) → RefinesHelperStep place request given transport runs transport after
 
--- the run at this place goes on there with its next machine, and is otherwise as it was
-pub record RunContinues (old new : List LiveRun) (place : ℕ) : Type 0 where
+-- the segment ends in this machine, which stands at this stop
+pub record EndsAt (segment : SegmentState) (machine : MachineState) (stop : Stop) : Type 0 where
+  pub segment_is : IsSegment segment
+  pub machine_is : segment.to ≡ machine
+  pub stop_is : segment.stop ≡ stop
+
+-- The run at this place goes on there with its next machine, and is otherwise as it was. What its program reached before such a
+-- segment, it has reached after that, by as many instructions more.
+pub record RunContinues (at : MachineState) (stop : Stop) (old new : List LiveRun) (place : ℕ) : Type 0 where
   pub machine : MachineState
   pub stands : (it : LiveRun) → HasRunAt old place it → HasRunAt new place (record it { machine = machine })
   pub found : (number : ℕ) (it : LiveRun) → HasRunAt old place it → run_of number old ≡ Some it → run_of number new ≡ Some (record it { machine = machine })
+  pub reached : (segment : SegmentState) → EndsAt segment at stop → (n : ℕ) → Reached segment.program.program n segment.from → Reached segment.program.program (n + segment.steps) machine
 
 -- the run at this place goes on with this machine, and all else is as it was
 abbrev pub Goes : RunsState → RunsState → ℕ → MachineState → Type 0
@@ -126,13 +139,38 @@ Goes old after place machine =
 abbrev pub Stands : RunsState → RunsState → ℕ → MachineState → Type 0
 Stands old after place machine = (it : LiveRun) → HasRunAt old.runs.list place it → HasRunAt after.runs.list place (record it { machine = machine })
 
+-- a segment that ends so is the next stretch of the run at this place
+pub record ArrivesAt (transport : Transport) (runs : RunsState) (place : ℕ) (machine : MachineState) (stop : Stop) : Type 0 where
+  pub segment : SegmentState
+  pub ends : EndsAt segment machine stop
+  pub number : ℕ
+  pub admitted : IsAdmitted transport runs number place segment
+
+-- the record of an advance by such a segment stands for what leads from this transport and these runs to those
+abbrev pub LeadsFrom : MachineState → Stop → ℕ → ℕ → Transport → RunsState → Transport → RunsState → Type 0
+LeadsFrom machine stop r0 place transport runs more after =
+    (segment : SegmentState) → EndsAt segment machine stop → LeadsBy (stopped_at stop) r0 place segment transport runs more after
+
+-- R0 behind the stop
+abbrev pub r0_onward : Onward → ℕ
+r0_onward (onward.Goes r0 spare) = r0
+r0_onward (onward.Ended r0 spare) = r0
+
+abbrev pub is_going : Onward → Bool
+is_going (onward.Goes r0 spare) = true
+is_going (onward.Ended r0 spare) = false
+
+-- what becomes of the run at this place: it goes on, or it exited with this R0
+abbrev pub Continues : Onward → MachineState → Stop → List LiveRun → List LiveRun → ℕ → Type 0
+Continues (onward.Goes r0 spare) at stop old new place = RunContinues at stop old new place
+Continues (onward.Ended r0 spare) at stop old new place = stop ≡ at_exit r0
+
 -- the same run goes on, with that machine
 pub record GoesAs (run : StoppedState) (again : RunState) (old new : List LiveRun) (place : ℕ) : Type 0 where
-  pub on : RunContinues old new place
+  pub on : RunContinues run.segment.to run.segment.stop old new place
   pub is : again ≡ record (before_stop run) { machine = on.machine }
 
 -- what becomes of the run: it goes on, or it exited with this R0
-abbrev pub Becomes : StoppedState → Success → List LiveRun → List LiveRun → ℕ → Type 0
-Becomes run (given.Goes again r0) old new place = GoesAs run again old new place
-Becomes run (given.Ended r0) old new place = run.segment.stop ≡ at_exit r0
-Becomes run what old new place = ⊥
+abbrev pub Becomes : StoppedState → AdvanceAnswer → List LiveRun → List LiveRun → ℕ → Type 0
+Becomes run (advances.Goes again r0) old new place = GoesAs run again old new place
+Becomes run (advances.Ended r0) old new place = run.segment.stop ≡ at_exit r0

@@ -1,5 +1,9 @@
 // What the engine's methods answer beside their values. It relies on `world_calls` for refusals, and on `run` for runs.
 
+ghost use Rattle.std.specs.Prelude.{◌≡◌};
+ghost use Rattle.engine_core.specs.Answers.{r0_of};
+ghost use Rattle.engine_core.specs.Faults.{given};
+
 use crate::run::Run;
 use thiserror::Error;
 use world_calls::CallRefusal;
@@ -15,6 +19,16 @@ pub enum CallFault {
     Refused(CallRefusal),
 }
 
+/// What a call gives, or its refusal as a fault.
+pub(crate) fn given<T>(answer: Result<T, CallRefusal>) -> Result<T, CallFault>
+    ensures { result ≡ given answer }
+{
+    match answer {
+        Ok(it) => Ok(it),
+        Err(refusal) => Err(CallFault::Refused(refusal)),
+    }
+}
+
 /// Why a freeze was not given back. The engine is as before.
 #[derive(Clone, Copy, Debug, PartialEq, Eq, Error)]
 pub enum ReleaseFault {
@@ -26,14 +40,14 @@ pub enum ReleaseFault {
     NotHeld,
 }
 
-/// Why a segment was not taken over. The engine is as before.
+/// Why a run was not taken further.
 #[derive(Clone, Copy, Debug, PartialEq, Eq, Error)]
 pub enum AdvanceFault {
-    /// Memory was refused.
+    /// Memory was refused. Of one stop nothing is taken over then.
     #[error("out of memory")]
     OutOfMemory,
-    /// C4: no run of that number is out in this engine, or the run's program, the segment's program or the
-    /// segment's start is not the recorded one.
+    /// C4: no run of that number is out in this engine, or the run's program or machine, or that of the segment, is not the recorded
+    /// one. The engine is as before.
     #[error("C4")]
     NotOut,
 }
@@ -52,4 +66,15 @@ pub enum AdvanceAnswer {
     Goes(Run, u64),
     /// The run exited.
     Ended(u64),
+}
+
+impl AdvanceAnswer {
+    /// R0 behind the stop.
+    pub fn r0(&self) -> u64
+        ensures { result ≡ r0_of self.now }
+    {
+        match self {
+            AdvanceAnswer::Goes(_, r0) | AdvanceAnswer::Ended(r0) => *r0,
+        }
+    }
 }

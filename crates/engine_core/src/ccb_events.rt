@@ -1,19 +1,22 @@
 // The events that are about CCBs: a submission, a start and a completion. It relies on `engine_transport` for CCBs and their
 // queues, and on `completion_action` for what becomes of a completed one.
 
-ghost use Rattle.std.specs.Prelude.{◌≡◌, List, IfOk, IfErr};
+ghost use Rattle.std.specs.Prelude.{◌≡◌, List, IfOk, OnErr};
 ghost use Rattle.world_calls.specs.declared.record.Record.{Record as TheRecord};
 ghost use Rattle.engine_runs.specs.RunsState.{RunsState};
 ghost use Rattle.world.specs.World.{Setup};
+ghost use Rattle.world_calls.specs.declared.call.Call.TheVariants as calls;
+ghost use Rattle.world_calls.specs.declared.record.Record.TheVariants.{Called};
+ghost use Rattle.world_calls.specs.Answered.{ccb_answer};
 ghost use Rattle.engine_core.specs.declared.event.Event.TheVariants.{Submit, Dispatch, Complete};
-ghost use Rattle.engine_core.specs.declared.reply.Returned.TheVariants as back;
 ghost use Rattle.engine_core.specs.Invariant.{KeepsEngine};
 ghost use Rattle.engine_core.specs.Performing.{Performs};
+ghost use Rattle.engine_core.specs.Replies.{ccb_reply, completed_answer, completed_reply};
 
+use crate::answers::CompleteAnswer;
 use crate::completion_action::{CompletionAction, decide, recover};
-use crate::reply::{Reply, Returned, Success};
 use crate::told::{ccb_told, refused};
-use ccb::{Completion, QueueId};
+use ccb::{CallRefusal, CcbId, Completion, QueueId};
 use engine_config::Config;
 use engine_runs::Runs;
 use engine_transport::Transport;
@@ -27,31 +30,35 @@ pub(crate) fn submit(
     queue: QueueId,
     priority: u32,
     retries: u32,
-) -> (Reply, Record)
-    ensures { (setup : Setup) (runs : RunsState) → Performs setup (Submit queue priority retries) transport.old runs transport.new runs result.0 result.1 }
+) -> (Result<CcbId, CallRefusal>, Record)
+    ensures told { result.1 ≡ Called (ccb_answer result.0) (calls.Submit queue priority retries) }
+    ensures performs { (setup : Setup) (runs : RunsState) → Performs setup (Submit queue priority retries) transport.old runs transport.new runs (ccb_reply result.0) result.1 }
 {
     let answer = transport.submit(queue, priority, retries);
-    ccb_told(
+    let told = ccb_told(
         answer,
         Call::Submit {
             queue,
             priority,
             retries,
         },
-    )
+    );
+    (answer, told)
 }
 
-/// The least CCB that waits is active, or C1, or Q2 to Q5.
+/// The least CCB that waits is active, or the first refusal of a dispatch that holds.
 #[inline(always)]
 pub(crate) fn dispatch(
     config: &Config,
     transport: &mut Transport,
     queue: QueueId,
-) -> (Reply, Record)
-    ensures { (runs : RunsState) → Performs config.now (Dispatch queue) transport.old runs transport.new runs result.0 result.1 }
+) -> (Result<CcbId, CallRefusal>, Record)
+    ensures told { result.1 ≡ Called (ccb_answer result.0) (calls.Dispatch queue) }
+    ensures performs { (runs : RunsState) → Performs config.now (Dispatch queue) transport.old runs transport.new runs (ccb_reply result.0) result.1 }
 {
     let answer = transport.dispatch(queue, config.controller(queue));
-    ccb_told(answer, Call::Dispatch { queue })
+    let told = ccb_told(answer, Call::Dispatch { queue });
+    (answer, told)
 }
 
 /// The CCB is finished, or a run of its queue's program starts, or C1 to C3. Where memory is refused nothing changes.
@@ -62,40 +69,32 @@ pub(crate) fn complete(
     transport: &mut Transport,
     runs: &mut Runs,
     completion: &Completion,
-) -> Result<(Reply, Record), Returned>
+) -> Result<(Result<CompleteAnswer, CallRefusal>, Record), AllocError>
     requires { (history : List TheRecord) × KeepsEngine config.now history transport.old runs.old }
-    ensures performs { IfOk result (λ it. Performs config.now (Complete completion.entry) transport.old runs.old transport.new runs.new it.0 it.1) }
-    ensures refused { IfErr result (λ owned. (transport.new ≡ transport.old) × (runs.new ≡ runs.old) × (owned ≡ back.Nothing)) }
+    ensures told { IfOk result (λ it. it.1 ≡ Called (completed_answer it.0) (calls.Complete completion.now)) }
+    ensures performs { IfOk result (λ it. Performs config.now (Complete completion.entry) transport.old runs.old transport.new runs.new (completed_reply it.0) it.1) }
+    ensures refused { OnErr result ((transport.new ≡ transport.old) × (runs.new ≡ runs.old)) }
 {
     let course = decide(transport, runs, completion);
-    let Ok(kept) = CompletionRecord::new(alloc, completion) else {
-        return Err(Returned::Nothing);
-    };
+    let kept = CompletionRecord::new(alloc, completion)?;
     let call = Call::Complete { completion: kept };
     match course {
-        CompletionAction::Refuse(refusal) => Ok(refused(refusal, call)),
+        CompletionAction::Refuse(refusal) => Ok((Err(refusal), refused(refusal, call))),
         CompletionAction::Finish(ccb) => {
             transport.finish(ccb.number);
             let answer = CallAnswer::Done;
+            Ok((Ok(CompleteAnswer::Done), Record::Called { answer, call }))
+        }
+        CompletionAction::Recover(place, ccb) => {
+            let (run, freeze) = recover(config, transport, runs, place, ccb, completion)?;
+            let answer = CallAnswer::Started {
+                run: run.number(),
+                freeze,
+            };
             Ok((
-                Reply::Success(Success::Done),
+                Ok(CompleteAnswer::Started(run, freeze)),
                 Record::Called { answer, call },
             ))
         }
-        CompletionAction::Recover(place, ccb) => match recover(
-            config, transport, runs, place, ccb, completion,
-        ) {
-            Ok((run, freeze)) => {
-                let answer = CallAnswer::Started {
-                    run: run.number(),
-                    freeze,
-                };
-                Ok((
-                    Reply::Success(Success::Started(run, freeze)),
-                    Record::Called { answer, call },
-                ))
-            }
-            Err(AllocError) => Err(Returned::Nothing),
-        },
     }
 }

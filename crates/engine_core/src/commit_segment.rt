@@ -1,19 +1,14 @@
 // What the stop of a run's segment does, and what is recorded of it. It relies on `helper_effects` for what a call does, and on
 // `engine_runs` for the run.
 
-ghost use Rattle.std.specs.Prelude.{◌≡◌, ℕ, IfOk};
+ghost use Rattle.std.specs.Prelude.{◌≡◌, IfOk};
 ghost use Rattle.bpf_semantics.specs.declared.stop.Stop.TheVariants.{Helper};
-ghost use Rattle.interpreter.specs.Segments.{IsSegment};
 ghost use Rattle.engine_core.specs.Answers.{stopped_at, NamesCode, StopsByCode};
-ghost use Rattle.engine_core.specs.Replies.{IsAdvanced, r0_given};
-ghost use Rattle.engine_core.specs.RunState.{IsStopped};
 ghost use Rattle.engine_core.specs.Invariant.{HoldEntries};
-ghost use Rattle.engine_core.specs.TakingOver.{Becomes, GoesAs, IsAdmitted, LeadsBy};
+ghost use Rattle.engine_core.specs.TakingOver.{ArrivesAt, Continues, LeadsFrom, RunContinues, is_going, r0_onward};
 
 use crate::helper_effects::carry_out;
-use crate::reply::Success;
-use crate::run::Run;
-use crate::stopped::Stopped;
+use bpf_machine::Machine;
 use bpf_semantics::Stop;
 use engine_runs::Runs;
 use engine_transport::Transport;
@@ -46,56 +41,84 @@ fn recorded_call(alloc: Global, request: &Request) -> Result<StoppedAt, AllocErr
     }
 }
 
-/// Takes over what the run at this place executed up to that stop: what becomes of it, and what R0 is then. The run goes on in
-/// its next machine, or exited and is gone.
+/// What a stop led to, each with R0 behind it and the place of a machine that is needed no more.
+pub(crate) enum Onward {
+    /// The run goes on behind the call of a helper.
+    Goes(u64, Box<Machine>),
+    /// It exited and is gone.
+    Ended(u64, Box<Machine>),
+}
+
+impl Onward {
+    /// R0 behind the stop.
+    pub(crate) fn r0(&self) -> u64
+        ensures { result ≡ r0_onward self.now }
+    {
+        match self {
+            Onward::Goes(r0, _) => *r0,
+            Onward::Ended(r0, _) => *r0,
+        }
+    }
+
+    /// Whether the run goes on.
+    pub(crate) fn goes_on(&self) -> bool
+        ensures { result ≡ is_going self.now }
+    {
+        matches!(self, Onward::Goes(_, _))
+    }
+
+    /// The place that is needed no more.
+    pub(crate) fn spare(self) -> Box<Machine> {
+        match self {
+            Onward::Goes(_, spare) => spare,
+            Onward::Ended(_, spare) => spare,
+        }
+    }
+}
+
+/// Takes over what the run at this place executed, up to the stop at which this machine stands. The run goes on behind the call of
+/// a helper, or exited and is gone.
 #[inline(always)]
 pub(crate) fn take_over(
     transport: &mut Transport,
     runs: &mut Runs,
     place: usize,
-    run: Stopped,
+    to: Box<Machine>,
     stop: &Stop,
-) -> (Success, u64)
-    requires stop { run.segment.stop ≡ stop.now }
-    requires stopped { IsStopped run }
-    requires admitted { (number : ℕ) × IsAdmitted transport.old runs.old number place run.segment }
-    ensures leads { LeadsBy (stopped_at run.segment.stop) result.1 place run.segment transport.old runs.old transport.new runs.new }
-    ensures becomes { Becomes run result.0 runs.old.runs.list runs.new.runs.list place }
-    ensures told { (r0_given result.0 ≡ result.1) × IsAdvanced result.0 }
+) -> Onward
+    requires { ArrivesAt transport.old runs.old place to.value stop.now }
+    ensures leads { LeadsFrom to.value stop.now (r0_onward result) place transport.old runs.old transport.new runs.new }
+    ensures continues { Continues result to.value stop.now runs.old.runs.list runs.new.runs.list place }
     ensures tokens { HoldEntries transport.new.freezes runs.new }
 {
     match stop {
         Stop::Helper(request) => {
-            let (again, r0) = answer(transport, runs, place, run, request);
-            (Success::Goes(again, r0), r0)
+            let (r0, spare) = answer(transport, runs, place, to, request);
+            Onward::Goes(r0, spare)
         }
         Stop::Exit(r0) => {
             runs.end(place);
-            let (from, to) = run.spent();
-            runs.keep_place(from);
-            runs.keep_place(to);
-            (Success::Ended(*r0), *r0)
+            Onward::Ended(*r0, to)
         }
     }
 }
 
-// Does what the call of a helper asks, and lets the run go on with the answer: the run, and what R0 is then.
+// Does what the call of a helper asks, and lets the run go on with the answer: what R0 is then, and the place of the machine
+// that was the recorded one.
 #[inline(always)]
 fn answer(
     transport: &mut Transport,
     runs: &mut Runs,
     place: usize,
-    run: Stopped,
+    to: Box<Machine>,
     request: &Request,
-) -> (Run, u64)
-    requires stop { run.segment.stop ≡ Helper request.now }
-    requires segment { IsSegment run.segment }
-    requires admitted { (number : ℕ) × IsAdmitted transport.old runs.old number place run.segment }
-    ensures leads { LeadsBy (stopped_at (Helper request.now)) result.1 place run.segment transport.old runs.old transport.new runs.new }
-    ensures goes { GoesAs run result.0 runs.old.runs.list runs.new.runs.list place }
+) -> (u64, Box<Machine>)
+    requires { ArrivesAt transport.old runs.old place to.value (Helper request.now) }
+    ensures leads { LeadsFrom to.value (Helper request.now) result.0 place transport.old runs.old transport.new runs.new }
+    ensures goes { RunContinues to.value (Helper request.now) runs.old.runs.list runs.new.runs.list place }
     ensures tokens { HoldEntries transport.new.freezes runs.new }
 {
     let given = carry_out(transport, runs, place, request);
-    let again = run.go_on(runs, place, request, &given);
-    (again, given.r0)
+    let spare = runs.go_on(place, to, request, &given);
+    (given.r0, spare)
 }

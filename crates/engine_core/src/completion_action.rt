@@ -1,7 +1,7 @@
 // What a completion asks for, and how a run starts. It relies on `engine_transport` for CCBs and
 // freezes, on `engine_runs` for runs, and on `config` for the program of a queue.
 
-ghost use Rattle.std.specs.Prelude.{◌≡◌, ◌<◌, true, false, List, IfOk, OnErr};
+ghost use Rattle.std.specs.Prelude.{◌≡◌, ◌<◌, false, List, IfOk, OnErr};
 ghost use Rattle.world_calls.specs.declared.record.Record.{Record as TheRecord};
 ghost use Rattle.ccb.specs.Completion.{IsCompletion};
 ghost use Rattle.world.specs.World.{Setup, World, queue_count};

@@ -1,8 +1,7 @@
-// The engine: its configuration, its parts and its history. An event is answered by what its parts make of it and one record
-// more: room for the record is taken first, and nothing is undone. It relies on `parts` for what an event needs and does, and
-// on `world` for what is recorded.
+// The engine: its configuration, its parts and its history. It relies on `parts` for CCBs, freezes and runs, and on `world` for what is
+// recorded.
 
-ghost use Rattle.std.specs.Prelude.{◌≡◌, ◌↔◌, IsTrue, ◌+◌, ◌≤◌, ◌++◌, ◌∷◌, [], length, false, IsNone, IfSome, IfOk, IfErr, OnErr};
+ghost use Rattle.std.specs.Prelude.{◌≡◌, ◌↔◌, IsTrue, ◌+◌, ◌≤◌, ◌++◌, ◌∷◌, [], length, false, IsNone, IfSome, IfOk, IfErr};
 ghost use Rattle.engine_config.specs.Configured.{AreProgramsOf};
 ghost use Rattle.freeze_ledger.specs.Deadlines.{some_timer};
 ghost use Rattle.engine_transport.specs.Freezing.{IsNextDue};
@@ -12,13 +11,9 @@ ghost use Rattle.world.specs.World.{opening, version_of};
 ghost use Rattle.world.specs.Lawful.{IsLawful};
 ghost use Rattle.world.specs.TotalsOf.{TotalsOf, totals_in};
 ghost use Rattle.engine_core.specs.EngineState.{opened, IsRun};
-ghost use Rattle.engine_core.specs.Performing.{IsRoomFor};
 ghost use Rattle.engine_core.specs.RunState.{IsReached};
-ghost use Rattle.engine_core.specs.Replies.{IsOfKnown, IsRecorded, ReplyMatchesEvent, ToldFit, GivesAsRecorded, is_park};
 
-use crate::event::Event;
 use crate::parts::Parts;
-use crate::reply::Reply;
 use crate::run::Run;
 use base_chunked_list::ChunkedList;
 use bpf_accepted::Accepted;
@@ -33,15 +28,15 @@ use std::sync::Arc;
 use world_calls::{Record, Totals, Trace, Version};
 
 /// The room that a call makes in the history: for its own record, and for one of each run, which may be parked behind it.
-const ROOM: usize = 1 + MAX_RUNS;
+pub(crate) const ROOM: usize = 1 + MAX_RUNS;
 
 /// Device queues with their CCBs, freezes and recovery runs, and the whole history of the calls made on them.
 /// Contracts see the setup, the history and the world that it leads to.
 #[derive(Drop)]
 pub struct Engine {
-    config: Config,
-    parts: Parts,
-    history: ChunkedList<Record>,
+    pub(crate) config: Config,
+    pub(crate) parts: Parts,
+    pub(crate) history: ChunkedList<Record>,
 }
 
 impl Model for Engine {
@@ -58,21 +53,6 @@ impl Model for Engine {
     ghost use Rattle.engine_core.specs.Invariant.{HistoryHasRoom};
 
     ghost invariant = { λ e. KeepsEngine e.config e.history.items e.parts.transport e.parts.runs × HistoryHasRoom (length e.history.items) e.history.capacity e.parts.runs.runs.list };
-}
-
-// Makes room for the record of an event, and for one of each run, which may be parked behind it. For the record of a park
-// there is room.
-fn make_room(history: &mut ChunkedList<Record>, event: &Event<'_>) -> Result<(), AllocError>
-    ensures items { history.new.items ≡ history.old.items }
-    ensures room { IfOk result (λ _. IsRoomFor event.now (length history.new.items) history.new.capacity) }
-    ensures kept { history.old.capacity ≤ history.new.capacity }
-    ensures refused { OnErr result (is_park event.now ≡ false) }
-{
-    if event.is_park() {
-        Ok(())
-    } else {
-        history.reserve(ROOM)
-    }
 }
 
 /// The queues and tables of the configuration, with no CCB, no freeze and no run.
@@ -110,44 +90,6 @@ impl Engine {
                 history,
             }),
             Err(fault) => Err((fault, config)),
-        }
-    }
-
-    /// Answers an event by one record more, with what it gives or why it is refused. Where it is unfit (C4, C6) or memory is
-    /// refused nothing changes, and what it owned comes back. A park takes no memory.
-    pub fn answer(&mut self, event: Event<'_>) -> Reply
-        ensures recorded { IsRecorded self.old event.entry result self.new }
-        ensures fits { ReplyMatchesEvent event.entry result }
-        ensures fit { ToldFit self.old.world event.entry result }
-        ensures gives { GivesAsRecorded self.old.setup self.old.world event.entry self.new.world result }
-        ensures run { IsRun self.new }
-    {
-        self.answer_known(event, None)
-    }
-
-    /// The same, where the run of an advance is known to have the program of a queue. If the run of its number is recorded
-    /// for that queue, the two programs are not compared; else nothing comes of what is known.
-    pub fn answer_known(&mut self, event: Event<'_>, known: Option<QueueId>) -> Reply
-        requires { IsOfKnown self.old.setup event known }
-        ensures recorded { IsRecorded self.old event.entry result self.new }
-        ensures fits { ReplyMatchesEvent event.entry result }
-        ensures fit { ToldFit self.old.world event.entry result }
-        ensures gives { GivesAsRecorded self.old.setup self.old.world event.entry self.new.world result }
-        ensures run { IsRun self.new }
-    {
-        let Some(place) = self.parts.fits(&event, known) else {
-            return Reply::NotAdmitted(event.owned());
-        };
-        if make_room(&mut self.history, &event).is_err() {
-            return Reply::OutOfMemory(event.owned());
-        }
-        let alloc = *self.history.allocator();
-        match self.parts.perform(alloc, &self.config, place, event) {
-            Ok((reply, told)) => {
-                self.history.push_reserved(told);
-                reply
-            }
-            Err(back) => Reply::OutOfMemory(back),
         }
     }
 

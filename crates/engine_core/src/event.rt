@@ -2,7 +2,7 @@
 // and on `freeze_ledger` for tokens.
 
 ghost use Rattle.std.specs.Prelude.{◌≡◌};
-ghost use Rattle.engine_core.specs.Replies.{is_park, owned};
+ghost use Rattle.engine_core.specs.Replies.{owned};
 
 use crate::reply::Returned;
 use crate::run::Run;
@@ -78,12 +78,5 @@ impl Event<'_> {
     /// Spends what it owns and changes no engine: it is for an event that nobody is asked about.
     pub fn forfeit(self) {
         self.owned().forfeit();
-    }
-
-    /// Whether it parks a run: for the record of a park there is room.
-    pub(crate) fn is_park(&self) -> bool
-        ensures { result ≡ is_park self.now }
-    {
-        matches!(self, Event::Park { .. })
     }
 }

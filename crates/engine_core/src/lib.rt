@@ -4,9 +4,11 @@
 #![tactic(auto)]
 
 mod answers;
+mod by_event;
 mod ccb_events;
 mod commit_segment;
 mod completion_action;
+mod driving;
 mod engine;
 mod event;
 mod freeze_events;

@@ -1,25 +1,28 @@
-// The engine's calls, each as a method: what is asked goes in as an event, and what is given, or comes back, out of the reply.
-// It relies on `Engine::answer` for what an event does.
+// The engine's calls, each as a method: room for the call's record is taken first, then the call changes the engine's parts, and its
+// record joins the history. Nothing is undone. It relies on `ccb_events`, `freeze_events` and `run_events` for what a call does.
 
-ghost use Rattle.std.specs.Prelude.{◌≡◌, IfOk, IfErr, MatchResult};
+ghost use Rattle.std.specs.Prelude.{◌≡◌, IfOk, IfErr, IfSome, MatchResult};
 ghost use Rattle.freeze_ledger.specs.declared.freeze.Holder.TheVariants.{Guest};
 ghost use Rattle.engine_core.specs.RunState.{before_stop, IsOut, IsOutUnder};
 ghost use Rattle.ccb.specs.declared.place.Place.TheVariants.{Controller, Device};
 ghost use Rattle.world_calls.specs.declared.call.Call.TheVariants.{Submit, Dispatch, Complete, GuestFreeze, GuestRelease, Clock, Park, Resume};
 ghost use Rattle.world_calls.specs.declared.call_answer.CallAnswer.TheVariants as answers;
 ghost use Rattle.world_calls.specs.declared.record.Record.TheVariants.{Called, Advance};
+ghost use Rattle.world.specs.World.{queue_setup};
 ghost use Rattle.engine_core.specs.EngineState.{IsRun, Records, GuestHolds};
 ghost use Rattle.engine_core.specs.Answers.{completed_of, StartsOut, stopped_at, r0_of, GoesOrEnds};
 ghost use Rattle.engine_core.specs.Faults.{FaultIs, HoldsUnlessTold, AdmitsUnlessTold};
 
-use crate::answers::{AdvanceAnswer, AdvanceFault, CallFault, CompleteAnswer, ReleaseFault};
-use crate::engine::Engine;
-use crate::event::Event;
-use crate::reply::Reply;
+use crate::answers::{AdvanceAnswer, AdvanceFault, CallFault, CompleteAnswer, ReleaseFault, given};
+use crate::ccb_events::{complete, dispatch, submit};
+use crate::engine::{Engine, ROOM};
+use crate::freeze_events::{guest_freeze, guest_release, read_clock};
 use crate::run::Run;
+use crate::run_events::{advance, park, resume};
 use crate::stopped::Stopped;
 use ccb::{CcbId, Completion, Place, QueueId};
 use freeze_ledger::FreezeToken;
+use std::alloc::AllocError;
 
 impl Engine {
     /// Submits a CCB to a queue, with a priority (the lowest number starts first) and how often it may be tried
@@ -35,28 +38,28 @@ impl Engine {
         ensures fault { IfErr result (λ fault. FaultIs fault (self.new ≡ self.old) (λ refusal. Records self.old self.new (Called (answers.Refused refusal) (Submit queue priority retries)))) }
         ensures run { IsRun self.new }
     {
-        match self.answer(Event::Submit {
-            queue,
-            priority,
-            retries,
-        }) {
-            Reply::Success(given) => Ok(given.ccb()),
-            fault => Err(fault.fault()),
+        if self.history.reserve(ROOM).is_err() {
+            return Err(CallFault::OutOfMemory);
         }
+        let (answer, submitted) = submit(&mut self.parts.transport, queue, priority, retries);
+        self.history.push_reserved(submitted);
+        given(answer)
     }
 
     /// Starts the waiting CCB of the queue that has the lowest priority number, and among these the lowest CCB
-    /// number: its number. C1 where there is no such queue; Q2 where it is frozen; Q3 where as many of its CCBs are
-    /// active as it has openings; Q4 where none waits; Q5 where the controller is frozen that the queue is under. All are recorded and change nothing else.
+    /// number: its number. Refused with the first refusal of a dispatch that holds (`ccb::REFUSALS` has them in their order),
+    /// which is recorded and changes nothing else.
     pub fn dispatch(&mut self, queue: QueueId) -> Result<CcbId, CallFault>
         ensures answered { IfOk result (λ ccb. Records self.old self.new (Called (answers.Ccb ccb) (Dispatch queue))) }
         ensures fault { IfErr result (λ fault. FaultIs fault (self.new ≡ self.old) (λ refusal. Records self.old self.new (Called (answers.Refused refusal) (Dispatch queue)))) }
         ensures run { IsRun self.new }
     {
-        match self.answer(Event::Dispatch { queue }) {
-            Reply::Success(given) => Ok(given.ccb()),
-            fault => Err(fault.fault()),
+        if self.history.reserve(ROOM).is_err() {
+            return Err(CallFault::OutOfMemory);
         }
+        let (answer, told) = dispatch(&self.config, &mut self.parts.transport, queue);
+        self.history.push_reserved(told);
+        given(answer)
     }
 
     /// Takes a completion of an active CCB. With REQ_CMP the CCB is finished and gone. With any other status the
@@ -75,11 +78,38 @@ impl Engine {
         ensures back { IfErr result (λ fault. fault.1 ≡ completion) }
         ensures run { IsRun self.new }
     {
-        match self.answer(Event::Complete {
-            completion: &completion,
-        }) {
-            Reply::Success(given) => Ok(given.completed()),
-            fault => Err((fault.fault(), completion)),
+        match self.complete_lent(&completion) {
+            Ok(answer) => Ok(answer),
+            Err(fault) => Err((fault, completion)),
+        }
+    }
+
+    /// The same of a completion that is lent.
+    pub(crate) fn complete_lent(
+        &mut self,
+        completion: &Completion,
+    ) -> Result<CompleteAnswer, CallFault>
+        ensures answered { IfOk result (λ answer. Records self.old self.new (Called (completed_of answer) (Complete completion.now))) }
+        ensures started { IfOk result (StartsOut self.new.setup self.new.world) }
+        ensures fault { IfErr result (λ fault. FaultIs fault (self.new ≡ self.old) (λ refusal. Records self.old self.new (Called (answers.Refused refusal) (Complete completion.now)))) }
+        ensures run { IsRun self.new }
+    {
+        if self.history.reserve(ROOM).is_err() {
+            return Err(CallFault::OutOfMemory);
+        }
+        let alloc = *self.history.allocator();
+        match complete(
+            alloc,
+            &self.config,
+            &mut self.parts.transport,
+            &mut self.parts.runs,
+            completion,
+        ) {
+            Ok((answer, told)) => {
+                self.history.push_reserved(told);
+                given(answer)
+            }
+            Err(AllocError) => Err(CallFault::OutOfMemory),
         }
     }
 
@@ -108,11 +138,46 @@ impl Engine {
         ensures back { IfErr result (λ fault. (fault.1 ≡ before_stop run) × (self.new ≡ self.old)) }
         ensures run { IsRun self.new }
     {
-        match self.answer(Event::Advance { run }) {
-            Reply::Success(given) => Ok(given.advanced()),
-            Reply::NotAdmitted(back) => Err((AdvanceFault::NotOut, back.run())),
-            Reply::OutOfMemory(back) => Err((AdvanceFault::OutOfMemory, back.run())),
-            Reply::Refused(_) => unreachable!(),
+        self.go_on_known(run, None)
+    }
+
+    /// The same, where the run is known to have the program of a queue. If the run of its number is recorded for that queue, the
+    /// two programs are not compared; else nothing comes of what is known.
+    pub fn go_on_known(
+        &mut self,
+        run: Stopped,
+        known: Option<QueueId>,
+    ) -> Result<AdvanceAnswer, (AdvanceFault, Run)>
+        requires { IfSome known (λ queue. run.segment.program.program ≡ (queue_setup self.old.setup queue.0).program) }
+        ensures answered { IfOk result (λ answer. Records self.old self.new (Advance run.number run.segment.steps (stopped_at run.segment.stop) (r0_of answer))) }
+        ensures goes { IfOk result (GoesOrEnds self.old.setup self.old.world self.new.world (before_stop run) run.segment) }
+        ensures admitted { MatchResult result (λ _. IsOut self.old.world (before_stop run)) (λ fault. AdmitsUnlessTold fault.0 (IsOut self.old.world (before_stop run))) }
+        ensures back { IfErr result (λ fault. (fault.1 ≡ before_stop run) × (self.new ≡ self.old)) }
+        ensures run { IsRun self.new }
+    {
+        let Some(place) = self
+            .parts
+            .runs
+            .admit_run(run.number(), run.program(), known, run.from())
+        else {
+            return Err((AdvanceFault::NotOut, run.back()));
+        };
+        if self.history.reserve(ROOM).is_err() {
+            return Err((AdvanceFault::OutOfMemory, run.back()));
+        }
+        let alloc = *self.history.allocator();
+        match advance(
+            alloc,
+            &mut self.parts.transport,
+            &mut self.parts.runs,
+            place,
+            run,
+        ) {
+            Ok((answer, told)) => {
+                self.history.push_reserved(told);
+                Ok(answer)
+            }
+            Err(back) => Err((AdvanceFault::OutOfMemory, back)),
         }
     }
 
@@ -126,14 +191,16 @@ impl Engine {
         ensures back { IfErr result (λ back. (back ≡ run) × (self.new ≡ self.old)) }
         ensures run { IsRun self.new }
     {
-        match self.answer(Event::Park { run }) {
-            Reply::Success(given) => Ok(given.parked()),
-            Reply::NotAdmitted(back) => Err(back.run()),
-            other => {
-                other.forfeit();
-                unreachable!()
-            }
-        }
+        let Some(place) = self
+            .parts
+            .runs
+            .admit_run(run.number(), run.program(), None, run.machine())
+        else {
+            return Err(run);
+        };
+        let told = park(&mut self.parts.runs, place, run);
+        self.history.push_reserved(told);
+        Ok(())
     }
 
     /// Lets a run that is parked go on: the run, with the machine that it had. C1 where no run of that number is parked; it
@@ -143,9 +210,15 @@ impl Engine {
         ensures fault { IfErr result (λ fault. FaultIs fault (self.new ≡ self.old) (λ refusal. Records self.old self.new (Called (answers.Refused refusal) (Resume run)))) }
         ensures run { IsRun self.new }
     {
-        match self.answer(Event::Resume { run }) {
-            Reply::Success(given) => Ok(given.resumed()),
-            fault => Err(fault.fault()),
+        if self.history.reserve(ROOM).is_err() {
+            return Err(CallFault::OutOfMemory);
+        }
+        match resume(&self.config, &mut self.parts.runs, run) {
+            Ok((answer, told)) => {
+                self.history.push_reserved(told);
+                given(answer)
+            }
+            Err(AllocError) => Err(CallFault::OutOfMemory),
         }
     }
 
@@ -158,11 +231,7 @@ impl Engine {
         ensures fault { IfErr result (λ fault. FaultIs fault (self.new ≡ self.old) (λ refusal. Records self.old self.new (Called (answers.Refused refusal) (GuestFreeze (Device queue) guest)))) }
         ensures run { IsRun self.new }
     {
-        let place = Place::Device(queue);
-        match self.answer(Event::GuestFreeze { place, guest }) {
-            Reply::Success(given) => Ok(given.token()),
-            fault => Err(fault.fault()),
-        }
+        self.freeze_place(Place::Device(queue), guest)
     }
 
     /// Freezes a controller for a guest, as a queue: the token of the new freeze. C1 where there is no such controller; C2 where
@@ -178,11 +247,26 @@ impl Engine {
         ensures fault { IfErr result (λ fault. FaultIs fault (self.new ≡ self.old) (λ refusal. Records self.old self.new (Called (answers.Refused refusal) (GuestFreeze (Controller controller) guest)))) }
         ensures run { IsRun self.new }
     {
-        let place = Place::Controller(controller);
-        match self.answer(Event::GuestFreeze { place, guest }) {
-            Reply::Success(given) => Ok(given.token()),
-            fault => Err(fault.fault()),
+        self.freeze_place(Place::Controller(controller), guest)
+    }
+
+    /// Freezes a place for a guest, of whatever kind it is.
+    pub(crate) fn freeze_place(
+        &mut self,
+        place: Place,
+        guest: u32,
+    ) -> Result<FreezeToken, CallFault>
+        ensures taken { IfOk result (λ token. Records self.old self.new (Called (answers.Freeze token.number) (GuestFreeze place guest))) }
+        ensures token { IfOk result (λ token. GuestHolds self.new.world token × (token.place ≡ place) × (token.holder ≡ Guest guest)) }
+        ensures fault { IfErr result (λ fault. FaultIs fault (self.new ≡ self.old) (λ refusal. Records self.old self.new (Called (answers.Refused refusal) (GuestFreeze place guest)))) }
+        ensures run { IsRun self.new }
+    {
+        if self.history.reserve(ROOM).is_err() {
+            return Err(CallFault::OutOfMemory);
         }
+        let (answer, told) = guest_freeze(&self.config, &mut self.parts.transport, place, guest);
+        self.history.push_reserved(told);
+        given(answer)
     }
 
     /// Gives a guest's freeze back: how many freezes its place has then. C6, which is not recorded, exactly
@@ -193,12 +277,15 @@ impl Engine {
         ensures back { IfErr result (λ fault. (fault.1 ≡ token) × (self.new ≡ self.old)) }
         ensures run { IsRun self.new }
     {
-        match self.answer(Event::GuestRelease { token }) {
-            Reply::Success(given) => Ok(given.left()),
-            Reply::NotAdmitted(back) => Err((ReleaseFault::NotHeld, back.token())),
-            Reply::OutOfMemory(back) => Err((ReleaseFault::OutOfMemory, back.token())),
-            Reply::Refused(_) => unreachable!(),
+        if !self.parts.transport.is_guests(&token) {
+            return Err((ReleaseFault::NotHeld, token));
         }
+        if self.history.reserve(ROOM).is_err() {
+            return Err((ReleaseFault::OutOfMemory, token));
+        }
+        let (count, told) = guest_release(&mut self.parts.transport, token);
+        self.history.push_reserved(told);
+        Ok(count)
     }
 
     /// Takes a clock reading, in milliseconds: the freezes go whose timers are due at or before it, and no others. The
@@ -209,9 +296,11 @@ impl Engine {
         ensures fault { IfErr result (λ fault. FaultIs fault (self.new ≡ self.old) (λ refusal. Records self.old self.new (Called (answers.Refused refusal) (Clock reading)))) }
         ensures run { IsRun self.new }
     {
-        match self.answer(Event::Clock { reading }) {
-            Reply::Success(given) => Ok(given.removed()),
-            fault => Err(fault.fault()),
+        if self.history.reserve(ROOM).is_err() {
+            return Err(CallFault::OutOfMemory);
         }
+        let (answer, told) = read_clock(&mut self.parts.transport, reading);
+        self.history.push_reserved(told);
+        given(answer)
     }
 }

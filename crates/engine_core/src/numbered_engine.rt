@@ -2,28 +2,26 @@
 // freezes, and has the runs and the tokens itself. It relies on `parts` for what an event does, and on `world` for what may
 // happen.
 
-ghost use Rattle.std.specs.Prelude.{◌≡◌, ◌<◌, ◌↔◌, ◌∷◌, [], ◌++◌, length, Some, None, IsNone, IsSome, IsTrue, IfSome, IfNone, IfOk, OnErr, false};
-ghost use Rattle.world_calls.specs.declared.call.Call.{Call as TheCall};
-ghost use Rattle.world_calls.specs.declared.call.Call.TheVariants.{Complete, GuestFreeze, GuestRelease, Park};
+ghost use Rattle.std.specs.Prelude.{◌≡◌, ◌<◌, ◌↔◌, ◌∷◌, [], ◌++◌, length, Some, None, IsNone, IsSome, IsTrue, IfSome, IfNone, IfOk, OnErr, false, IsOk};
+ghost use Rattle.world_calls.specs.declared.call.Call.TheVariants.{Clock, Complete, Dispatch, GuestFreeze, GuestRelease, Park, Resume, Submit};
 ghost use Rattle.world_calls.specs.declared.record.Record.TheVariants.{Called};
 ghost use Rattle.freeze_ledger.specs.Deadlines.{some_timer};
 ghost use Rattle.freeze_ledger.specs.Freezes.{entry_of, holders_of};
-ghost use Rattle.ccb.specs.Places.{index_of, places_of};
 ghost use Rattle.engine_transport.specs.Freezing.{IsNextDue};
-ghost use Rattle.world.specs.Capacities.{most_controllers};
 ghost use Rattle.world.specs.Lawful.{IsLawful};
 ghost use Rattle.world.specs.Lookups.{ccb_of, run_of};
 ghost use Rattle.world.specs.QueueInfo.{queue_info};
+ghost use Rattle.world.specs.Refusals.{is_unknown};
 ghost use Rattle.world.specs.World.{World};
-ghost use Rattle.engine_core.specs.Looking.{AsksNext, IsRunTold, asked_at, first_out};
-ghost use Rattle.engine_core.specs.Replies.{call_of};
-ghost use Rattle.engine_core.specs.ByNumber.{Advances, AnswersCall, CannotFollow, RecordFollows, IsPlain, guests_of, opened_numbered, sums_behind};
+ghost use Rattle.engine_core.specs.Looking.{AsksNext, HasRunOut, IsRunTold, asked_at, first_out};
+ghost use Rattle.engine_core.specs.ByNumber.{Advances, AnswersCall, RecordFollows, guests_of, opened_numbered, sums_behind, takes_memory};
 
+use crate::ccb_events::{complete, dispatch, submit};
 use crate::engine::rooms;
-use crate::event::Event;
+use crate::freeze_events::read_clock;
 use crate::guest_tokens::{GuestToken, has_token, take_token};
 use crate::parts::Parts;
-use crate::run_events::{advance, run_at};
+use crate::run_events::{go_on_here, resume, run_at};
 use crate::run_info::RunInfo;
 use crate::told::answer_in;
 use bpf_semantics::Stop;
@@ -72,53 +70,58 @@ impl<'a> NumberedEngine<'a> {
     }
 
     /// Carries a call out, or refuses it: its answer. `None`, which changes nothing, exactly where the call is no event here: a
-    /// completion that no device reports, a park of a run that is not out, or a release of a freeze that no guest holds. Where
-    /// memory is refused nothing changes.
+    /// completion that no device reports, a park of a run that is not out, or a release of a freeze that no guest holds. Only a
+    /// completion, a guest's freeze and a resume take memory; where it is refused nothing changes.
     pub fn call(&mut self, call: &Call) -> Result<Option<CallAnswer>, AllocError>
         ensures answered { IfOk result (λ answer. AnswersCall self.old call.now answer self.new) }
         ensures setup { self.new.setup ≡ self.old.setup }
         ensures refused { OnErr result (self.new ≡ self.old) }
+        ensures memory { takes_memory call.now ≡ false → IsOk result }
     {
         match call {
             Call::Submit {
                 queue,
                 priority,
                 retries,
-            } => self.ask(Event::Submit {
-                queue: *queue,
-                priority: *priority,
-                retries: *retries,
-            }),
-            Call::Dispatch { queue } => self.ask(Event::Dispatch { queue: *queue }),
+            } => Ok(Some(self.submit(*queue, *priority, *retries))),
+            Call::Dispatch { queue } => Ok(Some(self.dispatch(*queue))),
             Call::Complete { completion } => self.complete(completion),
-            Call::GuestFreeze { place, guest } => self.guest_freeze(*place, *guest),
+            Call::GuestFreeze { place, guest } => Ok(Some(self.guest_freeze(*place, *guest)?)),
             Call::GuestRelease { freeze } => Ok(self.guest_release(*freeze)),
-            Call::Clock { reading } => self.ask(Event::Clock { reading: *reading }),
+            Call::Clock { reading } => Ok(Some(self.read_clock(*reading))),
             Call::Park { run } => Ok(self.park(*run)),
-            Call::Resume { run } => self.ask(Event::Resume { run: *run }),
+            Call::Resume { run } => Ok(Some(self.resume(*run)?)),
         }
     }
 
-    // What a call is answered that is always an event, and of no guest.
-    fn ask(&mut self, event: Event<'_>) -> Result<Option<CallAnswer>, AllocError>
-        requires { IsPlain event }
-        ensures answered { IfOk result (λ answer. (call : TheCall) → call_of event.entry ≡ Some call → AnswersCall self.old call answer self.new) }
+    // One CCB more waits, or why not.
+    fn submit(&mut self, queue: QueueId, priority: u32, retries: u32) -> CallAnswer
+        ensures answered { RecordFollows self.old (Called result (Submit queue priority retries)) self.new }
         ensures setup { self.new.setup ≡ self.old.setup }
-        ensures refused { OnErr result (self.new ≡ self.old) }
     {
-        let alloc = *self.tokens.allocator();
-        match self.parts.perform(alloc, self.config, 0, event) {
-            Ok((reply, told)) => {
-                self.parts.spend(reply);
-                Ok(Some(answer_in(told)))
-            }
-            Err(back) => {
-                back.forfeit();
-                Err(AllocError)
-            }
-        }
+        let (_, told) = submit(&mut self.parts.transport, queue, priority, retries);
+        answer_in(told)
     }
 
+    // The least CCB that waits starts, or why not.
+    fn dispatch(&mut self, queue: QueueId) -> CallAnswer
+        ensures answered { RecordFollows self.old (Called result (Dispatch queue)) self.new }
+        ensures setup { self.new.setup ≡ self.old.setup }
+    {
+        let (_, told) = dispatch(self.config, &mut self.parts.transport, queue);
+        answer_in(told)
+    }
+
+    // The freezes go whose timers are due, or why not.
+    fn read_clock(&mut self, reading: u64) -> CallAnswer
+        ensures answered { RecordFollows self.old (Called result (Clock reading)) self.new }
+        ensures setup { self.new.setup ≡ self.old.setup }
+    {
+        let (_, told) = read_clock(&mut self.parts.transport, reading);
+        answer_in(told)
+    }
+
+    // A completion, if a device can report it.
     fn complete(&mut self, completion: &CompletionRecord) -> Result<Option<CallAnswer>, AllocError>
         ensures answered { IfOk result (λ answer. AnswersCall self.old (Complete completion.now) answer self.new) }
         ensures setup { self.new.setup ≡ self.old.setup }
@@ -131,16 +134,43 @@ impl<'a> NumberedEngine<'a> {
             completion.scsi(),
             sense.as_slice(),
         ) {
-            Some(completion) => self.ask(Event::Complete {
-                completion: &completion,
-            }),
+            Some(completion) => Ok(Some(self.completed(&completion)?)),
             None => Ok(None),
         }
     }
 
+    // What a completion leads to. The right to a run that starts is not needed: the run is named by its number.
+    fn completed(&mut self, completion: &Completion) -> Result<CallAnswer, AllocError>
+        ensures answered { IfOk result (λ answer. RecordFollows self.old (Called answer (Complete completion.now)) self.new) }
+        ensures setup { self.new.setup ≡ self.old.setup }
+        ensures refused { OnErr result (self.new ≡ self.old) }
+    {
+        let alloc = *self.tokens.allocator();
+        let (answer, told) = complete(
+            alloc,
+            self.config,
+            &mut self.parts.transport,
+            &mut self.parts.runs,
+            completion,
+        )?;
+        self.parts.spend_started(answer);
+        Ok(answer_in(told))
+    }
+
+    // The run of that number goes on, if it is parked.
+    fn resume(&mut self, run: u32) -> Result<CallAnswer, AllocError>
+        ensures answered { IfOk result (λ answer. RecordFollows self.old (Called answer (Resume run)) self.new) }
+        ensures setup { self.new.setup ≡ self.old.setup }
+        ensures refused { OnErr result (self.new ≡ self.old) }
+    {
+        let (answer, told) = resume(self.config, &mut self.parts.runs, run)?;
+        self.parts.spend_again(answer);
+        Ok(answer_in(told))
+    }
+
     // A guest's freeze, of which the token is kept.
-    fn guest_freeze(&mut self, place: Place, guest: u32) -> Result<Option<CallAnswer>, AllocError>
-        ensures answered { IfOk result (λ answer. AnswersCall self.old (GuestFreeze place guest) answer self.new) }
+    fn guest_freeze(&mut self, place: Place, guest: u32) -> Result<CallAnswer, AllocError>
+        ensures answered { IfOk result (λ answer. RecordFollows self.old (Called answer (GuestFreeze place guest)) self.new) }
         ensures setup { self.new.setup ≡ self.old.setup }
         ensures refused { OnErr result (self.new ≡ self.old) }
     {
@@ -153,9 +183,9 @@ impl<'a> NumberedEngine<'a> {
             Ok(token) => {
                 let number = token.number();
                 self.tokens.push_reserved(GuestToken::new(token));
-                Ok(Some(CallAnswer::Freeze(number)))
+                Ok(CallAnswer::Freeze(number))
             }
-            Err(refusal) => Ok(Some(CallAnswer::Refused(refusal))),
+            Err(refusal) => Ok(CallAnswer::Refused(refusal)),
         }
     }
 
@@ -181,33 +211,24 @@ impl<'a> NumberedEngine<'a> {
 
     /// Lets the run of that number go on to its next stop, a helper call or its exit, and takes over what it did: the record of
     /// that advance. `None`, which changes nothing, exactly where no run of that number is out. It executes as many instructions
-    /// as are left of the run's budget at most. Where memory is refused nothing changes.
+    /// as are left of the run's budget at most. Where memory is refused nothing changes; that is never where no such run is out.
     pub fn advance(&mut self, run: u32) -> Result<Option<Record>, AllocError>
         ensures advanced { IfOk result (λ told. Advances self.old run told self.new) }
         ensures setup { self.new.setup ≡ self.old.setup }
-        ensures refused { OnErr result (self.new ≡ self.old) }
+        ensures refused { OnErr result ((self.new ≡ self.old) × HasRunOut self.old.runs.list run) }
     {
         let Some(place) = self.parts.runs.out_at(run) else {
             return Ok(None);
         };
-        let stopped = run_at(self.config, &mut self.parts.runs, place)?.to_stop();
         let alloc = *self.tokens.allocator();
-        match advance(
+        let (_, told) = go_on_here(
             alloc,
+            self.config,
             &mut self.parts.transport,
             &mut self.parts.runs,
             place,
-            stopped,
-        ) {
-            Ok((reply, told)) => {
-                self.parts.spend(reply);
-                Ok(Some(told))
-            }
-            Err(back) => {
-                back.forfeit();
-                Err(AllocError)
-            }
-        }
+        )?;
+        Ok(Some(told))
     }
 
     /// What the clock read last, in milliseconds, 0 before the first reading.
@@ -236,13 +257,14 @@ impl<'a> NumberedEngine<'a> {
         }
     }
 
-    /// The number and the holder of each freeze of a place, by rising number; `None` exactly where there is no such place:
-    /// neither a queue, nor one of as many controllers as there may be.
+    /// The number and the holder of each freeze of a place, by rising number; `None` exactly where there is no such place.
     pub fn holders(&self, place: Place) -> Option<Holders<'_>>
-        ensures there { IsSome result ↔ (index_of place < places_of (length self.now.transport.openings) most_controllers) }
+        ensures there { IsSome result ↔ (is_unknown self.now.setup place ≡ false) }
         ensures holders { IfSome result (λ holders. holders ≡ holders_of place self.now.transport.freezes) }
     {
-        self.parts.transport.holders(place)
+        self.parts
+            .transport
+            .holders(place, self.config.controllers())
     }
 
     /// What is recorded of the run of that number; `None` exactly where no live run has it.
@@ -261,10 +283,11 @@ impl<'a> NumberedEngine<'a> {
     }
 
     /// What the run of that number asks where it comes to its next stop: a helper, with its arguments. `None` where no run of
-    /// that number is out, or where it comes to its exit. It changes nothing.
+    /// that number is out, or where it comes to its exit. It changes nothing, and takes memory for a run that is out alone.
     pub fn asked(&mut self, run: u32) -> Result<Option<Request>, AllocError>
         ensures asked { IfOk result (AsksNext self.old.runs.list run) }
         ensures same { self.new ≡ self.old }
+        ensures refused { OnErr result (HasRunOut self.old.runs.list run) }
     {
         let Some(place) = self.parts.runs.out_at(run) else {
             return Ok(None);

@@ -2,13 +2,8 @@
 // tokens.
 
 ghost use Rattle.std.specs.Prelude.{◌≡◌};
-ghost use Rattle.engine_core.specs.Replies.{IsCcb, IsCompleted, IsFault, IsMemory, IsAdvanced, IsFreeze, IsLeft, IsRemoved, IsParked, IsResumed, IsRunBack, IsTokenBack, given_completed, given_advanced, is_recorded};
-ghost use Rattle.engine_core.specs.declared.reply.Success.TheVariants.{Ccb, Freeze, Left, Removed, Parked, Resumed};
-ghost use Rattle.engine_core.specs.declared.reply.Returned.TheVariants as back;
-ghost use Rattle.engine_core.specs.declared.reply.Reply.TheVariants as replied;
-ghost use Rattle.engine_core.specs.Faults.{FaultIs};
+ghost use Rattle.engine_core.specs.Replies.{is_recorded};
 
-use crate::answers::{AdvanceAnswer, CallFault, CompleteAnswer};
 use crate::run::Run;
 use ccb::CcbId;
 use freeze_ledger::FreezeToken;
@@ -77,24 +72,6 @@ impl Reply {
             Reply::Refused(_) => {}
         }
     }
-
-    /// Why a call that owns nothing is not carried out.
-    pub(crate) fn fault(self) -> CallFault
-        requires { IsFault self }
-        ensures { FaultIs result (IsMemory self) (λ refusal. self ≡ replied.Refused refusal) }
-    {
-        match self {
-            Reply::Refused(refusal) => CallFault::Refused(refusal),
-            Reply::OutOfMemory(back) => {
-                back.forfeit();
-                CallFault::OutOfMemory
-            }
-            other => {
-                other.forfeit();
-                unreachable!()
-            }
-        }
-    }
 }
 
 impl Success {
@@ -112,125 +89,6 @@ impl Success {
             | Success::Parked => {}
         }
     }
-
-    /// The run that is out, if one is given. What else is given is spent.
-    pub(crate) fn run(self) -> Option<Run> {
-        match self {
-            Success::Started(run, _) | Success::Goes(run, _) | Success::Resumed(run) => Some(run),
-            other => {
-                other.forfeit();
-                None
-            }
-        }
-    }
-
-    /// The CCB of a submission or a start.
-    pub(crate) fn ccb(self) -> CcbId
-        requires { IsCcb self }
-        ensures { self ≡ Ccb result }
-    {
-        match self {
-            Success::Ccb(ccb) => ccb,
-            other => {
-                other.forfeit();
-                unreachable!()
-            }
-        }
-    }
-
-    /// What a completion led to.
-    pub(crate) fn completed(self) -> CompleteAnswer
-        requires { IsCompleted self }
-        ensures { self ≡ given_completed result }
-    {
-        match self {
-            Success::Done => CompleteAnswer::Done,
-            Success::Started(run, freeze) => CompleteAnswer::Started(run, freeze),
-            other => {
-                other.forfeit();
-                unreachable!()
-            }
-        }
-    }
-
-    /// What a segment led to.
-    pub(crate) fn advanced(self) -> AdvanceAnswer
-        requires { IsAdvanced self }
-        ensures { self ≡ given_advanced result }
-    {
-        match self {
-            Success::Goes(run, r0) => AdvanceAnswer::Goes(run, r0),
-            Success::Ended(r0) => AdvanceAnswer::Ended(r0),
-            other => {
-                other.forfeit();
-                unreachable!()
-            }
-        }
-    }
-
-    /// The token of a guest's freeze.
-    pub(crate) fn token(self) -> FreezeToken
-        requires { IsFreeze self }
-        ensures { self ≡ Freeze result }
-    {
-        match self {
-            Success::Freeze(token) => token,
-            other => {
-                other.forfeit();
-                unreachable!()
-            }
-        }
-    }
-
-    /// How many freezes are left of the place.
-    pub(crate) fn left(self) -> u32
-        requires { IsLeft self }
-        ensures { self ≡ Left result }
-    {
-        match self {
-            Success::Left(count) => count,
-            other => {
-                other.forfeit();
-                unreachable!()
-            }
-        }
-    }
-
-    /// How many freezes a clock reading let go.
-    pub(crate) fn removed(self) -> u32
-        requires { IsRemoved self }
-        ensures { self ≡ Removed result }
-    {
-        match self {
-            Success::Removed(count) => count,
-            other => {
-                other.forfeit();
-                unreachable!()
-            }
-        }
-    }
-
-    /// The run is parked.
-    pub(crate) fn parked(self)
-        requires { IsParked self }
-        ensures { self ≡ Parked }
-    {
-        self.forfeit();
-    }
-
-    /// The run that goes on.
-    pub(crate) fn resumed(self) -> Run
-        requires { IsResumed self }
-        ensures { self ≡ Resumed result }
-    {
-        match self {
-            Success::Resumed(run) => run,
-            other => {
-                other.forfeit();
-                unreachable!()
-            }
-        }
-    }
 }
 
 impl Returned {
@@ -240,34 +98,6 @@ impl Returned {
             Returned::Nothing => {}
             Returned::Run(run) => run.forfeit(),
             Returned::Token(token) => token.forfeit(),
-        }
-    }
-
-    /// The run of an advance or a park.
-    pub(crate) fn run(self) -> Run
-        requires { IsRunBack self }
-        ensures { self ≡ back.Run result }
-    {
-        match self {
-            Returned::Run(run) => run,
-            other => {
-                other.forfeit();
-                unreachable!()
-            }
-        }
-    }
-
-    /// The token of a guest's release.
-    pub(crate) fn token(self) -> FreezeToken
-        requires { IsTokenBack self }
-        ensures { self ≡ back.Token result }
-    {
-        match self {
-            Returned::Token(token) => token,
-            other => {
-                other.forfeit();
-                unreachable!()
-            }
         }
     }
 }

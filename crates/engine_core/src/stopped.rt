@@ -1,23 +1,27 @@
 // A run at its next stop: what it executed by itself, and the right to take it further. It relies on `run` for runs that
 // are out, and on `interpreter` for the stop.
 
-ghost use Rattle.std.specs.Prelude.{◌≡◌, ◌↔◌, ℕ, IsTrue};
+ghost use Rattle.std.specs.Prelude.{◌≡◌, ◌↔◌, List, IsTrue};
 ghost use Rattle.std.specs.Arc.{arc_value};
-ghost use Rattle.bpf_semantics.specs.declared.stop.Stop.TheVariants.{Helper};
-ghost use Rattle.bpf_semantics.specs.Step.{IsAnswer, HasRoomFor, answered};
-ghost use Rattle.interpreter.specs.Segments.{StandsAt, stretch};
-ghost use Rattle.engine_runs.specs.RunPlaces.{HasRunAt};
-ghost use Rattle.world.specs.World.{LiveRun};
+ghost use Rattle.interpreter.specs.Segments.{stretch};
+ghost use Rattle.engine_runs.specs.Admits.{IsOutWith};
+ghost use Rattle.world_calls.specs.declared.record.Record.{Record as TheRecord};
+ghost use Rattle.world.specs.World.{Setup};
+ghost use Rattle.engine_core.specs.Answers.{r0_of, stopped_at};
+ghost use Rattle.engine_core.specs.Invariant.{HoldEntries, KeepsEngine};
+ghost use Rattle.engine_core.specs.Performing.{IsPlaced};
 ghost use Rattle.engine_core.specs.RunState.{IsStopped, before_stop};
-ghost use Rattle.engine_core.specs.TakingOver.{Goes, Stands};
+ghost use Rattle.engine_core.specs.TakingOver.{Becomes, LeadsBy};
 
+use crate::answers::AdvanceAnswer;
+use crate::commit_segment::{Onward, take_over};
 use crate::run::Run;
 use bpf_accepted::Accepted;
 use bpf_machine::Machine;
 use bpf_semantics::Stop;
 use ccb::QueueId;
 use engine_runs::Runs;
-use helpers::{Answer, Request};
+use engine_transport::Transport;
 use interpreter::stop_of;
 use std::marker::Model;
 use std::sync::Arc;
@@ -153,24 +157,23 @@ impl Stopped {
         self.back().spent()
     }
 
-    /// The run behind the helper call at which it stands, with an answer that the call may get: so it goes on, and so it is
-    /// recorded, at its place among the live runs.
+    /// Takes over what the run executed, which stands at this place among the live runs: it goes on in its next machine, or exited
+    /// and is gone.
     #[inline(always)]
-    pub(crate) fn go_on(
+    pub(crate) fn take_over(
         self,
+        transport: &mut Transport,
         runs: &mut Runs,
         place: usize,
-        request: &Request,
-        answer: &Answer,
-    ) -> Run
-        requires run { (it : LiveRun) × HasRunAt runs.old.runs.list place it }
-        requires stop { self.segment.stop ≡ Helper request.now }
-        requires stands { StandsAt self.segment.to request.now }
-        requires allowed { IsAnswer self.segment.to request.now answer.now }
-        requires room { HasRoomFor self.segment.to request.now }
-        ensures goes { Goes runs.old runs.new place (answered request.now answer.now self.segment.to) }
-        ensures place { Stands runs.old runs.new place (answered request.now answer.now self.segment.to) }
-        ensures again { result ≡ record (before_stop self) { machine = answered request.now answer.now self.segment.to } }
+        stop: &Stop,
+    ) -> AdvanceAnswer
+        requires of { (setup : Setup) × (history : List TheRecord) × KeepsEngine setup history transport.old runs.old }
+        requires out { IsOutWith runs.old.runs.list self.number self.segment.program.program self.segment.from }
+        requires place { IsPlaced runs.old.runs.list self.number place }
+        requires stop { self.segment.stop ≡ stop.now }
+        ensures leads { LeadsBy (stopped_at self.segment.stop) (r0_of result) place self.segment transport.old runs.old transport.new runs.new }
+        ensures becomes { Becomes self result runs.old.runs.list runs.new.runs.list place }
+        ensures tokens { HoldEntries transport.new.freezes runs.new }
     {
         let Stopped {
             number,
@@ -180,8 +183,16 @@ impl Stopped {
             to,
             steps: _,
         } = self;
-        let spare = runs.go_on(place, to, request, answer);
-        from.copy_from(runs.machine(place));
-        Run::new(number, queue, program, from, spare)
+        match take_over(transport, runs, place, to, stop) {
+            Onward::Goes(r0, spare) => {
+                from.copy_from(runs.machine(place));
+                AdvanceAnswer::Goes(Run::new(number, queue, program, from, spare), r0)
+            }
+            Onward::Ended(r0, spare) => {
+                runs.keep_place(from);
+                runs.keep_place(spare);
+                AdvanceAnswer::Ended(r0)
+            }
+        }
     }
 }

@@ -1,50 +1,43 @@
-// What is replied and recorded of a call that gives a value, or is refused. It relies on `reply` and on `world_calls`.
+// What is recorded of a call that gives a value, or is refused. It relies on `world_calls` for records.
 
 ghost use Rattle.std.specs.Prelude.{◌≡◌};
 ghost use Rattle.world_calls.specs.declared.record.Record.TheVariants.{Called};
+ghost use Rattle.world_calls.specs.declared.call_answer.CallAnswer.TheVariants as answers;
 ghost use Rattle.world_calls.specs.Answered.{ccb_answer, removed_answer};
-ghost use Rattle.engine_core.specs.Replies.{ccb_reply, removed_reply, refused_as};
 ghost use Rattle.engine_core.specs.ByNumber.{IsCalled, answer_told};
 
-use crate::reply::{Reply, Success};
-use ccb::CcbId;
-use world_calls::{Call, CallAnswer, CallRefusal, Record};
+use ccb::{CallRefusal, CcbId};
+use world_calls::{Call, CallAnswer, Record};
 
 /// A call that is refused.
-pub(crate) fn refused(refusal: CallRefusal, call: Call) -> (Reply, Record)
-    ensures { result ≡ refused_as refusal call }
+pub(crate) fn refused(refusal: CallRefusal, call: Call) -> Record
+    ensures { result ≡ Called (answers.Refused refusal) call }
 {
     let answer = CallAnswer::Refused(refusal);
-    (Reply::Refused(refusal), Record::Called { answer, call })
+    Record::Called { answer, call }
 }
 
 /// A submission or a start.
-pub(crate) fn ccb_told(answer: Result<CcbId, CallRefusal>, call: Call) -> (Reply, Record)
-    ensures { result ≡ (ccb_reply answer, Called (ccb_answer answer) call) }
+pub(crate) fn ccb_told(answer: Result<CcbId, CallRefusal>, call: Call) -> Record
+    ensures { result ≡ Called (ccb_answer answer) call }
 {
     match answer {
         Ok(ccb) => {
             let answer = CallAnswer::Ccb(ccb);
-            (
-                Reply::Success(Success::Ccb(ccb)),
-                Record::Called { answer, call },
-            )
+            Record::Called { answer, call }
         }
         Err(refusal) => refused(refusal, call),
     }
 }
 
 /// A clock reading.
-pub(crate) fn removed_told(answer: Result<u32, CallRefusal>, call: Call) -> (Reply, Record)
-    ensures { result ≡ (removed_reply answer, Called (removed_answer answer) call) }
+pub(crate) fn removed_told(answer: Result<u32, CallRefusal>, call: Call) -> Record
+    ensures { result ≡ Called (removed_answer answer) call }
 {
     match answer {
         Ok(count) => {
             let answer = CallAnswer::Removed(count);
-            (
-                Reply::Success(Success::Removed(count)),
-                Record::Called { answer, call },
-            )
+            Record::Called { answer, call }
         }
         Err(refusal) => refused(refusal, call),
     }

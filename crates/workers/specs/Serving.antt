@@ -10,6 +10,8 @@ use Rattle.world.specs.World.{Setup}
 use Rattle.engine_core.specs.RunState.{RunState}
 use Rattle.engine_core.specs.declared.event.Event.{Event}
 use Rattle.engine_core.specs.declared.event.Event.TheVariants.{Complete, Advance}
+use Rattle.engine_core.specs.declared.reply.Returned.{Returned}
+use Rattle.engine_core.specs.declared.reply.Returned.TheVariants as its
 use Rattle.engine_core.specs.declared.reply.Reply.{Reply}
 use Rattle.engine_core.specs.declared.reply.Reply.TheVariants.{Success, Refused, OutOfMemory}
 use Rattle.engine_core.specs.declared.reply.Success.{Success as WhatIsGiven}
@@ -55,6 +57,11 @@ pub record Took (before after : PassView) (more : List Outcome) : Type 0 where
   pub shape : after.account.shape ≡ before.account.shape
   pub number : after.account.number ≡ before.account.number
   pub taken : after.account.taken ≡ before.account.taken ++ more
+
+-- a run came back
+abbrev pub IsRunBack : Returned → Type 0
+IsRunBack (its.Run run) = Unit {0}
+IsRunBack other = ⊥
 
 -- a worker asks for completions and advances alone
 abbrev pub Serves : Event → Type 0

@@ -2,11 +2,10 @@
 // `engine_lock` for calls, and on `engine_core` for what a run executes by itself, outside the lock.
 
 ghost use Rattle.std.specs.Prelude.{◌≡◌, ℕ, true, false, IfErr, IfSome, IfNone, OnOk};
-ghost use Rattle.engine_core.specs.Replies.{IsRunBack};
 ghost use Rattle.engine_core.specs.declared.reply.Returned.TheVariants as its;
 ghost use Rattle.engine_core.specs.declared.reply.Success.TheVariants.{Started};
 ghost use Rattle.engine_core.specs.declared.reply.Reply.TheVariants.{Refused};
-ghost use Rattle.workers.specs.Serving.{Ends, HasServed, HasStopped, IsReady, Leaves, StartsNone, is_answered, is_for_memory};
+ghost use Rattle.workers.specs.Serving.{Ends, HasServed, HasStopped, IsReady, IsRunBack, Leaves, StartsNone, is_answered, is_for_memory};
 
 use crate::gate::Gate;
 use crate::worker::{Kept, Worker};

@@ -11,7 +11,7 @@ use Rattle.engine_core.proofs.Performing.{refuses_completion, finishes_ccb, star
 use Rattle.engine_core.proofs.ccb_events.complete.Goals as goal
 
 pub returns-in-Refuse-clause-performs : goal.returns-in-Refuse-clause-performs
-returns-in-Refuse-clause-performs c = rw (c.refused.ensures, c.in-Ok.ensures.value)
+returns-in-Refuse-clause-performs c = rw (c.refused.ensures, c.in_ok-kept.ensures.value)
     (refuses_completion c.args.config.now c.args.transport.now c.args.runs.now c.args.completion c.in-Refuse.refusal (λ world. c.in-Refuse.ensures.step c.args.config.now world))
 
 pub finish-requires : goal.finish-requires
@@ -21,7 +21,7 @@ finish-requires c =
     (it, ccb_found c.args.completion.now.ccb.0 c.args.transport.now.live it (c.in-Finish.ensures.ready before), refl)
 
 pub returns-in-Finish-clause-performs : goal.returns-in-Finish-clause-performs
-returns-in-Finish-clause-performs c = rw (c.in-Ok.ensures.value)
+returns-in-Finish-clause-performs c = rw (c.in_ok-kept.ensures.value)
     (finishes_ccb c.args.config.now c.args.transport.now c.finish.new.self c.args.runs.now c.args.completion c.in-Finish.ccb c.finish.ensures (λ world. c.in-Finish.ensures.step c.args.config.now world))
 
 -- a run that starts
@@ -43,8 +43,8 @@ recover-requires-clause-room c world = (c.in-Recover.ensures.ready world).2
 pub recover-requires-clause-there : goal.recover-requires-clause-there
 recover-requires-clause-there c = (c.in-Recover.ensures.ready (opening c.args.config.now)).1
 
-pub returns-in-Ok-recover-clause-performs : goal.returns-in-Ok-recover-clause-performs
-returns-in-Ok-recover-clause-performs c = rw (c.in-Ok.ensures.value)
-    (starts_run c.args.config.now c.args.transport.now c.recover.new.transport c.args.runs.now c.recover.new.runs c.args.completion c.in-Ok-recover.run' c.number.result c.in-Ok-recover.freeze c.number.ensures c.in-Ok-recover.ensures.tokens
-    (λ world. c.in-Recover.ensures.step c.args.config.now world ∙ ap (λ (p : Reply × World). Some p) (c.in-Ok-recover.ensures.step world))
-    c.in-Ok-recover.ensures.out)
+pub returns-in_ok-run-in-Recover-clause-performs : goal.returns-in_ok-run-in-Recover-clause-performs
+returns-in_ok-run-in-Recover-clause-performs c = rw (c.in_ok-kept.ensures.value)
+    (starts_run c.args.config.now c.args.transport.now c.recover.new.transport c.args.runs.now c.recover.new.runs c.args.completion c.in_ok-run-in-Recover.run' c.number.result c.in_ok-run-in-Recover.freeze c.number.ensures c.in_ok-run-in-Recover.ensures.tokens
+    (λ world. c.in-Recover.ensures.step c.args.config.now world ∙ ap (λ (p : Reply × World). Some p) (c.in_ok-run-in-Recover.ensures.step world))
+    c.in_ok-run-in-Recover.ensures.out)

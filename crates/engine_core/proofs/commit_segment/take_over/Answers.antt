@@ -1,30 +1,28 @@
-use Rattle.std.proofs.Common.{◌≡◌, rules, sym, subst, ◌∙◌}
+use Rattle.std.proofs.Common.{◌≡◌, sym, subst, ◌∙◌, rules}
 use Rattle.bpf_semantics.specs.declared.stop.Stop.{Stop}
 use Rattle.bpf_semantics.specs.declared.stop.Stop.TheVariants.{Exit}
-use Rattle.engine_runs.specs.RunsState.{RunsState}
-use Rattle.engine_core.specs.Invariant.{HoldEntries}
-use Rattle.engine_core.specs.TakingOver.{LeadsBy}
-use Rattle.engine_core.specs.Answers.{stopped_at}
+use Rattle.engine_core.specs.TakingOver.{ArrivesAt, LeadsFrom}
 use Rattle.engine_core.proofs.StopEnds.{exiting, exit_ends, exit_holds, no_token}
 use Rattle.engine_core.proofs.commit_segment.take_over.Goals as goal
 
+pub answer-r0-requires : goal.answer-r0-requires
+answer-r0-requires c = subst (λ (s : Stop). ArrivesAt c.args.transport.now c.args.runs.now c.args.place c.args.to.value s) (search rules) c.requires
+
 pub end-requires-clause-run : goal.end-requires-clause-run
-end-requires-clause-run c = (c.requires.admitted.1.out.it, c.requires.admitted.1.there)
+end-requires-clause-run c = (c.requires.admitted.out.it, c.requires.admitted.there)
 
 pub end-requires-clause-nothing : goal.end-requires-clause-nothing
 end-requires-clause-nothing c =
-    no_token c.args.transport.now c.args.runs.now c.args.place c.args.run.segment c.requires.admitted.0 c.requires.admitted.1
-    (exiting c.args.transport.now c.args.runs.now c.args.place c.args.run.segment c.requires.stopped.segment c.requires.admitted.0 c.requires.admitted.1 c.in-Exit.r0 (search rules))
+    let is : c.args.stop.now ≡ Exit c.in-Exit.r0 = search rules in
+    no_token c.args.transport.now c.args.runs.now c.args.place c.requires.segment c.requires.number c.requires.admitted
+    (exiting c.args.transport.now c.args.runs.now c.args.place c.requires.segment c.requires.ends.segment_is c.requires.number c.requires.admitted c.in-Exit.r0 (c.requires.ends.stop_is ∙ is))
 
 pub returns-in-Exit-clause-leads : goal.returns-in-Exit-clause-leads
 returns-in-Exit-clause-leads c =
-    let is : c.args.run.segment.stop ≡ Exit c.in-Exit.r0 = search rules in
-    subst (λ (r : RunsState). LeadsBy (stopped_at c.args.run.segment.stop) c.in-Exit.r0 c.args.place c.args.run.segment c.args.transport.now c.args.runs.now c.args.transport.now r)
-    (sym (c.keep_place-in-Exit.ensures ∙ c.keep_place.ensures))
-    (subst (λ (s : Stop). LeadsBy (stopped_at s) c.in-Exit.r0 c.args.place c.args.run.segment c.args.transport.now c.args.runs.now c.args.transport.now c.end.new.self) (sym is)
-    (exit_ends c.args.transport.now c.args.runs.now c.end.new.self c.args.place c.args.run.segment c.in-Exit.r0 c.requires.stopped.segment is c.end.ensures))
+    let is : c.args.stop.now ≡ Exit c.in-Exit.r0 = search rules in
+    subst (λ (s : Stop). LeadsFrom c.args.to.value s c.in-Exit.r0 c.args.place c.args.transport.now c.args.runs.now c.args.transport.now c.end.new.self) (sym is)
+    (λ segment ends number admitted. exit_ends c.args.transport.now c.args.runs.now c.end.new.self c.args.place segment c.in-Exit.r0 ends.segment_is ends.stop_is c.end.ensures number admitted)
 
 pub returns-in-Exit-clause-tokens : goal.returns-in-Exit-clause-tokens
 returns-in-Exit-clause-tokens c =
-    subst (HoldEntries c.args.transport.now.freezes) (sym (c.keep_place-in-Exit.ensures ∙ c.keep_place.ensures))
-    (exit_holds c.args.transport.now c.args.runs.now c.end.new.self c.args.place c.args.run.segment c.requires.admitted.0 c.requires.admitted.1 c.end.ensures)
+    exit_holds c.args.transport.now c.args.runs.now c.end.new.self c.args.place c.requires.segment c.requires.number c.requires.admitted c.end.ensures

@@ -6,8 +6,8 @@ use Rattle.engine_core.proofs.Parking.{is_same_run, with_out_run}
 use Rattle.engine_core.proofs.Performing.{parks_it}
 use Rattle.engine_core.proofs.run_events.park.Goals as goal
 
-pub returns : goal.returns
-returns c setup transport history kept =
+pub returns-clause-performs : goal.returns-clause-performs
+returns-clause-performs c setup transport history kept =
     let there = c.requires.place in
     let same = is_same_run c.args.runs.now.runs.list c.args.run.number c.requires.out.it there.0 c.requires.out.found there.1 in
     let out : there.0.out ≡ true = sym (ap (λ (r : LiveRun). r.out) same) ∙ c.requires.out.recorded.0 in

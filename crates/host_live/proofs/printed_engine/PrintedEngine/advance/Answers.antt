@@ -29,4 +29,4 @@ returns-in-Ok-None-clause-made g c =
     ([], refl, rw (← c.self.view_is) (by_still c.self.inside.engine c.advance.new.self c.self.inside.printed _ _ none.0))
 
 pub returns-clause-refused : goal.returns-clause-refused
-returns-clause-refused g c = rw (← c.self.view_is) (by_still c.self.inside.engine c.advance.new.self c.self.inside.printed _ _ c.in-Err.ensures.refused)
+returns-clause-refused g c = rw (← c.self.view_is) (by_still c.self.inside.engine c.advance.new.self c.self.inside.printed _ _ c.in-Err.ensures.refused.0)

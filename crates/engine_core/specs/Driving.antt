@@ -1,0 +1,68 @@
+-- A run that goes on from stop to stop in one call.
+use Rattle.std.specs.Prelude.{◌≡◌, ℕ, ◌+◌, ◌≤◌}
+use Rattle.bpf_semantics.specs.Reached.{Reached}
+use Rattle.world.specs.World.{queue_setup}
+use Rattle.bpf_semantics.specs.declared.stop.Stop.TheVariants.{Exit as at_exit}
+use Rattle.interpreter.specs.Segments.{SegmentState, IsSegment}
+use Rattle.world_calls.specs.declared.record.Record.TheVariants.{Advance}
+use Rattle.world_calls.specs.declared.record.StoppedAt.TheVariants.{Exit}
+use Rattle.engine_core.specs.declared.answers.AdvanceAnswer.{AdvanceAnswer}
+use Rattle.engine_core.specs.declared.answers.AdvanceAnswer.TheVariants.{Goes}
+use Rattle.engine_core.specs.declared.answers.AdvanceFault.{AdvanceFault}
+use Rattle.engine_core.specs.declared.answers.AdvanceFault.TheVariants.{NotOut, OutOfMemory}
+use Rattle.engine_core.specs.declared.run_events.Progress.{Progress}
+use Rattle.engine_core.specs.Answers.{GoesOrEnds, r0_of, stopped_at}
+use Rattle.engine_core.specs.EngineState.{EngineState, Records}
+use Rattle.engine_core.specs.RunState.{RunState}
+use Rattle.engine_core.specs.Stepping.{GoesOnAt, IsRunAt, NextStretch}
+
+-- this segment is what the run executes from its machine up to its next stop
+pub record IsStretchOf (run : RunState) (segment : SegmentState) : Type 0 where
+  pub segment_is : IsSegment segment
+  pub program_is : segment.program.program ≡ run.program.program
+  pub from_is : segment.from ≡ run.machine
+
+-- The run executed any number of segments, each up to the call of a helper, and each is one record of the engine: so it goes on as that
+-- run in that engine.
+pub data WentOn (old : EngineState) (run : RunState) : EngineState → RunState → Type 0 where
+  begins : WentOn old run old run
+  goes_on : (between after : EngineState) (at again : RunState) (segment : SegmentState) (r0 : ℕ) →
+      WentOn old run between at → IsStretchOf at segment → Records between after (Advance at.number segment.steps (stopped_at segment.stop) r0) →
+      GoesOrEnds between.setup between.world after.world at segment (Goes again r0) → WentOn old run after again
+
+-- it went on so, and its last segment, one record more, ends with its exit, with this R0
+pub record RunsToExit (old : EngineState) (run : RunState) (r0 : ℕ) (new : EngineState) : Type 0 where
+  pub between : EngineState
+  pub at : RunState
+  pub went : WentOn old run between at
+  pub segment : SegmentState
+  pub stretch : IsStretchOf at segment
+  pub exits : segment.stop ≡ at_exit r0
+  pub recorded : Records between new (Advance at.number segment.steps Exit r0)
+
+-- After C4 the run and the engine are as they were. Where memory was refused the run is where it went on to.
+abbrev pub ComesBack : EngineState → RunState → AdvanceFault → RunState → EngineState → Type 0
+ComesBack old run NotOut back new = (back ≡ run) × (new ≡ old)
+ComesBack old run OutOfMemory back new = WentOn old run new back
+
+-- ---- inside
+
+-- the run at this place executed its next segment, which is one record of the engine
+pub record Steps (old : EngineState) (place : ℕ) (new : EngineState) (progress : Progress) : Type 0 where
+  pub next : NextStretch old.setup old.world.runs.list place
+  pub answer : AdvanceAnswer
+  pub steps_is : progress.instructions ≡ next.run.segment.steps
+  pub r0_is : progress.r0 ≡ r0_of answer
+  pub recorded : Records old new (Advance next.run.number next.run.segment.steps (stopped_at next.run.segment.stop) (r0_of answer))
+  pub goes_on : GoesOnAt progress.goes_on answer next.run next.out.it new.world.runs.list place
+
+-- The run went on to where it stands, and at most so many instructions of its budget are left.
+pub record IsDriven (old : EngineState) (run : RunState) (now : EngineState) (place left : ℕ) : Type 0 where
+  pub at : RunState
+  pub went : WentOn old run now at
+  pub here : IsRunAt now.world.runs.list at place
+  pub program : at.program ≡ run.program
+  pub number : at.number ≡ run.number
+  pub count : ℕ
+  pub reached : Reached at.program.program count at.machine
+  pub budget : (queue_setup now.setup here.out.it.queue).budget ≤ count + left

@@ -222,3 +222,30 @@ impl Responder for Presenting<'_> {
         }
     }
 }
+
+/// An engine that drives a run to its exit, whatever of it is handed in.
+#[derive(Drop)]
+pub struct Driving<'a> {
+    pub engine: &'a mut Engine,
+}
+
+impl Responder for Driving<'_> {
+    ghost use Rattle.std.specs.Prelude.{◌≡◌};
+
+    // it keeps the loan that it has
+    ghost answers = { λ old _ _ new. new.engine.ghost_name ≡ old.engine.ghost_name };
+
+    fn answer(&mut self, event: Event<'_>) -> Reply {
+        match event {
+            Event::Advance { run } => driven(self.engine, run.back()),
+            other => Reply::NotAdmitted(other.owned()),
+        }
+    }
+}
+
+fn driven(engine: &mut Engine, run: Run) -> Reply {
+    match engine.drive(run) {
+        Ok(r0) => Reply::Success(Success::Ended(r0)),
+        Err((fault, run)) => not_advanced(fault, run),
+    }
+}

@@ -119,7 +119,8 @@ impl Desk {
             Ok(Some(Request::Call(call))) => outcome_of(self.asked.call(&call)),
             Ok(Some(Request::Totals)) => Became::Sums,
             Ok(Some(Request::Step(run))) => outcome_of(self.asked.step(run)),
-            Ok(Some(Request::Drive(_) | Request::Drain)) => Became::Unknown,
+            Ok(Some(Request::Drive(run))) => outcome_of(self.asked.drive(run)),
+            Ok(Some(Request::Drain)) => Became::Unknown,
             Ok(None) => self.attempt_own(line),
             Err(AllocError) => Became::OutOfMemory,
         }

@@ -1,7 +1,7 @@
 // An engine, what it gave, and how far its history is told. It relies on `asking` for how it is asked, on `host_handles` for what it gave, and on
 // `trace` for lines.
 
-use crate::asking::{Asked, Manner};
+use crate::asking::{Asked, Driving, Manner};
 use base::OrMemory;
 use engine_core::{Config, Engine};
 use host_handles::{HeldHandles, Unanswered};
@@ -78,6 +78,9 @@ pub fn put_totals(out: &mut Vec<u8>, totals: Totals) -> Result<(), AllocError> {
     put(out, text.as_slice())
 }
 
+// More stops than the programs of the cases have.
+const MOST_STOPS: usize = 1000;
+
 impl Side {
     /// An engine of which nothing was asked.
     pub fn of(alloc: Global, engine: Engine, manner: Manner) -> Self {
@@ -101,6 +104,25 @@ impl Side {
     /// Lets the run of that number go on to its next stop.
     pub fn step(&mut self, run: u32) -> Result<(), Unanswered> {
         self.hands.advance(&mut self.asked, run)
+    }
+
+    /// Lets the run of that number go on up to its exit: by the one call for that, or stop by stop.
+    pub fn drive(&mut self, run: u32) -> Result<(), Unanswered> {
+        if self.asked.manner == Manner::Methods {
+            let mut driving = Driving {
+                engine: &mut self.asked.engine,
+            };
+            return self.hands.advance(&mut driving, run);
+        }
+        self.step(run)?;
+        for _ in 0..MOST_STOPS {
+            match self.step(run) {
+                Ok(()) => {}
+                Err(Unanswered::NotHeld) => return Ok(()),
+                Err(fault) => return Err(fault),
+            }
+        }
+        Err(Unanswered::NotHeld)
     }
 
     /// Puts the lines of the records that are not told yet.

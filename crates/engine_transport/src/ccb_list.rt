@@ -1,7 +1,7 @@
 // The live CCBs in the order of their numbers, for which room is taken once. It relies on `live_ccb` for what an entry is,
 // and on `cam_numbered_slots` for where it stands.
 
-ghost use Rattle.std.specs.Prelude.{◌≡◌, ◌+◌, ◌<◌, ◌≤◌, ◌++◌, [], ◌∷◌, ◌==◌, ℕ, not, length, filter, IfOk, IfSome, IfNone, None, Some, if◌then◌else◌};
+ghost use Rattle.std.specs.Prelude.{◌≡◌, ◌+◌, ◌<◌, ◌≤◌, ◌++◌, [], ◌∷◌, ◌==◌, ℕ, not, length, filter, slice_index_or, ◌↔◌, IfOk, IfSome, IfNone, IsSome, None, Some, if◌then◌else◌};
 ghost use Rattle.world.specs.Capacities.{most_ccbs};
 ghost use Rattle.world.specs.World.{LiveCcb as WorldCcb};
 ghost use Rattle.world.specs.Lookups.{ccb_of, with_ccb};
@@ -95,6 +95,18 @@ impl CcbList {
         ensures { (number : ℕ) → IsPlaceOf number self.now.live place → ccb_of number self.now.live ≡ Some result.now }
     {
         &self.ccbs[place]
+    }
+
+    /// The CCB that stands at this place; `None` exactly where fewer are there.
+    pub(crate) fn nth(&self, place: usize) -> Option<LiveCcb>
+        ensures there { IsSome result ↔ (place < length self.now.live) }
+        ensures value { IfSome result (λ live. live ≡ slice_index_or self.now.live place live) }
+    {
+        if place < self.ccbs.len() {
+            Some(self.ccbs[place])
+        } else {
+            None
+        }
     }
 
     /// One CCB more, under the number after the greatest given.

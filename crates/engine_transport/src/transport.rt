@@ -2,7 +2,7 @@
 // of the freezes that guests, runs and timers hold. It relies on `ccb_list` for the CCBs, on `queue_list` for the queues,
 // and on `freeze_ledger` for the freezes.
 
-ghost use Rattle.std.specs.Prelude.{◌≡◌, ℕ, ◌+◌, ◌<◌, ◌≤◌, ◌++◌, [], ◌∷◌, ◌==◌, ◌↔◌, not, true, false, length, map, filter, count_by, slice_index, slice_set, All, Contains, IsTrue, IsSome, IsNone, IsErrAnd, None, Some, IfOk, IfSome, IfNone, OnOk, OnErr};
+ghost use Rattle.std.specs.Prelude.{◌≡◌, ℕ, ◌+◌, ◌<◌, ◌≤◌, ◌++◌, [], ◌∷◌, ◌==◌, ◌↔◌, not, true, false, length, map, filter, count_by, slice_index, slice_index_or, slice_set, All, Contains, IsTrue, IsSome, IsNone, IsErrAnd, None, Some, IfOk, IfSome, IfNone, OnOk, OnErr};
 ghost use Rattle.std.specs.Option.{is_some};
 ghost use Rattle.ccb.specs.Ccb.{completed, requeued};
 ghost use Rattle.dev_queue.specs.State.{empty_queue};
@@ -175,6 +175,14 @@ impl Transport {
     {
         let place = self.ccbs.place_of(ccb)?;
         Some(*self.ccbs.at(place))
+    }
+
+    /// The live CCB at this place, from 0, in the order of their numbers, with where it is; `None` exactly where fewer are live.
+    pub fn live_at(&self, place: usize) -> Option<LiveCcb>
+        ensures there { IsSome result ↔ (place < length self.now.live) }
+        ensures value { IfSome result (λ live. live ≡ slice_index_or self.now.live place live) }
+    {
+        self.ccbs.nth(place)
     }
 
     /// The CCB of this number is finished and gone. It asks for an active one, or one in recovery.

@@ -60,7 +60,7 @@ is_on true e = refl
 is_on false e = absurd (let bad : true ≡ false = e in cc)
 
 -- the run as it began
-pub begins_so : (old : EngineState) (run : RunState) (place left : ℕ) (here : IsRunAt old.world.runs.list run place) → IsReached run → left ≡ (queue_setup old.setup here.out.it.queue).budget → IsDriven old run old place left
+pub begins_so : (old : EngineState) (run : RunState) (place left : ℕ) (here : IsRunAt old.world.runs.list run place) → IsReached run → left ≡ (queue_setup old.setup here.out.it.queue).budget → IsDriven old run old place left 0
 begins_so old run place left here reached budget = record {
   at = run;
   went = begins;
@@ -73,10 +73,10 @@ begins_so old run place left here reached budget = record {
 }
 
 -- and as it came back
-pub back_so : (old now : EngineState) (run back : RunState) (place left : ℕ) (d : IsDriven old run now place left) → back ≡ record run { machine = d.here.out.it.machine } → WentOn old run now back
-back_so old now run back place left d is =
+pub back_so : (old now : EngineState) (run back : RunState) (place left r0 : ℕ) (d : IsDriven old run now place left r0) → back ≡ record run { machine = d.here.out.it.machine } → WentOn old run now back r0
+back_so old now run back place left r0 d is =
     let same : d.at ≡ back = (λ i. record { number = d.number i; program = d.program i; machine = d.here.machine i }) ∙ sym is in
-    subst (WentOn old run now) same d.went
+    subst (λ (at : RunState). WentOn old run now at r0) same d.went
 
 -- what it did, where it goes on
 record Onward (answer : AdvanceAnswer) (run : StoppedState) (it : LiveRun) (after : List LiveRun) (place : ℕ) : Type 0 where
@@ -96,7 +96,7 @@ exits true answer run it after place e goes = absurd (let bad : true ≡ false =
 exits false (Goes again r0) run it after place e goes = absurd goes
 exits false (Ended r0) run it after place e goes = goes
 
-module _ (old now new : EngineState) (run : RunState) (place left : ℕ) (progress : Progress) (d : IsDriven old run now place left) (s : Steps now place new progress) where
+module _ (old now new : EngineState) (run : RunState) (place left before : ℕ) (progress : Progress) (d : IsDriven old run now place left before) (s : Steps now place new progress) where
   same : s.next.out.it ≡ d.here.out.it
   same = stands_once now.world.runs.list place s.next.out.it d.here.out.it s.next.out.there d.here.out.there
 
@@ -135,14 +135,13 @@ module _ (old now new : EngineState) (run : RunState) (place left : ℕ) (progre
       record {
         between = now;
         at = d.at;
+        before = before;
         went = d.went;
         segment = s.next.run.segment;
-        stretch = stretch;
-        exits = exit;
-        recorded = recorded (stopped_at (at_exit progress.r0)) progress.r0 (ap stopped_at exit) (sym s.r0_is);
+        last = record { stretch = stretch; recorded = recorded (stopped_at s.next.run.segment.stop) progress.r0 refl (sym s.r0_is); goes = exit };
       }
 
-  pub goes_further : progress.goes_on ≡ true → IsDriven old run new place (left - progress.instructions)
+  pub goes_further : progress.goes_on ≡ true → IsDriven old run new place (left - progress.instructions) progress.r0
   goes_further going =
       let list : List LiveRun = new.world.runs.list in
       let on = onward progress.goes_on s.answer s.next.run s.next.out.it list place going s.goes_on in
@@ -155,15 +154,19 @@ module _ (old now new : EngineState) (run : RunState) (place left : ℕ) (progre
       let setup : (queue_setup new.setup it.queue).budget ≡ (queue_setup now.setup it.queue).budget = ap (λ (x : Setup). (queue_setup x it.queue).budget) s.recorded.setup in
       record {
         at = again;
-        went = goes_on now new d.at again s.next.run.segment on.r0 d.went stretch (recorded (stopped_at s.next.run.segment.stop) on.r0 refl (ap r0_of on.is)) (
-          refl,
-          refl,
-          out,
-          λ under.
-              let both : Some under.out.it ≡ Some d.here.out.it = sym under.out.found ∙ (ap (λ (n : ℕ). run_of n now.world.runs.list) d.here.number ∙ d.here.out.found) in
-              let one : under.out.it ≡ d.here.out.it = cc in
-              record { out = out; budget = under.budget ∙ ap (λ (x : LiveRun). (queue_setup now.setup x.queue).budget) one; limits = under.limits },
-        );
+        went = goes_on now new d.at again before progress.r0 s.next.run.segment d.went (record {
+          stretch = stretch;
+          recorded = recorded (stopped_at s.next.run.segment.stop) progress.r0 refl (sym s.r0_is);
+          goes = (
+            refl,
+            refl,
+            out,
+            λ under.
+                let both : Some under.out.it ≡ Some d.here.out.it = sym under.out.found ∙ (ap (λ (n : ℕ). run_of n now.world.runs.list) d.here.number ∙ d.here.out.found) in
+                let one : under.out.it ≡ d.here.out.it = cc in
+                record { out = out; budget = under.budget ∙ ap (λ (x : LiveRun). (queue_setup now.setup x.queue).budget) one; limits = under.limits },
+          );
+        });
         here = record { out = record { it = it; there = there; found = found; out = d.here.out.out }; number = d.here.number; program = d.here.program; machine = refl };
         program = d.program;
         number = d.number;

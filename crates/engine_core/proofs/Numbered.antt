@@ -10,6 +10,7 @@ use Rattle.freeze_ledger.specs.Freezes.{entry_of}
 use Rattle.engine_runs.specs.RunsState.{RunsState, no_runs}
 use Rattle.engine_runs.specs.RunPlaces.{HasRunAt}
 use Rattle.helpers.specs.declared.limits.HelperLimits.{HelperLimits}
+use Rattle.bpf_semantics.specs.MachineState.{MachineState}
 use Rattle.bpf_semantics.specs.declared.stop.Stop.{Stop}
 use Rattle.bpf_semantics.specs.declared.stop.Stop.TheVariants.{Helper, Exit}
 use Rattle.world_calls.specs.declared.call.Call.{Call}
@@ -34,12 +35,10 @@ use Rattle.world.proofs.Lists.Found.{found_key}
 use Rattle.world.proofs.Steps.Moves.{lists_of, run_key}
 use Rattle.world_laws.proofs.Leads.{leads_split, world_after_leads}
 use Rattle.engine_core.specs.declared.event.Event.{Event as TheEvent}
-use Rattle.engine_core.specs.declared.event.Event.TheVariants as events
 use Rattle.engine_core.specs.declared.reply.Reply.{Reply as TheReply}
-use Rattle.engine_core.specs.declared.reply.Reply.TheVariants as replied
 use Rattle.engine_core.specs.declared.run_events.Progress.{Progress}
 use Rattle.engine_core.specs.Answers.{r0_of, stopped_at}
-use Rattle.engine_core.specs.Stepping.{IsOutAt, IsStep}
+use Rattle.engine_core.specs.Stepping.{IsOutAt, IsStep, StopsAt}
 use Rattle.engine_core.specs.EngineState.{world_of}
 use Rattle.engine_core.specs.Invariant.{HoldEntries, KeepsEngine}
 use Rattle.engine_core.specs.Looking.{AsksNext, StopsNext, asked_at, first_out}
@@ -228,6 +227,14 @@ stops_next setup list number it again run found out is stopped whole =
 pub asks : (runs : List LiveRun) (number : ℕ) (stop : Stop) → StopsNext runs number stop → AsksNext runs number (asked_at stop)
 asks runs number (Helper request) it = it
 asks runs number (Exit r0) it = λ live found out. (r0, it)
+
+-- and what one asks that comes to a stop where it is recorded
+pub asks_there : (setup : Setup) (list : List LiveRun) (number place : ℕ) (it : LiveRun) (to : MachineState) (steps : ℕ) (stop : Stop) → run_of number list ≡ Some it → HasRunAt list place it → StopsAt setup list place to steps stop → AsksNext list number (asked_at stop)
+asks_there setup list number place it to steps stop found there stops =
+    let next = stops.next in
+    let same : next.out.it ≡ it = stands_once list place next.out.it it next.out.there there in
+    asks list number stop (subst (λ (s : Stop). StopsNext list number s) stops.ends.stop_is
+    (stops_next setup list number next.out.it (before_stop next.run) next.run (found ∙ ap (λ (run : LiveRun). Some run) (sym same)) next.out.out next.again refl next.stopped))
 
 -- ---- the first run that is out
 

@@ -16,7 +16,6 @@ use Rattle.world.specs.FreezeSteps.{is_guest}
 use Rattle.world.specs.WorldRun.{WorldRun}
 use Rattle.world.specs.Flat.{flat}
 use Rattle.engine_runs.specs.RunsState.{RunsState}
-use Rattle.engine_core.specs.declared.event.Event.TheVariants as events
 use Rattle.engine_core.specs.Invariant.{KeepsEngine}
 use Rattle.engine_core.specs.TakingOver.{LeadsTo}
 

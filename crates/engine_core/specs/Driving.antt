@@ -2,12 +2,10 @@
 use Rattle.std.specs.Prelude.{◌≡◌, ℕ, ◌+◌, ◌≤◌}
 use Rattle.bpf_semantics.specs.Reached.{Reached}
 use Rattle.world.specs.World.{queue_setup}
-use Rattle.bpf_semantics.specs.declared.stop.Stop.TheVariants.{Exit as at_exit}
 use Rattle.interpreter.specs.Segments.{SegmentState, IsSegment}
 use Rattle.world_calls.specs.declared.record.Record.TheVariants.{Advance}
-use Rattle.world_calls.specs.declared.record.StoppedAt.TheVariants.{Exit}
 use Rattle.engine_core.specs.declared.answers.AdvanceAnswer.{AdvanceAnswer}
-use Rattle.engine_core.specs.declared.answers.AdvanceAnswer.TheVariants.{Goes}
+use Rattle.engine_core.specs.declared.answers.AdvanceAnswer.TheVariants.{Goes, Ended}
 use Rattle.engine_core.specs.declared.answers.AdvanceFault.{AdvanceFault}
 use Rattle.engine_core.specs.declared.answers.AdvanceFault.TheVariants.{NotOut, OutOfMemory}
 use Rattle.engine_core.specs.declared.run_events.Progress.{Progress}
@@ -16,34 +14,38 @@ use Rattle.engine_core.specs.EngineState.{EngineState, Records}
 use Rattle.engine_core.specs.RunState.{RunState}
 use Rattle.engine_core.specs.Stepping.{GoesOnAt, IsRunAt, NextStretch}
 
--- this segment is what the run executes from its machine up to its next stop
+-- This segment is what the run executes from its machine up to its next stop.
 pub record IsStretchOf (run : RunState) (segment : SegmentState) : Type 0 where
   pub segment_is : IsSegment segment
   pub program_is : segment.program.program ≡ run.program.program
   pub from_is : segment.from ≡ run.machine
 
--- The run executed any number of segments, each up to the call of a helper, and each is one record of the engine: so it goes on as that
--- run in that engine.
-pub data WentOn (old : EngineState) (run : RunState) : EngineState → RunState → Type 0 where
-  begins : WentOn old run old run
-  goes_on : (between after : EngineState) (at again : RunState) (segment : SegmentState) (r0 : ℕ) →
-      WentOn old run between at → IsStretchOf at segment → Records between after (Advance at.number segment.steps (stopped_at segment.stop) r0) →
-      GoesOrEnds between.setup between.world after.world at segment (Goes again r0) → WentOn old run after again
+-- The run executed this segment, and the engine took it over at its stop: one record more, and the run goes on or has ended.
+pub record TakesOver (old : EngineState) (run : RunState) (segment : SegmentState) (answer : AdvanceAnswer) (new : EngineState) : Type 0 where
+  pub stretch : IsStretchOf run segment
+  pub recorded : Records old new (Advance run.number segment.steps (stopped_at segment.stop) (r0_of answer))
+  pub goes : GoesOrEnds old.setup old.world new.world run segment answer
 
--- it went on so, and its last segment, one record more, ends with its exit, with this R0
+-- Any number of segments were taken over, after each of which the run went on: so it goes on as that run in that engine, with R0 after
+-- the last of them, or 0 if there was none.
+pub data WentOn (old : EngineState) (run : RunState) : EngineState → RunState → ℕ → Type 0 where
+  begins : WentOn old run old run 0
+  goes_on : (between after : EngineState) (at again : RunState) (before r0 : ℕ) (segment : SegmentState) →
+      WentOn old run between at before → TakesOver between at segment (Goes again r0) after → WentOn old run after again r0
+
+-- It went on so, and a last segment was taken over, at whose stop it exited with this R0.
 pub record RunsToExit (old : EngineState) (run : RunState) (r0 : ℕ) (new : EngineState) : Type 0 where
   pub between : EngineState
   pub at : RunState
-  pub went : WentOn old run between at
+  pub before : ℕ
+  pub went : WentOn old run between at before
   pub segment : SegmentState
-  pub stretch : IsStretchOf at segment
-  pub exits : segment.stop ≡ at_exit r0
-  pub recorded : Records between new (Advance at.number segment.steps Exit r0)
+  pub last : TakesOver between at segment (Ended r0) new
 
--- After C4 the run and the engine are as they were. Where memory was refused the run is where it went on to.
-abbrev pub ComesBack : EngineState → RunState → AdvanceFault → RunState → EngineState → Type 0
-ComesBack old run NotOut back new = (back ≡ run) × (new ≡ old)
-ComesBack old run OutOfMemory back new = WentOn old run new back
+-- After C4 the run and the engine are as they were. If memory was refused, the run is where it went on to.
+abbrev pub ComesBack : EngineState → RunState → AdvanceFault → RunState → ℕ → EngineState → Type 0
+ComesBack old run NotOut back r0 new = (back ≡ run) × (r0 ≡ 0) × (new ≡ old)
+ComesBack old run OutOfMemory back r0 new = WentOn old run new back r0
 
 -- ---- inside
 
@@ -57,9 +59,9 @@ pub record Steps (old : EngineState) (place : ℕ) (new : EngineState) (progress
   pub goes_on : GoesOnAt progress.goes_on answer next.run next.out.it new.world.runs.list place
 
 -- The run went on to where it stands, and at most so many instructions of its budget are left.
-pub record IsDriven (old : EngineState) (run : RunState) (now : EngineState) (place left : ℕ) : Type 0 where
+pub record IsDriven (old : EngineState) (run : RunState) (now : EngineState) (place left r0 : ℕ) : Type 0 where
   pub at : RunState
-  pub went : WentOn old run now at
+  pub went : WentOn old run now at r0
   pub here : IsRunAt now.world.runs.list at place
   pub program : at.program ≡ run.program
   pub number : at.number ≡ run.number

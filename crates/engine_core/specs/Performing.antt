@@ -1,5 +1,5 @@
 -- What an event needs of an engine's parts, and what it makes of them.
-use Rattle.std.specs.Prelude.{◌≡◌, ℕ, ◌+◌, ◌≤◌, List, Some}
+use Rattle.std.specs.Prelude.{◌≡◌, ℕ, ◌+◌, List, Some}
 use Rattle.engine_runs.specs.RunsState.{RunsState}
 use Rattle.engine_runs.specs.RunPlaces.{HasRunAt}
 use Rattle.world_calls.specs.declared.record.Record.{Record}

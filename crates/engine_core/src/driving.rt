@@ -15,32 +15,52 @@ use crate::run::Run;
 use crate::run_events::{Progress, go_on_here};
 use std::alloc::AllocError;
 
+/// A run that did not come to its exit.
+pub struct DriveFault {
+    pub why: AdvanceFault,
+    /// The run, where it stands.
+    pub run: Run,
+    /// R0 after the last stop that was recorded, 0 if there was none.
+    pub r0: u64,
+}
+
 impl Engine {
     /// Lets a run that is out go on until it exits: R0 at its exit. At each of its stops it does what `Run::to_stop` and `go_on`
     /// would do by turns, and records the same, but faster: its right is tested once, and its instructions are executed in a
-    /// machine of the engine's own. C4, which is not recorded, exactly where no run of that number is out in this engine, or its program or
-    /// its machine is not the recorded one; programs are compared by their instructions. C4 hands the run back and changes
-    /// nothing. Where memory is refused the run comes back in the machine to which it came, and what it did up to there stays
-    /// recorded.
-    pub fn drive(&mut self, run: Run) -> Result<u64, (AdvanceFault, Run)>
+    /// machine of the engine's own. C4, which is not recorded, exactly where no run of that number is out in this engine, or its
+    /// program or its machine is not the recorded one; programs are compared by their instructions. C4 hands the run back and
+    /// changes nothing. Where memory is refused the run comes back in the machine to which it came, and what it did up to there
+    /// stays recorded.
+    pub fn drive(&mut self, run: Run) -> Result<u64, DriveFault>
         ensures ended { IfOk result (λ r0. RunsToExit self.old run r0 self.new) }
-        ensures admitted { MatchResult result (λ _. IsOut self.old.world run) (λ fault. AdmitsUnlessTold fault.0 (IsOut self.old.world run)) }
-        ensures back { IfErr result (λ fault. ComesBack self.old run fault.0 fault.1 self.new) }
+        ensures admitted { MatchResult result (λ _. IsOut self.old.world run) (λ fault. AdmitsUnlessTold fault.why (IsOut self.old.world run)) }
+        ensures back { IfErr result (λ fault. ComesBack self.old run fault.why fault.run fault.r0 self.new) }
         ensures run { IsRun self.new }
     {
         let Some(place) = self.place_of_run(&run) else {
-            return Err((AdvanceFault::NotOut, run));
+            return Err(DriveFault {
+                why: AdvanceFault::NotOut,
+                run,
+                r0: 0,
+            });
         };
         let mut left = self.budget_at(place);
+        let mut r0 = 0;
         loop {
             let Ok(progress) = self.step(place) else {
-                return Err((AdvanceFault::OutOfMemory, self.back_at(run, place)));
+                let run = self.back_at(run, place);
+                return Err(DriveFault {
+                    why: AdvanceFault::OutOfMemory,
+                    run,
+                    r0,
+                });
             };
             if !progress.goes_on {
                 self.spend(run);
                 return Ok(progress.r0);
             }
             left -= progress.instructions;
+            r0 = progress.r0;
         }
     }
 

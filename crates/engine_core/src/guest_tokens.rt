@@ -37,13 +37,15 @@ impl Numbered for GuestToken {
 }
 
 impl GuestToken {
+    /// The token, which may be dropped from now on.
     pub fn new(token: FreezeToken) -> Self
         ensures { result ≡ token }
     {
         GuestToken(token)
     }
 
-    fn into_token(self) -> FreezeToken
+    /// The token itself.
+    pub fn into_token(self) -> FreezeToken
         ensures { result ≡ self }
     {
         let GuestToken(token) = self;

@@ -27,6 +27,7 @@ mod stopped;
 mod told;
 
 pub use answers::{AdvanceAnswer, AdvanceFault, CallFault, CompleteAnswer, ReleaseFault};
+pub use driving::DriveFault;
 pub use engine::Engine;
 pub use engine_config::Config;
 pub use engine_transport::LiveCcb;

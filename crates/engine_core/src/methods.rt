@@ -250,12 +250,8 @@ impl Engine {
         self.freeze_place(Place::Controller(controller), guest)
     }
 
-    /// Freezes a place for a guest, of whatever kind it is.
-    pub(crate) fn freeze_place(
-        &mut self,
-        place: Place,
-        guest: u32,
-    ) -> Result<FreezeToken, CallFault>
+    /// Freezes a place of either kind for a guest, as `guest_freeze` a queue and `guest_freeze_controller` a controller.
+    pub fn freeze_place(&mut self, place: Place, guest: u32) -> Result<FreezeToken, CallFault>
         ensures taken { IfOk result (λ token. Records self.old self.new (Called (answers.Freeze token.number) (GuestFreeze place guest))) }
         ensures token { IfOk result (λ token. GuestHolds self.new.world token × (token.place ≡ place) × (token.holder ≡ Guest guest)) }
         ensures fault { IfErr result (λ fault. FaultIs fault (self.new ≡ self.old) (λ refusal. Records self.old self.new (Called (answers.Refused refusal) (GuestFreeze place guest)))) }

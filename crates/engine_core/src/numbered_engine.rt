@@ -2,7 +2,7 @@
 // freezes, and has the runs and the tokens itself. It relies on `parts` for what an event does, and on `world` for what may
 // happen.
 
-ghost use Rattle.std.specs.Prelude.{◌≡◌, ◌<◌, ◌↔◌, ◌∷◌, [], ◌++◌, length, Some, None, IsNone, IsSome, IsTrue, IfSome, IfNone, IfOk, OnErr, false, IsOk};
+ghost use Rattle.std.specs.Prelude.{◌≡◌, ◌<◌, ◌↔◌, ◌∷◌, [], ◌++◌, length, slice_index_or, Some, None, IsNone, IsSome, IsTrue, IfSome, IfNone, IfOk, OnErr, false, IsOk};
 ghost use Rattle.world_calls.specs.declared.call.Call.TheVariants.{Clock, Complete, Dispatch, GuestFreeze, GuestRelease, Park, Resume, Submit};
 ghost use Rattle.world_calls.specs.declared.record.Record.TheVariants.{Called};
 ghost use Rattle.freeze_ledger.specs.Deadlines.{some_timer};
@@ -21,7 +21,7 @@ use crate::engine::rooms;
 use crate::freeze_events::read_clock;
 use crate::guest_tokens::{GuestToken, has_token, take_token};
 use crate::parts::Parts;
-use crate::run_events::{go_on_here, resume, run_at};
+use crate::run_events::{go_on_here, resume, to_stop};
 use crate::run_info::RunInfo;
 use crate::told::answer_in;
 use bpf_semantics::Stop;
@@ -127,13 +127,7 @@ impl<'a> NumberedEngine<'a> {
         ensures setup { self.new.setup ≡ self.old.setup }
         ensures refused { OnErr result (self.new ≡ self.old) }
     {
-        let sense = completion.sense();
-        match Completion::new(
-            completion.ccb(),
-            completion.status(),
-            completion.scsi(),
-            sense.as_slice(),
-        ) {
+        match completion.completion() {
             Some(completion) => Ok(Some(self.completed(&completion)?)),
             None => Ok(None),
         }
@@ -292,12 +286,18 @@ impl<'a> NumberedEngine<'a> {
         let Some(place) = self.parts.runs.out_at(run) else {
             return Ok(None);
         };
-        let stopped = run_at(self.config, &mut self.parts.runs, place)?.to_stop();
-        let request = request_of(stopped.stop());
-        let (machine, next) = stopped.spent();
-        self.parts.runs.keep_place(machine);
-        self.parts.runs.keep_place(next);
-        Ok(request)
+        let mut to = self.parts.runs.place_for_machine()?;
+        let (_, stop) = to_stop(self.config, &self.parts.runs, place, &mut to);
+        self.parts.runs.keep_place(to);
+        Ok(request_of(stop))
+    }
+
+    /// The live CCB at this place, from 0, in the order of their numbers, with where it is; `None` exactly where fewer are live.
+    pub fn ccb_at(&self, place: usize) -> Option<LiveCcb>
+        ensures there { IsSome result ↔ (place < length self.now.transport.live) }
+        ensures value { IfSome result (λ live. live ≡ slice_index_or self.now.transport.live place live) }
+    {
+        self.parts.transport.live_at(place)
     }
 
     /// When the timer is due that goes first, in milliseconds of the clock; `None` exactly if no timer holds a freeze: before that

@@ -75,10 +75,10 @@ pub(crate) struct Progress {
     pub(crate) goes_on: bool,
 }
 
-// Executes what the run at this place does by itself, in that machine: how many instructions there are, with that of its next stop,
-// and the stop.
+/// Executes what the run at this place does by itself, in that machine: how many instructions there are, with that of its next stop,
+/// and the stop.
 #[inline(always)]
-fn to_stop(config: &Config, runs: &Runs, place: usize, to: &mut Machine) -> (u32, Stop)
+pub(crate) fn to_stop(config: &Config, runs: &Runs, place: usize, to: &mut Machine) -> (u32, Stop)
     requires of { (transport : TheTransport) × (history : List TheRecord) × KeepsEngine config.now history transport runs.now }
     requires out { IsOutAt runs.now.runs.list place }
     ensures { StopsAt config.now runs.now.runs.list place to.new result.0 result.1 }
@@ -169,9 +169,9 @@ pub(crate) fn resume(
     Ok((Ok(again), Record::Called { answer, call }))
 }
 
-/// The right to take the run at this place further, made anew, for one whose right was spent. Where memory is refused nothing
-/// changes.
-pub(crate) fn run_at(config: &Config, runs: &mut Runs, place: usize) -> Result<Run, AllocError>
+// The right to take the run at this place further, made anew, for one whose right was spent. Where memory is refused nothing
+// changes.
+fn run_at(config: &Config, runs: &mut Runs, place: usize) -> Result<Run, AllocError>
     requires of { (transport : TheTransport) × (history : List TheRecord) × KeepsEngine config.now history transport runs.old }
     requires place { (run : ℕ) × IsPlaced runs.old.runs.list run place }
     ensures again { (it : LiveRun) → HasRunAt runs.old.runs.list place it → IfOk result (IsAgain config.now it) }

@@ -3,8 +3,8 @@
 
 use ccb::{CcbId, Place};
 use engine_core::{
-    AdvanceAnswer, AdvanceFault, CallFault, CompleteAnswer, Engine, Event, ReleaseFault, Reply,
-    Returned, Run, Stopped, Success,
+    AdvanceAnswer, AdvanceFault, CallFault, CompleteAnswer, DriveFault, Engine, Event,
+    ReleaseFault, Reply, Returned, Run, Stopped, Success,
 };
 use freeze_ledger::FreezeToken;
 use host_handles::Responder;
@@ -146,7 +146,10 @@ fn not_advanced(fault: AdvanceFault, run: Run) -> Reply {
 fn stop_replied(answer: Result<AdvanceAnswer, (AdvanceFault, Run)>) -> Reply {
     match answer {
         Ok(answer) => advanced(answer),
-        Err((fault, run)) => not_advanced(fault, run),
+        Err(fault) => {
+            let DriveFault { why, run, r0: _ } = fault;
+            not_advanced(why, run)
+        }
     }
 }
 

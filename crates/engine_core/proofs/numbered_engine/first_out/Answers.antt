@@ -1,4 +1,4 @@
-use Rattle.std.proofs.Common.{◌≡◌, ◌<◌, ◌≤◌, length, refl, sym, ◌∙◌, arith}
+use Rattle.std.proofs.Common.{◌<◌, length, refl, sym, ◌∙◌, arith}
 use Rattle.engine_core.proofs.Numbered.{none_out, out_first, parked_first, run_there}
 use Rattle.engine_core.proofs.numbered_engine.first_out.Goals as goal
 

@@ -1,4 +1,3 @@
-use Rattle.std.proofs.Common.{◌≡◌, ◌∙◌}
 use Rattle.engine_core.proofs.Stepping.{arrives_so, codes_so, stepped}
 use Rattle.engine_core.proofs.run_events.go_on_here.Goals as goal
 

@@ -12,14 +12,14 @@ loop-progress-init c =
 pub returns-then-not-progress-clause-ended : goal.returns-then-not-progress-clause-ended
 returns-then-not-progress-clause-ended c =
     subst (λ (s : EngineState). RunsToExit c.args.self.now c.args.run c.in-Ok.progress.r0 s) (sym c.spend.ensures)
-    (runs_out c.args.self.now c.loop-progress.self c.step.new.self c.args.run c.in-Some.place c.loop-progress.left c.in-Ok.progress c.loop-progress.invariant c.in-Ok.ensures.steps (is_off c.in-Ok.progress.goes_on c.if-not-progress.true))
+    (runs_out c.args.self.now c.loop-progress.self c.step.new.self c.args.run c.in-Some.place c.loop-progress.left c.loop-progress.r0 c.in-Ok.progress c.loop-progress.invariant c.in-Ok.ensures.steps (is_off c.in-Ok.progress.goes_on c.if-not-progress.true))
 
 pub overflow_sub-left : goal.overflow_sub-left
-overflow_sub-left c = few c.args.self.now c.loop-progress.self c.step.new.self c.args.run c.in-Some.place c.loop-progress.left c.in-Ok.progress c.loop-progress.invariant c.in-Ok.ensures.steps
+overflow_sub-left c = few c.args.self.now c.loop-progress.self c.step.new.self c.args.run c.in-Some.place c.loop-progress.left c.loop-progress.r0 c.in-Ok.progress c.loop-progress.invariant c.in-Ok.ensures.steps
 
 pub loop-progress-smaller : goal.loop-progress-smaller
-loop-progress-smaller c = fewer c.args.self.now c.loop-progress.self c.step.new.self c.args.run c.in-Some.place c.loop-progress.left c.in-Ok.progress c.loop-progress.invariant c.in-Ok.ensures.steps
+loop-progress-smaller c = fewer c.args.self.now c.loop-progress.self c.step.new.self c.args.run c.in-Some.place c.loop-progress.left c.loop-progress.r0 c.in-Ok.progress c.loop-progress.invariant c.in-Ok.ensures.steps
 
 pub loop-progress-preserved : goal.loop-progress-preserved
 loop-progress-preserved c =
-    goes_further c.args.self.now c.loop-progress.self c.step.new.self c.args.run c.in-Some.place c.loop-progress.left c.in-Ok.progress c.loop-progress.invariant c.in-Ok.ensures.steps (is_on c.in-Ok.progress.goes_on c.if-not-progress.false)
+    goes_further c.args.self.now c.loop-progress.self c.step.new.self c.args.run c.in-Some.place c.loop-progress.left c.loop-progress.r0 c.in-Ok.progress c.loop-progress.invariant c.in-Ok.ensures.steps (is_on c.in-Ok.progress.goes_on c.if-not-progress.false)

@@ -1,5 +1,4 @@
-use Rattle.std.proofs.Common.{◌≡◌, sym, subst, ◌∙◌}
-use Rattle.world_calls.specs.declared.call.Call.TheVariants as calls
+use Rattle.std.proofs.Common.{sym, subst, ◌∙◌}
 use Rattle.engine_core.specs.declared.event.Event.TheVariants as events
 use Rattle.world_calls.specs.declared.record.Record.{Record}
 use Rattle.engine_core.specs.EngineState.{EngineState, Records, world_of}

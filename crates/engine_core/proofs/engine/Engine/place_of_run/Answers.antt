@@ -1,4 +1,4 @@
-use Rattle.std.proofs.Common.{ℕ, ◌↔◌, ◌≡◌, IfSome, ap, subst, ◌∙◌}
+use Rattle.std.proofs.Common.{◌≡◌, IfSome, ap, subst, ◌∙◌}
 use Rattle.bpf_accepted.specs.Verdict.{Verdict}
 use Rattle.engine_core.specs.EngineState.{EngineState}
 use Rattle.engine_core.specs.Stepping.{IsRunAt}

@@ -1,9 +1,16 @@
-use Rattle.engine_core.proofs.Numbered.{asks, stops_next}
+use Rattle.std.proofs.Common.{subst}
+use Rattle.engine_runs.specs.RunsState.{RunsState}
+use Rattle.engine_core.specs.Stepping.{StopsAt}
+use Rattle.engine_core.proofs.Numbered.{asks_there, out_there}
 use Rattle.engine_core.proofs.numbered_engine.NumberedEngine.asked.Goals as goal
+
+pub to_stop-stop-requires-clause-out : goal.to_stop-stop-requires-clause-out
+to_stop-stop-requires-clause-out c =
+    let there = c.in-Some.ensures.place in
+    rw c.place_for_machine.ensures (out_there c.self.inside.parts.runs.runs.list c.in-Some.place c.args.run there.0 there.1 there.2 there.3)
 
 pub returns-clause-asked : goal.returns-clause-asked
 returns-clause-asked c =
     let there = c.in-Some.ensures.place in
-    let list = c.self.inside.parts.runs.runs.list in
-    let stops = stops_next c.self.inside.config.now list c.args.run there.0 c.in_ok-run_at.field-0 c.to_stop-stopped.result there.1 there.2 (c.in_ok-run_at.ensures.again there.0 there.3) c.to_stop-stopped.ensures.run c.to_stop-stopped.ensures.stopped in
-    rw (← c.self.view_is, c.request_of-request.ensures, c.stop.ensures.stop) (asks list c.args.run c.to_stop-stopped.result.segment.stop stops)
+    rw (← c.self.view_is, c.request_of.ensures) (asks_there c.self.inside.config.now c.self.inside.parts.runs.runs.list c.args.run c.in-Some.place there.0 c.to_stop-stop.new.to c.to_stop-stop.result.0 c.to_stop-stop.result.1 there.1 there.3
+    (subst (λ (runs : RunsState). StopsAt c.self.inside.config.now runs.runs.list c.in-Some.place c.to_stop-stop.new.to c.to_stop-stop.result.0 c.to_stop-stop.result.1) c.place_for_machine.ensures c.to_stop-stop.ensures))

@@ -3,8 +3,4 @@ use Rattle.engine_core.proofs.Numbered.{no_completion}
 use Rattle.engine_core.proofs.numbered_engine.NumberedEngine.complete.Goals as goal
 
 pub returns-in-None-clause-answered : goal.returns-in-None-clause-answered
-returns-in-None-clause-answered c = (
-  refl,
-  λ answer. no_completion c.args.self.now c.args.completion.now answer (λ is. c.in-None.ensures
-      (rw (c.ccb.ensures, c.status.ensures, c.scsi.ensures, c.as_slice.ensures.value, c.sense-sense.ensures) is)),
-)
+returns-in-None-clause-answered c = (refl, λ answer. no_completion c.args.self.now c.args.completion.now answer c.in-None.ensures)

@@ -4,11 +4,11 @@ ghost use Rattle.std.specs.Prelude.{◌≡◌, [], Err, MatchResult, Ok};
 ghost use Rattle.world_calls.specs.declared.call_answer.CallAnswer.{CallAnswer};
 ghost use Rattle.host_handles.specs.Handles.{HasNoRun, IsAdvanceOf, IsOfCall, IsSettled, IsUnheld, handles};
 
-use crate::held::{HeldRun, HeldToken};
+use crate::held::HeldRun;
 use crate::making::{advance, make};
 use crate::responder::Responder;
 use crate::unanswered::Unanswered;
-use engine_core::{Call, CallAnswer};
+use engine_core::{Call, CallAnswer, GuestToken};
 use std::alloc::Global;
 use std::marker::Model;
 
@@ -18,7 +18,7 @@ use std::marker::Model;
 pub struct HeldHandles {
     // both in the order of the numbers
     runs: Vec<HeldRun>,
-    tokens: Vec<HeldToken>,
+    tokens: Vec<GuestToken>,
 }
 
 impl Model for HeldHandles {

@@ -4,16 +4,16 @@ ghost use Rattle.std.specs.Prelude.{◌≡◌, ◌<◌, length, vec_capacity};
 ghost use Rattle.engine_core.specs.Replies.{answer_of};
 ghost use Rattle.host_handles.specs.Handles.{AreSorted, IsRepliedTo, KeepsGiven, KeepsReturned, handles};
 
-use crate::held::{HeldRun, HeldToken};
+use crate::held::HeldRun;
 use crate::responder::Responder;
 use crate::sorted::put;
 use crate::unanswered::Unanswered;
-use engine_core::{CallAnswer, Event, Reply, Returned, Success};
+use engine_core::{CallAnswer, Event, GuestToken, Reply, Returned, Success};
 
 /// Asks what an event leads to, and keeps the run or the token that is given, or that comes back, for which there is room.
 pub(crate) fn ask<A: Responder>(
     runs: &mut Vec<HeldRun>,
-    tokens: &mut Vec<HeldToken>,
+    tokens: &mut Vec<GuestToken>,
     asked: &mut A,
     event: Event<'_>,
 ) -> Result<CallAnswer, Unanswered>
@@ -62,7 +62,7 @@ fn answer_of(given: &Success) -> CallAnswer
 }
 
 // Keeps a run or a token that is given.
-fn keep_given(runs: &mut Vec<HeldRun>, tokens: &mut Vec<HeldToken>, given: Success)
+fn keep_given(runs: &mut Vec<HeldRun>, tokens: &mut Vec<GuestToken>, given: Success)
     requires sorted { AreSorted runs.old.items tokens.old.items }
     requires runs { length runs.old.items < vec_capacity runs.old }
     requires tokens { length tokens.old.items < vec_capacity tokens.old }
@@ -73,7 +73,7 @@ fn keep_given(runs: &mut Vec<HeldRun>, tokens: &mut Vec<HeldToken>, given: Succe
         Success::Started(run, _) | Success::Goes(run, _) | Success::Resumed(run) => {
             put(runs, HeldRun::new(run))
         }
-        Success::Freeze(token) => put(tokens, HeldToken::new(token)),
+        Success::Freeze(token) => put(tokens, GuestToken::new(token)),
         Success::Ccb(_)
         | Success::Done
         | Success::Ended(_)
@@ -84,7 +84,7 @@ fn keep_given(runs: &mut Vec<HeldRun>, tokens: &mut Vec<HeldToken>, given: Succe
 }
 
 // Keeps what comes back.
-fn keep_returned(runs: &mut Vec<HeldRun>, tokens: &mut Vec<HeldToken>, back: Returned)
+fn keep_returned(runs: &mut Vec<HeldRun>, tokens: &mut Vec<GuestToken>, back: Returned)
     requires sorted { AreSorted runs.old.items tokens.old.items }
     requires runs { length runs.old.items < vec_capacity runs.old }
     requires tokens { length tokens.old.items < vec_capacity tokens.old }
@@ -94,6 +94,6 @@ fn keep_returned(runs: &mut Vec<HeldRun>, tokens: &mut Vec<HeldToken>, back: Ret
     match back {
         Returned::Nothing => {}
         Returned::Run(run) => put(runs, HeldRun::new(run)),
-        Returned::Token(token) => put(tokens, HeldToken::new(token)),
+        Returned::Token(token) => put(tokens, GuestToken::new(token)),
     }
 }

@@ -4,17 +4,17 @@ ghost use Rattle.std.specs.Prelude.{◌≡◌, ◌<◌, Err, MatchResult, Ok, le
 ghost use Rattle.world_calls.specs.declared.call_answer.CallAnswer.{CallAnswer};
 ghost use Rattle.host_handles.specs.Handles.{AreSorted, HasNoRun, IsAdvanceOf, IsOfCall, IsSettled, IsUnheld, handles};
 
-use crate::held::{HeldRun, HeldToken};
+use crate::held::HeldRun;
 use crate::keeping::ask;
 use crate::responder::Responder;
 use crate::sorted::take;
 use crate::unanswered::Unanswered;
-use engine_core::{Call, CallAnswer, Event};
+use engine_core::{Call, CallAnswer, Event, GuestToken};
 
 /// Asks what a call leads to, with the run or the token that it names, and keeps what is given or comes back. There is room for that.
 pub(crate) fn make<A: Responder>(
     runs: &mut Vec<HeldRun>,
-    tokens: &mut Vec<HeldToken>,
+    tokens: &mut Vec<GuestToken>,
     asked: &mut A,
     call: &Call,
 ) -> Result<CallAnswer, Unanswered>
@@ -91,7 +91,7 @@ pub(crate) fn make<A: Responder>(
 /// room for that.
 pub(crate) fn advance<A: Responder>(
     runs: &mut Vec<HeldRun>,
-    tokens: &mut Vec<HeldToken>,
+    tokens: &mut Vec<GuestToken>,
     asked: &mut A,
     run: u32,
 ) -> Result<(), Unanswered>

@@ -127,12 +127,13 @@ static void parks(void)
     uint64_t r0;
     bool ended;
     WANT(camr_stretch(run) == CAMR_DONE && camr_advance(other, run, &r0, &ended) == CAMR_NOT_OUT);
+    WANT(camr_drive(other, run, &r0, &ended) == CAMR_NOT_OUT && !ended && r0 == 0);
     WANT(camr_park(other, run) == CAMR_NOT_OUT && camr_park(engine, run) == CAMR_DONE);
     WANT(camr_stretch(run) == CAMR_SPENT && camr_drive(engine, run, &r0, &ended) == CAMR_SPENT && !ended);
     camr_run_free(run);
     WANT(camr_resume(engine, 2, &none) == CAMR_UNKNOWN && none == NULL);
     WANT(camr_resume(engine, 1, &again) == CAMR_DONE && again != NULL);
-    WANT(camr_stretch(again) == CAMR_DONE);
+    WANT(camr_stretch(again) == CAMR_DONE && camr_drive(engine, again, &r0, &ended) == CAMR_DONE && ended && r0 == 7);
     camr_close(other);
     camr_close(engine);
     camr_run_free(again);

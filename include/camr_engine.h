@@ -317,9 +317,10 @@ static inline camr_result camr_advance(camr_engine *engine, camr_run *run, uint6
     return camr_raw_advance(&engine, &run, r0, ended);
 }
 
-/* Stretches and advances a run until it has ended. What a result stops it at is as camr_stretch and camr_advance tell: what went
- * before is recorded. A run ends within its program's budget, so *ended is true where the result is CAMR_DONE. With every other
- * result *ended is false, and *r0 is R0 after the last stop that was recorded, or 0 if there was none. */
+/* Takes a run from stop to stop until it has ended, with R0 at its exit: what camr_stretch and camr_advance do by turns, with the same
+ * records, but faster. A run that was stretched is stretched again. With every result but CAMR_DONE *ended is false. CAMR_SPENT.
+ * CAMR_NOT_OUT: it is a run of another engine, and is back behind its last stop. CAMR_OUT_OF_MEMORY: what it did up to its last stop
+ * is recorded, *r0 is R0 after that, or 0 if there was none, and it is driven on from there. CAMR_NULL. */
 static inline camr_result camr_drive(camr_engine *engine, camr_run *run, uint64_t *r0, bool *ended)
 {
     if (engine == NULL || run == NULL || r0 == NULL || ended == NULL) return CAMR_NULL;

@@ -91,7 +91,7 @@ pub extern "C" fn camr_raw_drive(
     requires engine { IsSome engine.old.held }
     requires run { IsSome run.old.held }
     ensures did { CalledWith result engine.old engine.new run.old run.new (λ its before after was is.
-        IsDriven its was is before after r0.old r0.new ended.new) }
+        IsDriven its (out_of was) is before after r0.new ended.new) }
     ensures few { result < 22 }
     ensures unended { result ≢ 0 → ended.new ≡ false }
 {

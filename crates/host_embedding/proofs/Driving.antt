@@ -1,45 +1,53 @@
--- A run that is driven: turns, and what comes last.
-use Rattle.std.proofs.Common.{◌≡◌, ◌≢◌, ◌∙◌, ℕ, Bool, true, false, List, ◌∷◌, length, inl, inr, refl, subst}
+-- A run that is driven: what the engine is then, and what of it is kept.
+use Rattle.std.proofs.Common.{◌≡◌, ◌∙◌, ℕ, Bool, true, false, List, Some, refl, ap}
+use Rattle.freeze_ledger.specs.declared.freeze.Freeze.{Freeze}
+use Rattle.engine_core.specs.declared.answers.AdvanceFault.{AdvanceFault}
+use Rattle.engine_core.specs.declared.answers.AdvanceFault.TheVariants.{NotOut, OutOfMemory}
+use Rattle.engine_core.specs.Driving.{ComesBack, RunsToExit, WentOn, begins, goes_on}
 use Rattle.engine_core.specs.EngineState.{EngineState}
+use Rattle.engine_core.specs.Faults.{AdmitsUnlessTold}
+use Rattle.engine_core.specs.RunState.{IsOut, RunState}
 use Rattle.host_embedding.specs.declared.call_result.CallResult.{CallResult}
 use Rattle.host_embedding.specs.declared.call_result.CallResult.TheVariants.{Done}
-use Rattle.host_embedding.specs.declared.call_result.CallResult.TheVariants as results
 use Rattle.host_embedding.specs.declared.run_handle.HeldRun.{HeldRun}
-use Rattle.host_embedding.specs.declared.run_handle.HeldRun.TheVariants.{Out, Stopped, Spent}
-use Rattle.host_embedding.specs.Calls.{AreTurns, Between, IsAdvanced, IsDriven}
-use Rattle.host_embedding.specs.Held.{IsStretched}
+use Rattle.host_embedding.specs.declared.run_handle.HeldRun.TheVariants.{Out, Spent}
+use Rattle.host_embedding.specs.Calls.{HasMoreRecords, IsDriven}
+use Rattle.host_embedding.specs.Guests.{HasGuests}
+use Rattle.host_embedding.specs.Results.{advanced_result}
+use Rattle.host_embedding.proofs.Going.{goes_none, goes_one, goes_then}
+use Rattle.host_embedding.proofs.Guests.{same, stays_advanced}
 
--- no run but one that is spent is told anything but that it came to its stop
-told_spent : (result : CallResult) (run held : HeldRun) → IsStretched result run held → (result ≡ Done → ⊥) → (result ≡ results.Spent) × (run ≡ Spent) × (held ≡ Spent)
-told_spent result (Out run) held it other = absurd (other it.0)
-told_spent result (Stopped stopped) held it other = absurd (other it.0)
-told_spent result Spent held it other = (it.0, refl, it.1)
+-- a run that went on
 
-pub ends_spent : (was : HeldRun) (before : EngineState) (reported : ℕ) (steps : List Between) (run : HeldRun) (engine : EngineState) (result : CallResult) (held : HeldRun) (r0 : ℕ) (ended : Bool)
-    → AreTurns (was, before, reported) steps (run, engine, r0) → IsStretched result run held → (result ≡ Done → ⊥) → ended ≡ false → IsDriven result was held before engine reported r0 ended
-ends_spent was before reported steps run engine result held r0 ended turns stretched other open_yet =
-    let told = told_spent result run held stretched other in
-    record { turns = steps; last_turn = (run, engine, r0); are_turns = turns; last = inr (inl (told.0, told.1, told.2, refl, refl, open_yet)) }
+went_records : (old : EngineState) (run : RunState) (now : EngineState) (at : RunState) (r0 : ℕ) → WentOn old run now at r0 → HasMoreRecords old now
+went_records old run now at r0 begins = goes_none old old refl
+went_records old run now at r0 (goes_on between after was again before told segment earlier taken) = goes_then old between after (went_records old run between was before earlier) (goes_one between after _ taken.recorded)
 
-pub ends_last : (was : HeldRun) (before : EngineState) (reported : ℕ) (steps : List Between) (run : HeldRun) (engine : EngineState) (between : ℕ) (stretched result : CallResult) (stopped held : HeldRun) (after : EngineState) (r0 : ℕ) (begun ended : Bool)
-    → AreTurns (was, before, reported) steps (run, engine, between) → IsStretched stretched run stopped → stretched ≡ Done → IsAdvanced result stopped held engine after r0 ended → (result ≡ Done → ended ≡ true)
-    → (result ≢ Done → (r0 ≡ between) × (ended ≡ begun)) → begun ≡ false → IsDriven result was held before after reported r0 ended
-ends_last was before reported steps run engine between stretched result stopped held after r0 begun ended turns stretch done advance over kept open_yet = record {
-  turns = steps;
-  last_turn = (run, engine, between);
-  are_turns = turns;
-  last = inl (stopped, subst (λ it. IsStretched it run stopped) done stretch, advance, over, λ other. let same = kept other in (same.0, same.1 ∙ open_yet));
-}
+went_guests : (old : EngineState) (run : RunState) (tokens : List Freeze) → HasGuests old tokens → (now : EngineState) (at : RunState) (r0 : ℕ) → WentOn old run now at r0 → HasGuests now tokens
+went_guests old run tokens has now at r0 begins = has
+went_guests old run tokens has now at r0 (goes_on between after was again before told segment earlier taken) = stays_advanced between after _ _ _ _ tokens (went_guests old run tokens has between was before earlier) taken.recorded
 
-pub ends_open : (was : HeldRun) (before : EngineState) (reported : ℕ) (steps : List Between) (run : HeldRun) (engine : EngineState) (r0 : ℕ) (ended : Bool)
-    → AreTurns (was, before, reported) steps (run, engine, r0) → length steps ≡ 4294967295 → ended ≡ false → IsDriven Done was run before engine reported r0 ended
-ends_open was before reported steps run engine r0 ended turns count open_yet =
-    record { turns = steps; last_turn = (run, engine, r0); are_turns = turns; last = inr (inr (refl, open_yet, refl, refl, refl, count)) }
+-- one that came to its exit
 
-pub turns_on : (start : Between) (steps : List Between) (run : HeldRun) (engine : EngineState) (between : ℕ) (stretched result : CallResult) (stopped held : HeldRun) (after : EngineState) (r0 : ℕ) (ended : Bool)
-    → AreTurns start steps (run, engine, between) → IsStretched stretched run stopped → stretched ≡ Done → IsAdvanced result stopped held engine after r0 ended → result ≡ Done → ended ≡ false
-    → AreTurns start ((run, engine, between) ∷ steps) (held, after, r0)
-turns_on start steps run engine between stretched result stopped held after r0 ended turns stretch done advance carried open_yet =
-    let its : IsAdvanced Done stopped held engine after r0 false =
-    subst (λ it. IsAdvanced Done stopped held engine after r0 it) open_yet (subst (λ it. IsAdvanced it stopped held engine after r0 ended) carried advance) in
-    (turns, (stopped, subst (λ it. IsStretched it run stopped) done stretch, its))
+pub goes_to_exit : (old new : EngineState) (run : RunState) (r0 : ℕ) → RunsToExit old run r0 new → HasMoreRecords old new
+goes_to_exit old new run r0 ran = goes_then old ran.between new (went_records old run ran.between ran.at ran.before ran.went) (goes_one ran.between new _ ran.last.recorded)
+
+pub guests_at_exit : (old new : EngineState) (run : RunState) (r0 : ℕ) (tokens : List Freeze) → HasGuests old tokens → RunsToExit old run r0 new → HasGuests new tokens
+guests_at_exit old new run r0 tokens has ran = stays_advanced ran.between new _ _ _ _ tokens (went_guests old run tokens has ran.between ran.at ran.before ran.went) ran.last.recorded
+
+pub exits : (old new : EngineState) (run : RunState) (r0 : ℕ) (held : HeldRun) (ended : Bool) → RunsToExit old run r0 new → IsOut old.world run → held ≡ Spent → ended ≡ true → IsDriven Done (Some run) held old new r0 ended
+exits old new run r0 held ended ran out spent is = (ran, out, spent, is)
+
+-- one that came back
+
+pub goes_on_to : (old new : EngineState) (run back : RunState) (fault : AdvanceFault) (r0 : ℕ) → ComesBack old run fault back r0 new → HasMoreRecords old new
+goes_on_to old new run back NotOut r0 came = goes_none old new came.2
+goes_on_to old new run back OutOfMemory r0 came = went_records old run new back r0 came
+
+pub guests_at_stop : (old new : EngineState) (run back : RunState) (fault : AdvanceFault) (r0 : ℕ) (tokens : List Freeze) → HasGuests old tokens → ComesBack old run fault back r0 new → HasGuests new tokens
+guests_at_stop old new run back NotOut r0 tokens has came = same old new tokens has came.2
+guests_at_stop old new run back OutOfMemory r0 tokens has came = went_guests old run tokens has new back r0 came
+
+pub stops : (old new : EngineState) (run back : RunState) (fault : AdvanceFault) (r0 : ℕ) (held : HeldRun) (ended : Bool) (result : CallResult) → ComesBack old run fault back r0 new → AdmitsUnlessTold fault (IsOut old.world run) → held ≡ Out back → ended ≡ false → result ≡ advanced_result fault → IsDriven result (Some run) held old new r0 ended
+stops old new run back NotOut r0 held ended result came admits is unended is_result = rw is_result (is ∙ ap Out came.0, came.2, admits, came.1, unended)
+stops old new run back OutOfMemory r0 held ended result came admits is unended is_result = rw is_result ((back, is, came), unended)

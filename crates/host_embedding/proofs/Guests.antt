@@ -13,8 +13,10 @@ use Rattle.ccb.specs.declared.call_refusal.CallRefusal.{CallRefusal}
 use Rattle.world_calls.specs.declared.record.Record.{Record}
 use Rattle.world_calls.specs.declared.record.Record.TheVariants.{Called, Advance}
 use Rattle.world_calls.specs.declared.record.StoppedAt.{StoppedAt}
-use Rattle.world.specs.World.{Setup, World}
-use Rattle.world.specs.Event.{Reply, called, refused, replies}
+use Rattle.world.specs.World.{Setup, World, opening}
+use Rattle.world.specs.Lawful.{IsLawful}
+use Rattle.world.specs.WorldRun.{WorldRun}
+use Rattle.world.specs.Event.{Event, Reply, called, refused, replies}
 use Rattle.world.specs.FreezeSteps.{froze, is_guest}
 use Rattle.world.specs.Refusals.{refusals_of}
 use Rattle.world.specs.Step.{WorldStep}
@@ -22,7 +24,7 @@ use Rattle.world.specs.Flat.{events_of, flat}
 use Rattle.world.proofs.Lists.Entries.{freeze_key}
 use Rattle.world.proofs.Lists.Rising.{missing_high}
 use Rattle.world.proofs.Steps.Moves.{KeepsLists}
-use Rattle.world_laws.proofs.Leads.{lists_are_kept}
+use Rattle.world_laws.proofs.Leads.{leads_append, lists_are_kept}
 use Rattle.world_laws.proofs.Steps.Cases.{guest_release_parts}
 use Rattle.world_laws.proofs.Steps.Refusing.{by_refusals}
 use Rattle.world_laws.proofs.Steps.Running.{some_is}
@@ -35,6 +37,7 @@ use Rattle.engine_core.specs.EngineState.{EngineState, IsRun, Records, GuestHold
 use Rattle.engine_core.specs.ByNumber.{AreTokens, guests_of}
 use Rattle.engine_core.proofs.Guests.{AreOthers, IsOthers, guests_stay, advance_is_others, guest_among, guest_entered, guest_left, tokens_rise}
 use Rattle.engine_core.proofs.Holding.{its_entry}
+use Rattle.engine_core.proofs.Recording.{flat_push}
 use Rattle.host_embedding.specs.declared.call_result.CallResult.{CallResult}
 use Rattle.host_embedding.specs.Calls.{IsReleased}
 use Rattle.host_embedding.specs.Guests.{HasGuests}
@@ -42,6 +45,14 @@ use Rattle.host_embedding.specs.Results.{released_result}
 
 lists : (state : EngineState) → IsRun state → KeepsLists state.setup state.world
 lists state run = lists_are_kept state.setup (flat state.history) state.world run.run
+
+-- an engine with one record more is the run of its history
+run_more : (old new : EngineState) (told : Record) → IsRun old → Records old new told → IsRun new
+run_more old new told is records =
+    let run : WorldRun old.setup (flat new.history) new.world =
+    subst (λ (xs : List (Event × Reply)). WorldRun old.setup xs new.world) (sym (ap flat records.history ∙ flat_push old.history told))
+    (leads_append old.setup (opening old.setup) (flat old.history) (events_of told) old.world new.world is.run records.step) in
+    record { lawful = subst IsLawful (sym records.setup) is.lawful; run = subst (λ (s : Setup). WorldRun s (flat new.history) new.world) (sym records.setup) run }
 
 pub begins : (state : EngineState) (tokens : List Freeze) → IsRun state → guests_of state.world.transport.freezes ≡ [] → tokens ≡ [] → HasGuests state tokens
 begins state tokens run none empty = record { run = run; all = empty ∙ sym none }
@@ -62,6 +73,10 @@ stay old new answer its tokens has others records run = others_stay old new (Cal
 -- an advance
 pub stay_advanced : (old new : EngineState) (run instructions : ℕ) (stop : StoppedAt) (r0 : ℕ) (tokens : List Freeze) → HasGuests old tokens → Records old new (Advance run instructions stop r0) → IsRun new → HasGuests new tokens
 stay_advanced old new run instructions stop r0 tokens has records is = others_stay old new (Advance run instructions stop r0) tokens has (advance_is_others run instructions stop r0) records is
+
+-- whose engine is the run of its history again
+pub stays_advanced : (old new : EngineState) (run instructions : ℕ) (stop : StoppedAt) (r0 : ℕ) (tokens : List Freeze) → HasGuests old tokens → Records old new (Advance run instructions stop r0) → HasGuests new tokens
+stays_advanced old new run instructions stop r0 tokens has records = stay_advanced old new run instructions stop r0 tokens has records (run_more old new (Advance run instructions stop r0) has.run records)
 
 -- a call that was not carried out
 pub stay_faulted : (old new : EngineState) (fault : CallFault) (its : Call) (tokens : List Freeze) → HasGuests old tokens → IsOthers (called its) → FaultIs fault (new ≡ old) (λ (refusal : CallRefusal). Records old new (Called (answers.Refused refusal) its)) → IsRun new → HasGuests new tokens

@@ -1,5 +1,5 @@
 -- What a result says of a call: it is recorded, carried out or refused, or nothing changed.
-use Rattle.std.specs.Prelude.{◌≡◌, ◌≢◌, ℕ, Bool, true, false, Option, Some, None, IsSome, List, [], ◌∷◌, ◌++◌, ◌⊎◌, length, Result, Ok, Err}
+use Rattle.std.specs.Prelude.{◌≡◌, ℕ, Bool, true, false, Option, Some, None, IsSome, List, ◌++◌, Result, Ok, Err}
 use Rattle.std.specs.Global.{Box}
 use Rattle.ccb.specs.declared.place.Place.{Place}
 use Rattle.freeze_ledger.specs.Freezes.{entry_of}
@@ -13,6 +13,7 @@ use Rattle.world_calls.specs.declared.record.Record.TheVariants.{Called, Advance
 use Rattle.engine_core.specs.Answers.{stopped_at}
 use Rattle.engine_core.specs.EngineState.{EngineState, Records}
 use Rattle.engine_core.specs.ByNumber.{guests_of}
+use Rattle.engine_core.specs.Driving.{RunsToExit, WentOn}
 use Rattle.engine_core.specs.RunState.{RunState, StoppedState, before_stop, IsOut, IsOutUnder}
 use Rattle.host_embedding.specs.declared.call_result.CallResult.{CallResult}
 use Rattle.host_embedding.specs.declared.call_result.CallResult.TheVariants.{Done, OutOfMemory, Refused, NotOut, NoToken, NotStretched}
@@ -20,7 +21,6 @@ use Rattle.host_embedding.specs.declared.call_result.CallResult.TheVariants as r
 use Rattle.host_embedding.specs.declared.run_handle.HeldRun.{HeldRun}
 use Rattle.host_embedding.specs.declared.run_handle.HeldRun.TheVariants.{Out, Stopped, Spent}
 use Rattle.host_embedding.specs.declared.run_handle.RunHandle.{RunHandle}
-use Rattle.host_embedding.specs.Held.{IsStretched}
 
 -- a call that was not carried out: refused, it is one record more that tells so, and where memory was refused the engine is as
 -- before; it is told no other result
@@ -114,38 +114,12 @@ pub record HasMoreRecords (old new : EngineState) : Type 0 where
   pub history : new.history ≡ old.history ++ more
   pub setup : new.setup ≡ old.setup
 
--- ---- a run that is driven
-
--- one turn: the run is stretched to its next stop, taken over there with this R0 after it, and goes on
-abbrev pub IsTurn : HeldRun → EngineState → HeldRun → EngineState → ℕ → Type 0
-IsTurn was before held after r0 = (stopped : HeldRun) × IsStretched Done was stopped × IsAdvanced Done stopped held before after r0 false
-
--- where a turn begins: the run, the engine, and R0 as it was reported last
-abbrev pub Between : Type 0
-Between = HeldRun × EngineState × ℕ
-
--- turns, by where each began, the last of them first; if none is made, nothing changes
-abbrev pub AreTurns : Between → List Between → Between → Type 0
-AreTurns start [] end = (end.0 ≡ start.0) × (end.1 ≡ start.1) × (end.2 ≡ start.2)
-AreTurns start (between ∷ rest) end = AreTurns start rest between × IsTurn between.0 between.1 end.0 end.1 end.2
-
--- what comes last: an advance with this result, after which the run has ended, or which is not carried out and reports nothing
-abbrev pub IsLastAdvance : CallResult → HeldRun → HeldRun → EngineState → EngineState → ℕ → ℕ → Bool → Type 0
-IsLastAdvance result was held before after reported r0 ended =
-    (stopped : HeldRun) × IsStretched Done was stopped × IsAdvanced result stopped held before after r0 ended × (result ≡ Done → ended ≡ true)
-    × (result ≢ Done → (r0 ≡ reported) × (ended ≡ false))
-
--- or the run is spent, which is reported; or as many turns were made as may be
-abbrev pub IsLast : CallResult → ℕ → HeldRun → HeldRun → EngineState → EngineState → ℕ → ℕ → Bool → Type 0
-IsLast result turns was held before after reported r0 ended =
-    IsLastAdvance result was held before after reported r0 ended
-    ⊎ ((result ≡ results.Spent) × (was ≡ Spent) × (held ≡ Spent) × (after ≡ before) × (r0 ≡ reported) × (ended ≡ false))
-    ⊎ ((result ≡ Done) × (ended ≡ false) × (held ≡ was) × (after ≡ before) × (r0 ≡ reported) × (turns ≡ 4294967295))
-
--- A drive with this result: turns, and what comes last. If the result is another than Done, R0 is that of the last turn, or what it was
--- before if there was no turn, and the run is not reported to have ended.
-pub record IsDriven (result : CallResult) (was held : HeldRun) (before after : EngineState) (reported r0 : ℕ) (ended : Bool) : Type 0 where
-  pub turns : List Between
-  pub last_turn : Between
-  pub are_turns : AreTurns (was, before, reported) turns last_turn
-  pub last : IsLast result (length turns) last_turn.0 held last_turn.1 after last_turn.2 r0 ended
+-- A drive with this result, of the run that was out, if one was, and how it is held then: done, it came to its exit, with this R0. If
+-- memory was refused, it is where it went on to, with R0 after its last stop, or 0 if there was none. If it is not out in this engine,
+-- which is reported exactly then, or is spent, nothing changes.
+abbrev pub IsDriven : CallResult → Option RunState → HeldRun → EngineState → EngineState → ℕ → Bool → Type 0
+IsDriven result None held old new r0 ended = (result ≡ results.Spent) × (held ≡ Spent) × (new ≡ old) × (r0 ≡ 0) × (ended ≡ false)
+IsDriven Done (Some run) held old new r0 ended = RunsToExit old run r0 new × IsOut old.world run × (held ≡ Spent) × (ended ≡ true)
+IsDriven OutOfMemory (Some run) held old new r0 ended = ((back : RunState) × (held ≡ Out back) × WentOn old run new back r0) × (ended ≡ false)
+IsDriven NotOut (Some run) held old new r0 ended = (held ≡ Out run) × (new ≡ old) × (IsOut old.world run → ⊥) × (r0 ≡ 0) × (ended ≡ false)
+IsDriven result (Some run) held old new r0 ended = ⊥

@@ -10,7 +10,7 @@ use crate::call_result::CallResult;
 use crate::engine_handle::EngineHandle;
 use crate::run_handle::{HeldRun, RunHandle};
 use ccb::Completion;
-use engine_core::{AdvanceAnswer, CompleteAnswer};
+use engine_core::{AdvanceAnswer, CompleteAnswer, DriveFault};
 use std::alloc::Global;
 
 impl EngineHandle {
@@ -75,29 +75,38 @@ impl EngineHandle {
         }
     }
 
-    /// Takes a run from stop to stop until it has ended, with R0 at its exit. A run has no more stops than its program's budget
-    /// has instructions: if that many were made, it would go on, which is reported. If the result is another than `Done`, R0 is that
-    /// after the last stop that was taken over, or as it was, and `ended` is false.
-    #[tactic(auto, using(crate::proofs::Going::goes_then, crate::proofs::Going::goes_none, crate::proofs::Driving::ends_spent, crate::proofs::Driving::ends_open))]
+    /// Takes a run from stop to stop until it has ended, with R0 at its exit. What it did since its last stop is done again. Where
+    /// memory is refused it goes on from the last stop that was recorded, with R0 after it, or 0 if there was none. Where it is not
+    /// out in this engine it is back where it was.
+    #[tactic(auto, using(crate::proofs::Driving::exits, crate::proofs::Driving::stops))]
     pub fn drive(&mut self, run: &mut RunHandle, r0: &mut u64, ended: &mut bool) -> CallResult
         ensures recorded { HasMoreRecords self.old self.new }
-        ensures driven { IsDriven result run.old.held run.new.held self.old self.new r0.old r0.new ended.new }
+        ensures driven { IsDriven result (out_of run.old.held) run.new.held self.old self.new r0.new ended.new }
         ensures unended { result ≢ CallResult.Done → ended.new ≡ false }
-        ensures ended { result ≡ CallResult.Done → ended.new ≡ true → run.new.held ≡ HeldRun.Spent }
         ensures same { is_same_run run.old run.new }
     {
+        *r0 = 0;
         *ended = false;
-        for turn in 0..u32::MAX {
-            let stretched = run.stretch();
-            if stretched != CallResult::Done {
-                return stretched;
+        let Some(out) = run.held.take().out() else {
+            return CallResult::Spent;
+        };
+        match self.engine.drive(out) {
+            Ok(value) => {
+                *r0 = value;
+                *ended = true;
+                CallResult::Done
             }
-            let advanced = self.advance(run, r0, ended);
-            if advanced != CallResult::Done || *ended {
-                return advanced;
+            Err(fault) => {
+                let DriveFault {
+                    why,
+                    run: back,
+                    r0: value,
+                } = fault;
+                run.held.put(HeldRun::Out(back));
+                *r0 = value;
+                CallResult::advanced(why)
             }
         }
-        CallResult::Done
     }
 
     /// Parks a run: it takes no step until it is resumed, and is spent here. What it did since its last stop is forgotten. Where

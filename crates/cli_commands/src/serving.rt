@@ -11,6 +11,7 @@ ghost use Rattle.cli_commands.specs.Told.{IsFaultyManifest, IsManifest, IsServed
 use crate::fault::Fault;
 use crate::files::text;
 use engine_config::Config;
+use engine_core::{CcbState, LiveCcb};
 use host_live::{Input, LineFault, LiveFault, Reports};
 use manifest::Manifest;
 use std::alloc::Global;
@@ -111,5 +112,19 @@ impl<E: Write> Reports for Telling<'_, E> {
 
     fn sums(&mut self, totals: Totals) {
         let _ = writeln!(self.err, "camr: {}", Notice::Sums(totals));
+    }
+
+    fn ccb(&mut self, live: &LiveCcb) {
+        let state = match live.state() {
+            CcbState::Waiting => "waiting",
+            CcbState::Active => "active",
+            CcbState::InRecovery => "in recovery",
+        };
+        let ccb = live.ccb();
+        let _ = writeln!(
+            self.err,
+            "camr: ccb {} queue {} {state}",
+            ccb.number.0, ccb.queue.0
+        );
     }
 }

@@ -6,7 +6,7 @@ use Rattle.trace_lines.specs.Lines.{line_text}
 use Rattle.trace_lines.specs.Texts.{number_text}
 use Rattle.world_calls.specs.declared.call.Call.{Call as TheCall}
 use Rattle.host_live.specs.declared.request.Request.{Request}
-use Rattle.host_live.specs.declared.request.Request.TheVariants.{Call, Step, Drive, Drain, Totals}
+use Rattle.host_live.specs.declared.request.Request.TheVariants.{Call, Step, Drive, Drain, Totals, Ccbs}
 
 abbrev pub call_text : TheCall → Option (List ℕ)
 call_text call = line_text (word_of call) (values_of call)
@@ -24,6 +24,7 @@ own_text (Step run) = step_text run
 own_text (Drive run) = drive_text run
 own_text Drain = Some (codes "drain")
 own_text Totals = Some (codes "totals")
+own_text Ccbs = Some (codes "ccbs")
 
 abbrev pub request_text : Request → Option (List ℕ)
 request_text (Call call) = call_text call

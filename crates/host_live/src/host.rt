@@ -40,7 +40,7 @@ fn is_of_steps(request: &Request) -> bool {
     match request {
         Request::Call(call) => matches!(call, Call::Park { .. } | Call::Resume { .. }),
         Request::Step(_) | Request::Drive(_) => true,
-        Request::Drain | Request::Totals => false,
+        Request::Drain | Request::Totals | Request::Ccbs => false,
     }
 }
 
@@ -203,6 +203,21 @@ impl<'a> Host<'a> {
                 self.read_pending(out)?;
                 reports.sums(self.engine.totals());
                 Ok(None)
+            }
+            Request::Ccbs => {
+                self.read_pending(out)?;
+                self.tell_ccbs(reports);
+                Ok(None)
+            }
+        }
+    }
+
+    // Tells of each live CCB, by rising number.
+    fn tell_ccbs<N: Reports>(&self, reports: &mut N) {
+        for place in 0..usize::MAX {
+            match self.engine.ccb_at(place) {
+                Some(live) => reports.ccb(&live),
+                None => break,
             }
         }
     }

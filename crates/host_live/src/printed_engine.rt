@@ -1,7 +1,7 @@
 // An engine whose records are printed as they come, and forgotten. It relies on `engine_core` for the engine, and on `printed` for what
 // goes out.
 
-ghost use Rattle.std.specs.Prelude.{◌≡◌, ◌↔◌, [], ℕ, List, None, Option, Some, true, false, IfErr, IfOk, IfSome, IsNone, IsSome, IsTrue, OnErr, OnOk};
+ghost use Rattle.std.specs.Prelude.{◌≡◌, ◌<◌, ◌↔◌, [], ℕ, List, length, slice_index_or, None, Option, Some, true, false, IfErr, IfOk, IfSome, IsNone, IsSome, IsTrue, OnErr, OnOk};
 ghost use Rattle.freeze_ledger.specs.Deadlines.{some_timer};
 ghost use Rattle.freeze_ledger.specs.Freezes.{entry_of};
 ghost use Rattle.engine_core.specs.ByNumber.{guests_of, sums_behind};
@@ -14,7 +14,7 @@ ghost use Rattle.host_live.specs.Growth.{GrowsBy, Grows, IsMadeBy, opened_printe
 ghost use Rattle.host_live.specs.Telling.{Serves};
 
 use crate::printed::Printed;
-use engine_core::{Config, NumberedEngine};
+use engine_core::{Config, LiveCcb, NumberedEngine};
 use std::alloc::{AllocError, Global};
 use std::marker::Model;
 use trace::{Sink, WriteFailed};
@@ -141,6 +141,14 @@ impl<'a> PrintedEngine<'a> {
         ensures none { IsNone result ↔ (some_timer self.now.engine.transport.freezes ≡ false) }
     {
         self.engine.next_due()
+    }
+
+    /// The live CCB at this place, from 0, in the order of their numbers; `None` exactly if fewer are live.
+    pub(crate) fn ccb_at(&self, place: usize) -> Option<LiveCcb>
+        ensures there { IsSome result ↔ (place < length self.now.engine.transport.live) }
+        ensures value { IfSome result (λ live. live ≡ slice_index_or self.now.engine.transport.live place live) }
+    {
+        self.engine.ccb_at(place)
     }
 
     /// The sums so far.

@@ -1,5 +1,7 @@
-// Who is told of lines that are not carried out, and of sums. It relies on `world_calls` for sums.
+// Who is told of lines that are not carried out, of sums, and of CCBs. It relies on `world_calls` for sums, and on `engine_core` for
+// CCBs.
 
+use engine_core::LiveCcb;
 use world_calls::Totals;
 
 /// Why a line is not carried out. It is in no trace, and nothing changed.
@@ -18,4 +20,7 @@ pub trait Reports {
 
     /// The engine's sums.
     fn sums(&mut self, totals: Totals);
+
+    /// A live CCB of the engine's.
+    fn ccb(&mut self, live: &LiveCcb);
 }

@@ -22,6 +22,8 @@ pub enum Request {
     Drain,
     /// `totals`: the sums are told.
     Totals,
+    /// `ccbs`: the live CCBs are told.
+    Ccbs,
 }
 
 /// What a line asks for, which stands without its line feed. None where no request is spelled so. It takes memory for sense bytes alone.
@@ -57,6 +59,9 @@ fn own_request(line: &str) -> Option<Request>
     }
     if line == "totals" {
         return Some(Request::Totals);
+    }
+    if line == "ccbs" {
+        return Some(Request::Ccbs);
     }
     match step_request(line) {
         Some(stepped) => Some(Request::Step(stepped)),

@@ -17,7 +17,7 @@ use world_calls::Record;
 pub const CODES: u32 = 64;
 
 /// How many a table of helpers has: a helper's number, from 1, is below it.
-pub const HELPERS: u32 = 15;
+pub const HELPERS: u32 = helpers::HELPERS.len() as u32 + 1;
 
 /// How many records are so, for each queue in the order of the queues' numbers; of those with columns the cell of a column `c` in the
 /// row of queue `q` is at `q` times the number of columns, plus `c`.

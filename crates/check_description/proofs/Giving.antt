@@ -27,6 +27,8 @@ given_up_described numbers callers d registers spills m name number copies is it
   registers = λ reg. (each (number_of reg) (number_below reg)).kept numbers number _ its has (is.registers reg);
   count = is.count;
   frames = is.frames;
+  standing = is.standing;
+  loaded = is.loaded;
   spills = given_spilled numbers name d.spills spills m.frames spilled is.spills;
   bytes = is.bytes;
   context = is.context;

@@ -1,6 +1,7 @@
 pub mod ByteNumbers
 pub mod FramePlaces
 pub mod Giving
+pub mod KeptNumbers
 pub mod Losing
 pub mod NoBytes
 pub mod OpenCalls

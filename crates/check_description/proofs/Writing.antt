@@ -7,6 +7,8 @@ use Rattle.std.proofs.lemmas.Bool.{cases_eq, cases_lt}
 use Rattle.std.proofs.lemmas.List.{get_or_append_left, get_or-append_right, get_or-map, get_or-set_same, get_or-set_other, length-append, length-map, length-take-le}
 use Rattle.bpf_stack_frame.specs.Frame.{written_at}
 use Rattle.stack_domain.specs.Stack.{MarksCover as CoversFrames}
+use Rattle.stack_domain.specs.Numbers.{AreStanding}
+use Rattle.stack_domain.specs.declared.numbers.StackNumber.{StackNumber}
 use Rattle.stack_domain.specs.Stores.{stored}
 use Rattle.stack_domain.proofs.Stores.{written_at_outside}
 use Rattle.bpf_semantics.specs.MachineState.{MachineState}
@@ -63,10 +65,10 @@ bytes_kept frames k offset bytes live inside each was j = elim (cases_eq j k) [
 ]
 
 -- bytes are written in a live frame, and the stack is known to be as it is then
-pub are_written : (numbers : FreezeNumbers) (callers : List SavedRegisters) (d : Description) (m : MachineState) (stack : List (List Bool)) (spills : List Spill) (frame offset address : ℕ) (bytes : List ℕ) → DescribesWith numbers callers d m → frame < length m.frames
+pub are_written : (numbers : FreezeNumbers) (callers : List SavedRegisters) (d : Description) (m : MachineState) (stack : List (List Bool)) (spills : List Spill) (standing : List (Option StackNumber)) (frame offset address : ℕ) (bytes : List ℕ) → DescribesWith numbers callers d m → frame < length m.frames
     → address ≡ frame_start frame + offset → offset + length bytes ≤ 512 → All (λ byte. byte < 256) bytes → CoversFrames stack (stored m.frames frame offset bytes) → AreSpilled numbers spills (stored m.frames frame offset bytes)
-    → AreWritten numbers callers m address bytes (record d { stack = stack; spills = spills })
-are_written numbers callers d m stack spills frame offset address bytes is live at fits each covers spilled = record {
+    → AreStanding (stored m.frames frame offset bytes) standing → AreWritten numbers callers m address bytes (record d { stack = stack; spills = spills; numbers = standing; loaded = None })
+are_written numbers callers d m stack spills standing frame offset address bytes is live at fits each covers spilled stand = record {
   with_bytes = record m { frames = stored m.frames frame offset bytes };
   does = ap (option_map (λ frames. record m { frames = frames })) (frame_stored 0 m.frames frame address offset bytes live (omega (arith, at)) fits);
   describes = record {
@@ -74,6 +76,8 @@ are_written numbers callers d m stack spills frame offset address bytes is live 
     count = is.count;
     frames = covers;
     spills = spilled;
+    standing = stand;
+    loaded = tt;
     bytes = bytes_kept m.frames frame offset bytes live (omega (arith, is.frames.whole frame live, fits)) each is.bytes;
     context = is.context;
     held = is.held;

@@ -12,6 +12,8 @@ use Rattle.check_register_kinds.specs.declared.kind.Kind.{Kind}
 use Rattle.check_register_kinds.specs.declared.region.Offsets.{Offsets}
 use Rattle.check_register_kinds.specs.declared.region.Region.TheVariants.{Frame}
 use Rattle.check_description.specs.declared.saved.SavedRegisters.{SavedRegisters}
+use Rattle.scalar_domain.specs.declared.scalars.Scalar.{Scalar}
+use Rattle.scalar_domain.specs.Scalar.{Has}
 use Rattle.check_description.specs.Description.{DescribesWith}
 use Rattle.check_register_kinds.specs.Freezes.{FreezeNumbers}
 use Rattle.check_register_kinds.specs.Kinds.{HoldsKind, LiesAt}
@@ -50,6 +52,18 @@ abbrev pub WritesWord : Description → ℕ → ℕ → Kind → Description →
 WritesWord d frame offset kind there =
     (numbers : FreezeNumbers) (callers : List SavedRegisters) (m : MachineState) (word : ℕ) → DescribesWith numbers callers d m → HoldsKind numbers kind (Some word) →
     AreWritten numbers callers m (frame_start frame + offset) (little_bytes 8 word) there
+
+-- one of these numbers is stored, wherever in the frame its bytes begin
+abbrev pub StoresNumber : Description → ℕ → Offsets → ℕ → Scalar → Description → Type 0
+StoresNumber d frame offsets count number there =
+    (numbers : FreezeNumbers) (callers : List SavedRegisters) (m : MachineState) (address word : ℕ) → DescribesWith numbers callers d m → LiesAt (Frame frame) offsets address → Has number word →
+    AreWritten numbers callers m address (little_bytes count word) there
+
+-- the number that stands in so many bytes of one frame, little-endian, is one of these
+abbrev pub HasThere : Description → ℕ → Offsets → ℕ → Scalar → Type 0
+HasThere d frame offsets count number =
+    (numbers : FreezeNumbers) (callers : List SavedRegisters) (m : MachineState) (address word : ℕ) → DescribesWith numbers callers d m → LiesAt (Frame frame) offsets address →
+    option_map (little_number count) (option_and_then all_written (frame_bytes 0 m.frames address count)) ≡ Some word → Has number word
 
 -- bytes at a known offset of a frame are known to be written, and nothing else is changed, but that spills may have ended
 pub record LeavesMarked (d : Description) (frame from bytes : ℕ) (there : Description) : Type 0 where

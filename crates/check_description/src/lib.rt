@@ -5,6 +5,7 @@
 
 mod description;
 mod freeze;
+mod loaded;
 mod memory;
 mod places;
 mod registers;
@@ -12,7 +13,7 @@ mod saved;
 mod spill;
 mod spills;
 
-pub use description::Description;
+pub use description::{Description, Loaded};
 pub use saved::{SavedRegister, SavedRegisters};
 pub use spill::Spill;
 pub use spills::Spills;

@@ -1,11 +1,12 @@
 // Bytes of a frame where a machine is described: those that are written, and addresses and freezes that are spilled. It
 // relies on `stack_domain` for which stack bytes are written, and on `spills` for what stands there besides numbers.
 
-ghost use Rattle.std.specs.Prelude.{◌≡◌, ◌↔◌, ◌<◌, ◌≤◌, ◌+◌, ◌*◌, ℕ, List, length, IfOk, IsTrue};
+ghost use Rattle.std.specs.Prelude.{◌≡◌, ◌↔◌, ◌<◌, ◌≤◌, ◌+◌, ◌*◌, ◌^◌, ℕ, List, length, IfOk, IfSome, IsTrue};
+ghost use Rattle.scalar_domain.specs.Scalar.{Has};
 ghost use Rattle.bpf_semantics.specs.MachineState.{MachineState};
 ghost use Rattle.check_description.specs.declared.saved.SavedRegisters.{SavedRegisters};
 ghost use Rattle.check_description.specs.Description.{DescribesWith};
-ghost use Rattle.check_description.specs.Memory.{ChangesStack, LeavesMarked, Writes, WritesWord, word_there};
+ghost use Rattle.check_description.specs.Memory.{ChangesStack, HasThere, LeavesMarked, StoresNumber, Writes, WritesWord, word_there};
 ghost use Rattle.check_description.specs.Spills.{AreUnspilled, kind_of, spill_at, spill_of};
 ghost use Rattle.check_register_kinds.specs.declared.region.Region.TheVariants.{Frame};
 ghost use Rattle.check_register_kinds.specs.Freezes.{FreezeNumbers};
@@ -14,6 +15,8 @@ ghost use Rattle.check_register_kinds.specs.Kinds.{HoldsKind, IsNumber, LiesAt};
 use crate::description::Description;
 use crate::spill::Spill;
 use check_register_kinds::{Kind, Offsets};
+use scalar_domain::Scalar;
+use stack_domain::NumberPlace;
 use std::alloc::AllocError;
 
 /// How many bytes a spill takes.
@@ -33,10 +36,60 @@ impl Description {
     {
         self.spills
             .overwrite(frame, offsets.least, offsets.most + bytes);
+        let end = offsets.most + bytes;
+        self.numbers.overwrite(frame, offsets.least, end);
+        self.loaded = None;
         if offsets.least == offsets.most {
             let offset = usize::from(offsets.least);
             self.stack
                 .mark(usize::from(frame), offset, usize::from(bytes));
+        }
+    }
+
+    /// Makes room for what is known of a number that is stored then.
+    ///
+    /// # Errors
+    /// There is no memory.
+    pub fn make_room(&mut self) -> Result<(), AllocError>
+        ensures { self.new ≡ self.old }
+    {
+        self.numbers.make_room()
+    }
+
+    /// Stores one of these numbers in bytes of a live frame, at most 8. It is kept if they begin at one offset and have room for
+    /// each of them, and if room was made for it.
+    pub fn store_number_in(&mut self, frame: u8, offsets: Offsets, bytes: u16, number: Scalar)
+        requires live { frame < length self.old.stack }
+        requires inside { offsets.most + bytes ≤ 512 }
+        requires few { bytes ≤ 8 }
+        ensures stores { StoresNumber self.old frame offsets bytes number self.new }
+        ensures leaves { (from : ℕ) → offsets ≡ record { least = from; most = from } → LeavesMarked self.old frame from bytes self.new }
+        ensures depth { length self.new.stack ≡ length self.old.stack }
+    {
+        self.write_in(frame, offsets, bytes);
+        if offsets.least == offsets.most && has_room(bytes, number) {
+            let place = NumberPlace {
+                frame,
+                offset: offsets.least,
+                bytes,
+            };
+            self.numbers.keep(place, number);
+        }
+    }
+
+    /// What is known of the number that stands in bytes of a frame, if anything is.
+    pub fn number_in(&self, frame: u8, offsets: Offsets, count: u16) -> Option<Scalar>
+        requires inside { offsets.most + count ≤ 512 }
+        ensures { IfSome result (λ number. HasThere self.now frame offsets count number) }
+    {
+        if offsets.least == offsets.most {
+            self.numbers.find(NumberPlace {
+                frame,
+                offset: offsets.least,
+                bytes: count,
+            })
+        } else {
+            None
         }
     }
 
@@ -84,5 +137,18 @@ impl Description {
         !self
             .spills
             .are_none_in(frame, offsets.least, offsets.most + bytes)
+    }
+}
+
+// Whether so many bytes, at most 8, have room for each of these numbers.
+fn has_room(bytes: u16, number: Scalar) -> bool
+    ensures { IsTrue result → (word : ℕ) → Has number word → word < 256 ^ bytes }
+{
+    match bytes {
+        1 => number.most() <= 0xff,
+        2 => number.most() <= 0xffff,
+        4 => number.most() <= 0xffff_ffff,
+        8 => true,
+        _ => false,
     }
 }

@@ -76,11 +76,13 @@ call_count m r0 count = omega (arith, count, length-drop 6 m.registers)
 
 -- a call that only answers
 pub answered_by : (numbers : FreezeNumbers) (callers : List SavedRegisters) (r0 : ℕ) (d : Description) (registers : List Kind) (kind : Kind) (m : MachineState) → registers ≡ after_call_kinds d.registers kind → HoldsKind numbers kind (Some r0) → DescribesWith numbers callers d m
-    → DescribesWith numbers callers (record d { registers = registers }) (after_call m r0)
+    → DescribesWith numbers callers (record d { registers = registers; loaded = None }) (after_call m r0)
 answered_by numbers callers r0 d registers kind m are holds is = record {
   registers = subst (λ (kinds : List Kind). HoldKinds numbers kinds (after_call m r0).registers) (sym are) (call_holds numbers r0 kind d.registers m holds is.registers);
   count = call_count m r0 is.count;
   frames = is.frames;
+  standing = is.standing;
+  loaded = tt;
   spills = is.spills;
   bytes = is.bytes;
   context = is.context;
@@ -96,6 +98,8 @@ disposed_of numbers callers d m is = record {
   registers = is.registers;
   count = is.count;
   frames = is.frames;
+  standing = is.standing;
+  loaded = is.loaded;
   spills = is.spills;
   bytes = is.bytes;
   context = is.context;

@@ -1,5 +1,5 @@
 -- What is known behind a helper call, and what is found where its check passes.
-use Rattle.std.proofs.Common.{◌≡◌, ℕ, ℤ, Bool, List, [], Option, Some, Result, Ok, Err, IfOk, length, refl, ap, sym, subst, ◌∙◌, arith}
+use Rattle.std.proofs.Common.{None, ◌≡◌, ℕ, ℤ, Bool, List, [], Option, Some, Result, Ok, Err, IfOk, length, refl, ap, sym, subst, ◌∙◌, arith}
 use Rattle.std.specs.Prelude.{◌≤◌, IsOk, slice_index_or}
 use Rattle.std.proofs.lemmas.List.{get_or-drop}
 use Rattle.bpf_insn.specs.declared.reg.Reg.{Reg}
@@ -43,7 +43,7 @@ kept_behind kinds r0 R9 late = get_or-drop 6 kinds 3 Unwritten
 kept_behind kinds r0 R10 late = get_or-drop 6 kinds 4 Unwritten
 
 -- R0 is the answer
-pub answer_left : (d : Description) (registers : List Kind) (kind : Kind) → registers ≡ after_call_kinds d.registers kind → LeavesAnswer kind d (record d { registers = registers })
+pub answer_left : (d : Description) (registers : List Kind) (kind : Kind) → registers ≡ after_call_kinds d.registers kind → LeavesAnswer kind d (record d { registers = registers; loaded = None })
 answer_left d registers kind are = record {
   r0 = ap (λ (kinds : List Kind). slice_index_or kinds 0 Unwritten) are;
   registers = λ reg late. ap (λ (kinds : List Kind). slice_index_or kinds (number_of reg) Unwritten) are ∙ kept_behind d.registers kind reg late;

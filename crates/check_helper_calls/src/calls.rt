@@ -182,6 +182,7 @@ fn answer(description: &mut Description, kind: Kind)
     ensures leaves { LeavesAnswer kind description.old description.new }
 {
     description.registers = after_call(description.registers, kind);
+    description.loaded = None;
 }
 
 // The registers after a call: R0 is the answer and R1 to R5 are unwritten.

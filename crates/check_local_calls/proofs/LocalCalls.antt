@@ -34,6 +34,9 @@ use Rattle.check_description.specs.Description.{Describes, DescribesWith, kind_a
 use Rattle.check_description.specs.declared.spill.Spill.{Spill}
 use Rattle.check_description.specs.declared.spill.Spill.TheVariants.{Nothing}
 use Rattle.check_description.specs.Spills.{IsFewer, IsGone, at_place, spill_at}
+use Rattle.stack_domain.specs.declared.numbers.StackNumber.{StackNumber}
+use Rattle.stack_domain.specs.Numbers.{AreStanding}
+use Rattle.stack_domain.proofs.Standing.{standing_opened}
 use Rattle.check_local_calls.proofs.Spills.{closed_spilled, opened_spilled}
 use Rattle.check_description.proofs.NoBytes.{no_byte}
 
@@ -168,7 +171,7 @@ pub entered_described : (d : Description) (registers : List Kind) (stack : List 
     → ((frames : List (List (Option ℕ))) (frame : List (Option ℕ)) → CoversFrames d.stack frames × (length frame ≡ 512) → CoversFrames stack (frames ++ frame ∷ []))
     → ((numbers : FreezeNumbers) (callers : List SavedRegisters) (m : MachineState) → DescribesWith numbers callers d m → AreSaved numbers saved.registers (words_saved m.registers))
     → (callers : List SavedRegisters) (distance : ℤ) (m m' : MachineState) → Describes callers d m → does m (Call (Local distance)) ≡ Some m'
-    → Describes (callers ++ saved ∷ []) (record d { registers = registers; stack = stack }) m'
+    → Describes (callers ++ saved ∷ []) (record d { registers = registers; stack = stack; loaded = None }) m'
 entered_described d registers stack pointer saved few are is_pointer covers saves callers distance m m' (numbers, is) step =
     let room : has_frame_left m ≡ true = frame_left m (length d.stack) is.frames.depth few in
     let there : entered m distance ≡ m' = some_same (entered m distance) m' (sym (cond-true (has_frame_left m) (Some (entered m distance)) None room) ∙ step) in
@@ -176,13 +179,15 @@ entered_described d registers stack pointer saved few are is_pointer covers save
     let here : HoldsKind numbers pointer (Some (frame_pointer (length m.frames))) =
     subst (λ (kind : Kind). HoldsKind numbers kind (Some (frame_pointer (length m.frames)))) (sym is_pointer)
     (frame_pointer (length m.frames), refl, (512, ap (λ (k : ℕ). frame_start k + 512) (sym frame), omega arith, omega arith, omega arith)) in
-    subst (Describes (callers ++ saved ∷ []) (record d { registers = registers; stack = stack })) there (
+    subst (Describes (callers ++ saved ∷ []) (record d { registers = registers; stack = stack; loaded = None })) there (
       numbers,
       record {
         registers = subst (λ (kinds : List Kind). (reg : Reg) → HoldsKind numbers (at kinds (number_of reg)) (register (entered m distance) reg)) (sym are) (entered_holds numbers d.registers pointer m distance is.count is.registers here);
         count = entered_count m distance is.count;
         frames = covers m.frames unwritten_frame (is.frames, length-replicate {A = Option ℕ} 512 None);
         spills = opened_spilled numbers d.spills m.frames unwritten_frame is.spills;
+        standing = standing_opened m.frames unwritten_frame d.numbers is.standing;
+        loaded = tt;
         bytes = opened_bytes m.frames is.bytes;
         context = is.context;
         held = is.held;
@@ -303,14 +308,14 @@ closed_bytes frames n within was k offset byte is = elim (cases_lt k n) [
       absurd (let bad : None ≡ Some byte = sym (ap (λ (f : List (Option ℕ)). get_or f offset None) (get_or_past (take n frames) k [] (omega (arith, from, length-take-le n frames within)))) ∙ is in cc)
 ]
 
-pub left_described : (d : Description) (registers : List Kind) (stack : List (List Bool)) (spills : List Spill) (r0 pointer : Kind) (kept : List Kind) (saved : SavedRegisters) (frame : ℕ) → registers ≡ left_kinds r0 kept pointer
+pub left_described : (d : Description) (registers : List Kind) (stack : List (List Bool)) (spills : List Spill) (standing : List (Option StackNumber)) (r0 pointer : Kind) (kept : List Kind) (saved : SavedRegisters) (frame : ℕ) → registers ≡ left_kinds r0 kept pointer
     → pointer ≡ Address (Frame frame) (record { least = 512; most = 512 }) → frame + 2 ≡ length d.stack
     → ((frames : List (List (Option ℕ))) (last : List (Option ℕ)) → CoversFrames d.stack (frames ++ last ∷ []) → CoversFrames stack frames)
-    → IsFewer d.spills spills → ((place : ℕ) → 64 * (frame + 1) ≤ place → at_place spills place ≡ Nothing)
+    → IsFewer d.spills spills → ((place : ℕ) → 64 * (frame + 1) ≤ place → at_place spills place ≡ Nothing) → ((frames : List (List (Option ℕ))) → AreStanding frames d.numbers → AreStanding (take (frame + 1) frames) standing)
     → ((numbers : FreezeNumbers) (o : Option ℕ) → HoldsKind numbers (kind_at d R0) o → HoldsKind numbers r0 o)
     → ((numbers : FreezeNumbers) (run : List ℕ) (os : List (Option ℕ)) → AreHeld numbers d.held run → AreSaved numbers saved.registers os → HoldBack numbers kept os)
-    → (callers : List SavedRegisters) (m m' : MachineState) → Describes (callers ++ saved ∷ []) d m → does m Exit ≡ Some m' → Describes callers (record d { registers = registers; stack = stack; spills = spills }) m'
-left_described d registers stack spills r0 pointer kept saved frame are is_pointer live covers fewer outside result back callers m m' (numbers, is) step =
+    → (callers : List SavedRegisters) (m m' : MachineState) → Describes (callers ++ saved ∷ []) d m → does m Exit ≡ Some m' → Describes callers (record d { registers = registers; stack = stack; spills = spills; numbers = standing; loaded = None }) m'
+left_described d registers stack spills standing r0 pointer kept saved frame are is_pointer live covers fewer outside closes result back callers m m' (numbers, is) step =
     let inner = innermost numbers callers saved m.open_calls is.calls in
     let call = inner.call in
     let count : length m.frames ≡ length inner.rest + 2 = omega (arith, is.depth, ap length inner.are) in
@@ -323,7 +328,7 @@ left_described d registers stack spills r0 pointer kept saved frame are is_point
     let here : HoldsKind numbers pointer (Some (frame_pointer (length inner.rest))) =
     subst (λ (kind : Kind). HoldsKind numbers kind (Some (frame_pointer (length inner.rest)))) (sym is_pointer)
     (frame_pointer (length inner.rest), refl, (512, ap (λ (k : ℕ). frame_start k + 512) (sym where_is), omega arith, omega arith, omega arith)) in
-    subst (Describes callers (record d { registers = registers; stack = stack; spills = spills })) there (
+    subst (Describes callers (record d { registers = registers; stack = stack; spills = spills; numbers = standing; loaded = None })) there (
       numbers,
       record {
         registers =
@@ -332,6 +337,8 @@ left_described d registers stack spills r0 pointer kept saved frame are is_point
         count = left_count m.registers call.saved (frame_pointer (length inner.rest)) is.count inner.saves.0;
         frames = covers frames last.last (subst (CoversFrames d.stack) (sym last.split) is.frames);
         spills = closed_spilled numbers d.spills spills m.frames (length m.frames - 1) (omega arith) fewer (λ place past. outside place (omega (arith, past, live, is.frames.depth))) is.spills;
+        standing = subst (λ (n : ℕ). AreStanding (take n m.frames) standing) (let all : frame + 1 ≡ length m.frames - 1 = omega (arith, live, is.frames.depth) in all) (closes m.frames is.standing);
+        loaded = tt;
         bytes = closed_bytes m.frames (length m.frames - 1) (omega arith) is.bytes;
         context = is.context;
         held = is.held;
@@ -348,7 +355,7 @@ pub entered_known : (d : Description) (registers : List Kind) (stack : List (Lis
     → ((frames : List (List (Option ℕ))) (frame : List (Option ℕ)) → CoversFrames stack (frames ++ frame ∷ []) → CoversFrames d.stack frames × (length frame ≡ 512))
     → ((k : ℕ) (default : SavedRegister) → k < 4 → (get_or saved.registers k default).kind ≡ at d.registers (6 + k))
     → ((k : ℕ) (default : SavedRegister) → k < 4 → IsSureCopy d (get_or saved.registers k default))
-    → LeavesEntered saved d (record d { registers = registers; stack = stack })
+    → LeavesEntered saved d (record d { registers = registers; stack = stack; loaded = None })
 entered_known d registers stack pointer saved are is_pointer deeper covers kinds copies = record {
   arguments = arguments_known;
   pointer = ap (λ (l : List Kind). at l 10) are ∙ is_pointer;
@@ -383,13 +390,13 @@ entered_known d registers stack pointer saved are is_pointer deeper covers kinds
           absurd (let bad : false ≡ true = sym (ap (λ (f : List (Option ℕ)). is_some (get_or f offset None)) (get_or_past (take n frames) k [] (omega (arith, from, length-take-le n frames within)))) ∙ written in cc)
     ]
 
-pub left_known : (d : Description) (registers : List Kind) (stack : List (List Bool)) (spills : List Spill) (r0 pointer : Kind) (kept : List Kind) (saved : SavedRegisters) (frame : ℕ) → registers ≡ left_kinds r0 kept pointer
+pub left_known : (d : Description) (registers : List Kind) (stack : List (List Bool)) (spills : List Spill) (standing : List (Option StackNumber)) (r0 pointer : Kind) (kept : List Kind) (saved : SavedRegisters) (frame : ℕ) → registers ≡ left_kinds r0 kept pointer
     → pointer ≡ Address (Frame frame) (record { least = 512; most = 512 }) → frame + 1 ≡ length stack → r0 ≡ outlived_kind (length stack) (kind_at d R0)
     → ((k : ℕ) (default : SavedRegister) → k < 4 → at kept k ≡ kind_back d.held (get_or saved.registers k default))
     → ((k offset : ℕ) → k < length stack → (IsGone (length stack) (spill_at d.spills k (offset / 8)) → ⊥) → Knows d.stack k offset → Knows stack k offset)
     → ((place : ℕ) → IsGone (length stack) (at_place spills place) → ⊥) → (d.spills ≡ [] → spills ≡ [])
-    → LeavesReturned saved d (record d { registers = registers; stack = stack; spills = spills })
-left_known d registers stack spills r0 pointer kept saved frame are is_pointer live result back knows outlives unspilled = record {
+    → LeavesReturned saved d (record d { registers = registers; stack = stack; spills = spills; numbers = standing; loaded = None })
+left_known d registers stack spills standing r0 pointer kept saved frame are is_pointer live result back knows outlives unspilled = record {
   result = ap (λ (l : List Kind). at l 0) are ∙ result;
   kept = kept_known;
   pointer = λ other is. let same : other ≡ frame = omega (arith, is, live) in ap (λ (l : List Kind). at l 10) are ∙ (is_pointer ∙ ap (λ (n : ℕ). Address (Frame n) (record { least = 512; most = 512 })) (sym same));

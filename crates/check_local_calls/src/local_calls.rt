@@ -34,6 +34,7 @@ pub fn enter(description: &mut Description) -> SavedRegisters
     let pointer = pointer_to(description.stack.depth());
     description.registers = entered_registers(&description.registers, pointer);
     description.stack = description.stack.opened();
+    description.loaded = None;
     saved
 }
 
@@ -70,6 +71,8 @@ pub fn leave(description: &mut Description, saved: &SavedRegisters)
     let kept = given_back(saved, &description.held);
     description.registers = left_registers(r0, kept, pointer_to(live - 1));
     description.stack = stack;
+    description.numbers.close(live);
+    description.loaded = None;
 }
 
 // The frame pointer of that frame.

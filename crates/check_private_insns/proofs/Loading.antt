@@ -1,5 +1,5 @@
 -- What a load gives where a machine is described.
-use Rattle.std.proofs.Common.{◌≡◌, ℕ, ℤ, ◌-◌, ◌^◌, ◌<◌, Some, Result, Ok, Err, IfOk, take, drop, ap, sym, subst, ◌∙◌}
+use Rattle.std.proofs.Common.{◌≡◌, ℕ, ℤ, ◌+◌, ◌-◌, ◌^◌, ◌<◌, ◌≤◌, List, Option, Some, None, IfSome, Result, Ok, Err, IfOk, length, take, drop, arith, ap, sym, subst, ◌∙◌}
 use Rattle.std.specs.Option.{option_map, option_and_then}
 use Rattle.std.specs.Int.{byte_len, w64}
 use Rattle.std.proofs.lemmas.Bool.{cond-false}
@@ -12,17 +12,22 @@ use Rattle.bpf_semantics.specs.MachineState.{MachineState, context_address, regi
 use Rattle.bpf_semantics.specs.Memory.{address_at, in_context, load_width, loaded, word_from}
 use Rattle.check_register_kinds.specs.declared.kind.Kind.{Kind}
 use Rattle.check_register_kinds.specs.declared.region.Offsets.{Offsets}
+use Rattle.check_register_kinds.specs.declared.region.Region.{Region}
 use Rattle.check_register_kinds.specs.declared.region.Region.TheVariants.{Frame}
-use Rattle.check_register_kinds.specs.Kinds.{HoldsKind, LiesAt}
-use Rattle.check_description.specs.Memory.{word_there}
+use Rattle.check_register_kinds.specs.Kinds.{HoldsKind, LiesAt, size_of}
+use Rattle.check_description.specs.Memory.{HasThere, word_there}
+use Rattle.scalar_domain.specs.declared.scalars.Scalar.{Scalar}
+use Rattle.scalar_domain.specs.Scalar.{Has}
 use Rattle.check_private_insns.proofs.Reading.{not_in_context}
 use Rattle.check_register_kinds.specs.Freezes.{FreezeNumbers}
 use Rattle.check_register_kinds.specs.declared.access.Access.{Access}
 use Rattle.check_description.specs.declared.description.Description.{Description}
 use Rattle.check_description.specs.Description.{kind_at}
-use Rattle.check_private_insns.specs.Memory.{AreThere, LoadGives, IsLoaded, Loads, AccessReads}
+use Rattle.check_private_insns.specs.Memory.{AreThere, HasLoaded, IsPlaceOf, LoadGives, IsLoaded, Loads, AccessReads, ReadsPlace}
 use Rattle.check_private_insns.proofs.Storing.{Reaches}
+use Rattle.stack_domain.specs.declared.numbers.NumberPlace.{NumberPlace}
 use Rattle.check_description.proofs.ByteNumbers.{number_below}
+use Rattle.check_description.proofs.FramePlaces.{frame_found}
 
 -- what is read is the word of its bytes
 pub is_loaded : (numbers : FreezeNumbers) (m : MachineState) (form : LoadForm) (src : Reg) (offset : ℤ) (start : ℕ) (kind : Kind) → register m src ≡ Some start
@@ -59,3 +64,33 @@ loads_ok (Ok kind) d form src offset base access bytes of_src reaches all reads 
     let there = subst (AreThere m (address_at at.0 offset)) all (reads numbers callers m (address_at at.0 offset) is at.2) in
     is_loaded numbers m form src offset at.0 kind at.1 there (λ word. gives numbers callers m (address_at at.0 offset) word is at.2)
 loads_ok (Err cause) d form src offset base access bytes of_src reaches all reads gives = gives
+
+-- a number that is kept is what a load without a sign gives
+pub number_given : (d : Description) (form : LoadForm) (frame bytes : ℕ) (offsets : Offsets) (number : Scalar) → bytes ≡ byte_len (load_width form) → ((word : ℕ) → loaded form word ≡ word) → HasThere d frame offsets bytes number → HasLoaded d form frame offsets number
+number_given d form frame bytes offsets number all plain has = λ numbers callers m address word is lies reads small.
+    let n : ℕ = byte_len (load_width form) in
+    let same : word_from (load_width form) m address ≡ option_map (little_number n) (option_and_then all_written (frame_bytes 0 m.frames address n)) =
+    ap (option_map (little_number n)) (cond-false (in_context address n) (Some (take n (drop (address - context_address) m.context))) (option_and_then all_written (frame_bytes 0 m.frames address n)) (not_in_context frame address lies.0 n lies.1)) in
+    subst (Has number) (sym (plain word)) (subst (λ (k : ℕ). HasThere d frame offsets k number) all has numbers callers m address word is lies (sym same ∙ reads))
+
+-- a load without a sign of one place gives what stands there
+pub place_read : (d : Description) (form : LoadForm) (src : Reg) (offset : ℤ) (base : Kind) (access : Access) (bytes depth : ℕ) (place : NumberPlace) → base ≡ kind_at d src → Reaches base offset access.region access.offsets → access.offsets.most + bytes ≤ size_of access.region
+    → bytes ≡ byte_len (load_width form) → ((word : ℕ) → loaded form word ≡ word) → depth ≡ length d.stack → IsPlaceOf depth access bytes place → ReadsPlace d form src offset place
+place_read d form src offset base access bytes depth place of_src reaches fits all plain live it = λ numbers callers m address word is lies reads.
+    let n : ℕ = byte_len (load_width form) in
+    let at = subst (λ (k : Kind). Reaches k offset access.region access.offsets) of_src reaches numbers (register m src) (is.registers src) in
+    let there : address_at at.0 offset ≡ address = some_same _ _ (sym (ap (option_map (λ base. address_at base offset)) at.1) ∙ lies) in
+    let lie : LiesAt (Frame place.frame) access.offsets address = subst (LiesAt (Frame place.frame) access.offsets) there (subst (λ (r : Region). LiesAt r access.offsets (address_at at.0 offset)) it.region at.2) in
+    let inside : access.offsets.most + bytes ≤ 512 = subst (λ (r : Region). access.offsets.most + bytes ≤ size_of r) it.region fits in
+    let here : place.frame < length m.frames = omega (arith, it.live, live, is.frames.depth) in
+    let found = ap (λ (o : Option (List (Option ℕ))). option_map (little_number place.bytes) (option_and_then all_written o)) (frame_found 0 m.frames place.frame address place.offset place.bytes here (omega (arith, lie.1, lie.2, lie.3, it.least, it.most)) (omega (arith, inside, it.most, it.count))) in
+    let same : word_from (load_width form) m address ≡ option_map (little_number n) (option_and_then all_written (frame_bytes 0 m.frames address n)) =
+    ap (option_map (little_number n)) (cond-false (in_context address n) (Some (take n (drop (address - context_address) m.context))) (option_and_then all_written (frame_bytes 0 m.frames address n)) (not_in_context place.frame address lie.0 n lie.1)) in
+    let counted : option_map (little_number place.bytes) (option_and_then all_written (frame_bytes 0 m.frames address place.bytes)) ≡ option_map (little_number n) (option_and_then all_written (frame_bytes 0 m.frames address n)) =
+    ap (λ (k : ℕ). option_map (little_number k) (option_and_then all_written (frame_bytes 0 m.frames address k))) (it.count ∙ all) in
+    (here, sym found ∙ (counted ∙ (sym same ∙ (reads ∙ ap Some (sym (plain word))))))
+
+pub place_read_if : (d : Description) (form : LoadForm) (src : Reg) (offset : ℤ) (base : Kind) (access : Access) (bytes depth : ℕ) (place : Option NumberPlace) → base ≡ kind_at d src → Reaches base offset access.region access.offsets → access.offsets.most + bytes ≤ size_of access.region
+    → bytes ≡ byte_len (load_width form) → ((word : ℕ) → loaded form word ≡ word) → depth ≡ length d.stack → IfSome place (IsPlaceOf depth access bytes) → IfSome place (ReadsPlace d form src offset)
+place_read_if d form src offset base access bytes depth None of_src reaches fits all plain live it = tt
+place_read_if d form src offset base access bytes depth (Some place) of_src reaches fits all plain live it = place_read d form src offset base access bytes depth place of_src reaches fits all plain live it

@@ -1,9 +1,11 @@
 -- What is known of the registers stays known where more is found of a number.
-use Rattle.std.proofs.Common.{◌≡◌, get_or, ap, sym, subst, ◌∙◌, inl, inr, ne_eqb}
+use Rattle.std.proofs.Common.{◌≡◌, List, Option, get_or, ap, sym, subst, ◌∙◌, inl, inr, ne_eqb}
 use Rattle.std.proofs.lemmas.Bool.{cases_eq}
 use Rattle.bpf_insn.specs.declared.reg.Reg.{Reg}
 use Rattle.bpf_insn.specs.Reg.{number_of}
 use Rattle.check_description.specs.declared.description.Description.{Description}
+use Rattle.check_description.specs.declared.description.Loaded.{Loaded}
+use Rattle.stack_domain.specs.declared.numbers.StackNumber.{StackNumber}
 use Rattle.check_register_kinds.specs.declared.kind.Kind.{Kind}
 use Rattle.check_register_kinds.specs.declared.kind.Kind.TheVariants.{Unwritten, Number, Address, Freeze}
 use Rattle.check_description.specs.Description.{kind_at}
@@ -52,3 +54,12 @@ known_twice d between there first second = record {
   spills = second.spills ∙ first.spills;
   disposal = second.disposal ∙ first.disposal;
 }
+
+-- whatever is known of the stack's numbers
+pub changes_linked : (d there : Description) (linked : Option Loaded) (dst : Reg) → ChangesOnly dst d there → ChangesOnly dst d (record there { loaded = linked })
+changes_linked d there linked dst only = record { others = only.others; stack = only.stack; spills = only.spills; held = only.held; disposal = only.disposal }
+
+pub changes_numbers : (d there after : Description) (standing : List (Option StackNumber)) (dst : Reg) → after ≡ record there { numbers = standing } → ChangesOnly dst d there → ChangesOnly dst d after
+changes_numbers d there after standing dst same only = subst (ChangesOnly dst d) (sym same) (
+    let changed : ChangesOnly dst d (record there { numbers = standing }) = record { others = only.others; stack = only.stack; spills = only.spills; held = only.held; disposal = only.disposal } in changed
+    )

@@ -18,7 +18,9 @@ use Rattle.check_register_kinds.specs.declared.region.Region.TheVariants.{Frame}
 use Rattle.check_register_kinds.specs.Accesses.{BeginsAt}
 use Rattle.check_description.specs.Description.{kind_at}
 use Rattle.check_register_kinds.specs.Kinds.{IsAt, HoldsKind, IsNumber, IsWritten, LiesAt, size_of}
-use Rattle.check_description.specs.Memory.{AreKnown, AreWritten, LeavesMarked, Writes, WritesWord}
+use Rattle.check_description.specs.Memory.{AreKnown, AreWritten, LeavesMarked, StoresNumber, Writes, WritesWord}
+use Rattle.scalar_domain.specs.declared.scalars.Scalar.{Scalar}
+use Rattle.scalar_domain.specs.Scalar.{Has}
 use Rattle.check_private_insns.specs.Enough.{LeavesStored, LiesInFrame}
 use Rattle.check_register_kinds.specs.Freezes.{FreezeNumbers}
 use Rattle.check_private_insns.specs.Memory.{StoreLeaves, Stores}
@@ -28,6 +30,9 @@ use Rattle.check_description.proofs.FramePlaces.{frame_is}
 -- where the bytes of an access begin
 abbrev pub Reaches : Kind → ℤ → Region → Offsets → Type 0
 Reaches base offset region offsets = (numbers : FreezeNumbers) (o : Option ℕ) → HoldsKind numbers base o → (start : ℕ) × (o ≡ Some start) × LiesAt region offsets (address_at start offset)
+
+some_same : (a b : ℕ) → Some a ≡ Some b → a ≡ b
+some_same a b e = cc
 
 word_of : (numbers : FreezeNumbers) (kind : Kind) (o : Option ℕ) → IsWritten kind → HoldsKind numbers kind o → (word : ℕ) × (o ≡ Some word)
 word_of numbers Unwritten o written h = absurd written
@@ -39,6 +44,12 @@ word_of numbers (Freeze name) o written h = (h.0, h.1)
 pub puts_bytes : (d there : Description) (frame count : ℕ) (offsets : Offsets) (kind : Kind) → Writes d frame offsets count there → StoreLeaves d frame offsets count kind there
 puts_bytes d there frame count offsets kind writes = λ numbers callers m address word is lies holds.
     writes numbers callers m address (little_bytes count word) is lies (length-low_bytes 0 count word) (bytes_below 0 count word)
+
+-- a number is stored
+pub puts_number : (d there : Description) (frame count : ℕ) (offsets : Offsets) (number : Scalar) (kind : Kind) → kind ≡ Number number → StoresNumber d frame offsets count number there → StoreLeaves d frame offsets count kind there
+puts_number d there frame count offsets number kind same stores = λ numbers callers m address word is lies holds.
+    let its : HoldsKind numbers (Number number) (Some word) = subst (λ (k : Kind). HoldsKind numbers k (Some word)) same holds in
+    stores numbers callers m address word is lies (subst (Has number) (let one : its.0 ≡ word = sym (some_same word its.0 its.1) in one) its.2)
 
 -- and a spill is written at one offset
 pub puts_word : (d there : Description) (frame word : ℕ) (offsets : Offsets) (kind : Kind) → offsets.least ≡ 8 * word → offsets.most ≡ 8 * word → WritesWord d frame (8 * word) kind there → StoreLeaves d frame offsets 8 kind there

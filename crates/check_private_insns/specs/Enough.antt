@@ -1,6 +1,6 @@
 -- What is enough for the check of an instruction to pass that is no call and no exit, and what is known behind it then. It says
 -- nothing of machines: it is what a program may rely on that is to be accepted.
-use Rattle.std.specs.Prelude.{◌≡◌, ℕ, ℤ, pos, ◌+◌, ◌<◌, ◌≤◌, ◌==◌, true, false, [], length, Some, ◌⊎◌}
+use Rattle.std.specs.Prelude.{◌≡◌, ℕ, ℤ, pos, ◌+◌, ◌<◌, ◌≤◌, ◌==◌, true, false, [], length, Some, ◌⊎◌, IfSome}
 use Rattle.std.specs.Int.{w64, cast_unsigned}
 use Rattle.bpf_insn.specs.declared.insn.AluOp.{AluOp}
 use Rattle.bpf_insn.specs.declared.insn.AluOp.TheVariants.{Mov}
@@ -80,6 +80,12 @@ pub record ChangesOnly (dst : Reg) (d there : Description) : Type 0 where
   pub spills : there.spills ≡ d.spills
   pub held : there.held ≡ d.held
   pub disposal : there.disposed ≡ d.disposed
+
+-- and of the stack: the register is no more the one that was loaded last
+pub record Replaces (dst : Reg) (d there : Description) : Type 0 where
+  pub only : ChangesOnly dst d there
+  pub numbers : there.numbers ≡ d.numbers
+  pub loaded : IfSome there.loaded (λ loaded. (d.loaded ≡ Some loaded) × (number_of loaded.reg ≡ number_of dst → ⊥))
 
 -- what is moved is what is there then
 abbrev pub IsMoved : Description → Operand → Kind → Type 0

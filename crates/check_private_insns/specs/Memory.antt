@@ -1,5 +1,5 @@
 -- What a load or a store makes of the machines that are described, and that none of them is stuck there.
-use Rattle.std.specs.Prelude.{◌≡◌, ℕ, ℤ, ◌<◌, ◌^◌, List, Option, Some, All}
+use Rattle.std.specs.Prelude.{◌≡◌, ℕ, ℤ, ◌<◌, ◌^◌, List, [], Option, Some, All, length, slice_index_or}
 use Rattle.std.specs.Int.{byte_len}
 use Rattle.byteorder.specs.Endian.{little_bytes}
 use Rattle.bpf_insn.specs.declared.insn.LoadForm.{LoadForm}
@@ -7,6 +7,10 @@ use Rattle.bpf_insn.specs.declared.insn.StoreSize.{StoreSize}
 use Rattle.bpf_insn.specs.declared.reg.Reg.{Reg}
 use Rattle.bpf_semantics.specs.MachineState.{MachineState}
 use Rattle.bpf_semantics.specs.Memory.{address_of, load_width, loaded, read, store_width, with_word_at, word_from}
+use Rattle.scalar_domain.specs.declared.scalars.Scalar.{Scalar}
+use Rattle.scalar_domain.specs.Scalar.{Has}
+use Rattle.stack_domain.specs.declared.numbers.NumberPlace.{NumberPlace}
+use Rattle.stack_domain.specs.Numbers.{number_in}
 use Rattle.check_register_kinds.specs.declared.access.Access.{Access}
 use Rattle.check_description.specs.declared.description.Description.{Description}
 use Rattle.check_register_kinds.specs.declared.kind.Kind.{Kind}
@@ -37,6 +41,26 @@ abbrev pub LoadGives : Description → LoadForm → Region → Offsets → Kind 
 LoadGives d form region offsets kind =
     (numbers : FreezeNumbers) (callers : List SavedRegisters) (m : MachineState) (address word : ℕ) → DescribesWith numbers callers d m → LiesAt region offsets address →
     word_from (load_width form) m address ≡ Some word → word < 256 ^ byte_len (load_width form) → HoldsKind numbers kind (Some (loaded form word))
+
+-- what the load makes of the word that stands there is one of these numbers
+abbrev pub HasLoaded : Description → LoadForm → ℕ → Offsets → Scalar → Type 0
+HasLoaded d form frame offsets number =
+    (numbers : FreezeNumbers) (callers : List SavedRegisters) (m : MachineState) (address word : ℕ) → DescribesWith numbers callers d m → LiesAt (Frame frame) offsets address →
+    word_from (load_width form) m address ≡ Some word → word < 256 ^ byte_len (load_width form) → Has number (loaded form word)
+
+-- what the load gives is the number that stands there
+abbrev pub ReadsPlace : Description → LoadForm → Reg → ℤ → NumberPlace → Type 0
+ReadsPlace d form src offset place =
+    (numbers : FreezeNumbers) (callers : List SavedRegisters) (m : MachineState) (address word : ℕ) → DescribesWith numbers callers d m → address_of m src offset ≡ Some address → word_from (load_width form) m address ≡ Some word →
+    (place.frame < length m.frames) × (number_in place.bytes place.offset (slice_index_or m.frames place.frame []) ≡ Some (loaded form word))
+
+-- so many bytes of a live frame from one offset on
+pub record IsPlaceOf (depth : ℕ) (access : Access) (bytes : ℕ) (place : NumberPlace) : Type 0 where
+  pub region : access.region ≡ Frame place.frame
+  pub least : access.offsets.least ≡ place.offset
+  pub most : access.offsets.most ≡ place.offset
+  pub count : place.bytes ≡ bytes
+  pub live : place.frame < depth
 
 -- the word is there, and the kind holds of what the load makes of it
 pub record IsLoaded (numbers : FreezeNumbers) (m : MachineState) (form : LoadForm) (src : Reg) (offset : ℤ) (kind : Kind) : Type 0 where

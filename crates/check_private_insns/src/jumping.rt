@@ -10,14 +10,14 @@ ghost use Rattle.helpers.specs.declared.limits.HelperLimits.{HelperLimits};
 ghost use Rattle.scalar_domain.specs.Scalar.{Has};
 ghost use Rattle.check_description.specs.declared.saved.SavedRegisters.{SavedRegisters};
 ghost use Rattle.check_description.specs.Description.{Describes, DescribesWith, kind_at, NeverStuck};
-ghost use Rattle.check_private_insns.specs.Enough.{ComparesNumbers, LeavesCompared, LeavesKnown, LeavesTested, TestsFreeze};
+ghost use Rattle.check_private_insns.specs.Enough.{ChangesOnly, ComparesNumbers, LeavesCompared, LeavesKnown, LeavesTested, TestsFreeze};
 ghost use Rattle.check_register_kinds.specs.Finds.{Found, IsOfNumbers, found_of};
 ghost use Rattle.check_private_insns.specs.Follows.{Follows};
 ghost use Rattle.check_register_kinds.specs.Freezes.{FreezeNumbers};
 ghost use Rattle.check_private_insns.specs.GoesOn.{ReadsUnwritten, is_taken};
 
 use crate::freeze::{freeze_is_sure, freeze_is_zero};
-use crate::operands::{operand, set};
+use crate::operands::{find, operand};
 use crate::way::Way;
 use bpf_insn::{Condition, Operand, Reg, Width};
 use check_description::Description;
@@ -75,10 +75,20 @@ fn narrow(description: &mut Description, dst: Reg, src: Operand, left: Scalar, r
     ensures held { description.new.held ≡ description.old.held }
     ensures depth { length description.new.stack ≡ length description.old.stack }
 {
-    set(description, dst, Kind::Number(left));
+    narrow_one(description, dst, left);
     if let Operand::Register(reg) = src {
-        set(description, reg, Kind::Number(right));
+        narrow_one(description, reg, right);
     }
+}
+
+// A register that is compared holds one of these numbers, and so does the place on the stack from which it was loaded last.
+fn narrow_one(description: &mut Description, reg: Reg, number: Scalar)
+    ensures means { (numbers : FreezeNumbers) (callers : List SavedRegisters) (m : MachineState) (word : ℕ) → DescribesWith numbers callers description.old m → register m reg ≡ Some word → Has number word → DescribesWith numbers callers description.new m }
+    ensures set { kind_at description.new reg ≡ Kind.Number number }
+    ensures only { ChangesOnly reg description.old description.new }
+{
+    find(description, reg, Kind::Number(number));
+    description.narrow_loaded(reg, number);
 }
 
 // Whether an operand is the instruction's own constant.

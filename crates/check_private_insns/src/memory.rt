@@ -1,7 +1,7 @@
 // Loads and stores where a machine is described. It relies on `check_register_kinds` for where they lie, on `check_description` for
 // bytes that are written and for what is spilled, and on `stack_domain` for which stack bytes are written.
 
-ghost use Rattle.std.specs.Prelude.{◌≡◌, ◌<◌, ◌≤◌, ◌+◌, ◌^◌, ℕ, length, IfOk, IsOk, IsOkAnd};
+ghost use Rattle.std.specs.Prelude.{◌≡◌, ◌<◌, ◌≤◌, ◌+◌, ◌^◌, ℕ, length, IfOk, IfSome, IsOk, IsOkAnd, IsTrue};
 ghost use Rattle.std.specs.Int.{byte_len};
 ghost use Rattle.bpf_semantics.specs.Memory.{load_width, loaded, store_width};
 ghost use Rattle.scalar_domain.specs.Scalar.{Has};
@@ -10,13 +10,14 @@ ghost use Rattle.check_description.specs.Memory.{AreKnown, LeavesMarked};
 ghost use Rattle.check_description.specs.Spills.{AreUnspilled};
 ghost use Rattle.check_private_insns.specs.Enough.{LeavesStored, LiesInContext, LiesInFrame, LiesWritten};
 ghost use Rattle.check_register_kinds.specs.Kinds.{IsNumber, size_of};
-ghost use Rattle.check_private_insns.specs.Memory.{LoadGives, Loads, StoreLeaves, AccessReads, ReadsFrame, Stores};
+ghost use Rattle.check_private_insns.specs.Memory.{HasLoaded, IsPlaceOf, LoadGives, Loads, StoreLeaves, AccessReads, ReadsFrame, ReadsPlace, Stores};
 
 use base::OrMemory;
 use bpf_insn::{LoadForm, Reg, SignExtension, StoreSize};
 use check_description::Description;
 use check_register_kinds::{Access, Cause, Kind, Offsets, Region, accessed};
 use scalar_domain::{Scalar, extend};
+use stack_domain::NumberPlace;
 
 /// What a load gives of the bytes that begin at a register's address plus the offset.
 ///
@@ -38,6 +39,50 @@ pub(crate) fn loaded(
     let access = accessed(description.kind(src), offset, bytes)?;
     check_read(description, access, bytes)?;
     given(description, form, access, bytes)
+}
+
+/// The place on the stack at which the number stands that a load gives, if it is one place and the load is without a sign.
+pub(crate) fn read_place(
+    description: &Description,
+    form: LoadForm,
+    src: Reg,
+    offset: i16,
+) -> Option<NumberPlace>
+    ensures { IfSome result (ReadsPlace description.now form src offset) }
+{
+    if !is_unsigned(form) {
+        return None;
+    }
+    let bytes = load_bytes(form);
+    match accessed(description.kind(src), offset, bytes) {
+        Ok(access) => place_of(description.stack.depth(), access, bytes),
+        Err(_) => None,
+    }
+}
+
+// The place of an access to so many bytes, if it is one of a live frame; so many are live.
+fn place_of(depth: usize, access: Access, bytes: u16) -> Option<NumberPlace>
+    ensures { IfSome result (IsPlaceOf depth access bytes) }
+{
+    match access.region {
+        Region::Frame(frame) => frame_place(depth, frame, access.offsets, bytes),
+        Region::Context => None,
+    }
+}
+
+// The same for an access to that frame.
+fn frame_place(depth: usize, frame: u8, offsets: Offsets, bytes: u16) -> Option<NumberPlace>
+    ensures { IfSome result (IsPlaceOf depth (record { region = Frame frame; offsets = offsets }) bytes) }
+{
+    if usize::from(frame) < depth && offsets.least == offsets.most {
+        Some(NumberPlace {
+            frame,
+            offset: offsets.least,
+            bytes,
+        })
+    } else {
+        None
+    }
 }
 
 // What a load gives of bytes that are there.
@@ -76,11 +121,43 @@ fn given_in(
     ensures spilled { (AreUnspilled description.now.spills frame offsets.least (offsets.most + bytes) → ⊥) → IfOk result (λ kind. IsNumber kind → ⊥) }
 {
     if !description.may_be_spilled(frame, offsets, bytes) {
-        return Ok(Kind::Number(loaded_words(form)));
+        let words = words_there(description, form, frame, offsets, bytes);
+        return Ok(Kind::Number(words));
     }
     match form {
         LoadForm::DoubleWord => reloaded(description, frame, offsets),
         _ => Err(Cause::AddressStored),
+    }
+}
+
+// What a load makes of the words that may stand in bytes of a frame: of a number that is kept there just that, if the load is
+// without a sign.
+fn words_there(
+    description: &Description,
+    form: LoadForm,
+    frame: u8,
+    offsets: Offsets,
+    bytes: u16,
+) -> Scalar
+    requires inside { offsets.most + bytes ≤ 512 }
+    requires all { bytes ≡ byte_len (load_width form) }
+    ensures { HasLoaded description.now form frame offsets result }
+{
+    if is_unsigned(form) {
+        if let Some(number) = description.number_in(frame, offsets, bytes) {
+            return number;
+        }
+    }
+    loaded_words(form)
+}
+
+// Whether a load gives the word that stands there.
+fn is_unsigned(form: LoadForm) -> bool
+    ensures { IsTrue result → (word : ℕ) → loaded form word ≡ word }
+{
+    match form {
+        LoadForm::Byte | LoadForm::HalfWord | LoadForm::Word | LoadForm::DoubleWord => true,
+        LoadForm::SignedByte | LoadForm::SignedHalfWord | LoadForm::SignedWord => false,
     }
 }
 
@@ -204,8 +281,8 @@ fn store_in(
     if usize::from(frame) >= description.stack.depth() {
         return Err(OrMemory::Fault(Cause::AccessOutside));
     }
-    if word.is_number() {
-        description.write_in(frame, offsets, bytes);
+    if let Kind::Number(number) = word {
+        description.store_number_in(frame, offsets, bytes, number);
         return Ok(());
     }
     spill(description, frame, offsets, bytes, word)

@@ -1,7 +1,7 @@
 // The instructions behind which a machine goes on at the next one, but for helper calls. It relies on
 // `check_register_kinds` for what is computed, on `operands` for registers, and on `memory` for loads and stores.
 
-ghost use Rattle.std.specs.Prelude.{◌≡◌, true, ◌⊎◌, IfOk, IsOkAnd, length};
+ghost use Rattle.std.specs.Prelude.{◌≡◌, true, ◌⊎◌, IfOk, IsOkAnd, length, IfSome, Some};
 ghost use Rattle.std.specs.Int.{byte_len};
 ghost use Rattle.bpf_insn.specs.declared.insn.Insn.TheVariants.{Alu, InPlace, SignExtend, LoadImmediate, Load, Store};
 ghost use Rattle.bpf_semantics.specs.Memory.{load_width, store_width};
@@ -11,12 +11,13 @@ ghost use Rattle.check_private_insns.specs.Enough.{EnoughToCompute, IsNumberOper
 ghost use Rattle.check_private_insns.specs.GoesOn.{GoesOn, ReadsUnwritten};
 ghost use Rattle.check_register_kinds.specs.Kinds.{IsNumber};
 
-use crate::memory::{loaded, store};
+use crate::memory::{loaded, read_place, store};
 use crate::operands::{operand, set};
 use base::OrMemory;
 use bpf_insn::{AluOp, InPlaceOp, LoadForm, Operand, Reg, SignExtension, StoreSize, Width};
-use check_description::Description;
+use check_description::{Description, Loaded};
 use check_register_kinds::{Cause, Kind, changed, computed, extended};
+use stack_domain::NumberPlace;
 
 /// Arithmetic on a register and an operand.
 pub fn compute(
@@ -88,8 +89,20 @@ pub fn load(
     ensures depth { IfOk result (λ _. length description.new.stack ≡ length description.old.stack) }
 {
     let kind = loaded(description, form, src, offset)?;
+    let place = read_place(description, form, src, offset);
     set(description, dst, kind);
+    description.loaded = loaded_from(dst, place);
     Ok(())
+}
+
+// What is known of a register that was loaded from there.
+fn loaded_from(reg: Reg, place: Option<NumberPlace>) -> Option<Loaded>
+    ensures { IfSome result (λ loaded. (loaded.reg ≡ reg) × (place ≡ Some loaded.place)) }
+{
+    match place {
+        Some(place) => Some(Loaded { reg, place }),
+        None => None,
+    }
 }
 
 /// An operand is stored.

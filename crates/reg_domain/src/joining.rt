@@ -47,6 +47,8 @@ fn join_agreed(description: &mut Description, other: &Description)
     description
         .spills
         .join(&other.spills, &mut description.stack);
+    description.numbers.join(&other.numbers);
+    description.loaded = None;
 }
 
 // What holds of each register where it holds on this path or on the other.

@@ -11,7 +11,7 @@ ghost use Rattle.check_register_kinds.specs.Kinds.{IsAt};
 
 use check_description::{Description, Spills};
 use check_register_kinds::{FreezeName, Held, Kind, Offsets, Region};
-use stack_domain::Stack;
+use stack_domain::{Stack, StackNumbers};
 use std::alloc::Global;
 
 /// At the entry of a program.
@@ -23,6 +23,8 @@ pub fn entry(alloc: Global) -> Description
         registers: entry_registers(),
         stack: Stack::outermost(),
         spills: Spills::none(alloc),
+        numbers: StackNumbers::none(alloc),
+        loaded: None,
         held: Held::at_start(),
         disposed: false,
     }

@@ -1,3 +1,4 @@
 pub mod Stack
 pub mod Sets
 pub mod Stores
+pub mod Numbers

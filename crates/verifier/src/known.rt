@@ -3,6 +3,7 @@
 
 ghost use Rattle.std.specs.Prelude.{◌≡◌, ◌≤◌, [], IfOk, vec_capacity};
 
+use bpf_insn::Insn;
 use check_description::Description;
 use std::alloc::{AllocError, Global};
 use std::marker::Model;
@@ -26,6 +27,18 @@ impl Model for Known {
     ghost Value = { Description };
 
     ghost view = { λ known. known.description.value };
+}
+
+impl Known {
+    /// The same, with room for the number that the instruction may store.
+    pub fn with_room(mut self, insn: Insn) -> Result<Self, AllocError>
+        ensures { IfOk result (λ it. it ≡ self) }
+    {
+        if let Insn::Store { .. } = insn {
+            self.description.make_room()?;
+        }
+        Ok(self)
+    }
 }
 
 /// Memory of places and of tables that are needed no more, for those to come.

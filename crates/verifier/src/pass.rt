@@ -249,9 +249,10 @@ fn check_ways<W: Witness + Drop>(
             )
         }
         None => {
+            let roomy = known.with_room(check.insn)?;
             let ahead = Way::FallThrough;
             lead(
-                limits, callers, table, check, known, ahead, start, behind, along,
+                limits, callers, table, check, roomy, ahead, start, behind, along,
             )
         }
     }

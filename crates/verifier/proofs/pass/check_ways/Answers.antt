@@ -1,5 +1,5 @@
 use Rattle.std.proofs.Common.{◌≡◌, ℕ, ◌+◌, ◌-◌, ◌≤◌, Some, None, length, sym, ap, subst, ◌∙◌, arith}
-use Rattle.std.specs.Prelude.{IsOkAnd}
+use Rattle.std.specs.Prelude.{IfOk, IsOkAnd}
 use Rattle.bpf_insn.specs.Program.{insn_at, slots_of}
 use Rattle.call_shape.specs.Shape.{target_in}
 use Rattle.check_description.specs.declared.description.Description.{Description}
@@ -46,14 +46,18 @@ returns-in_ok-lead-in-Some-clause-arrives g c =
 pub returns-in_ok-lead-in-Some-clause-fails : goal.returns-in_ok-lead-in-Some-clause-fails
 returns-in_ok-lead-in-Some-clause-fails g c = err_and _ _ c.lead-in-Some.result c.lead-in-Some.ensures.fails (both_arrive g c)
 
-pub returns-in-None-clause-checked : goal.returns-in-None-clause-checked
-returns-in-None-clause-checked g c =
+roomy_is : (g : Over) (c : After-table-in-None-1 g) → c.in_ok-roomy-in-None.roomy ≡ c.args.known
+roomy_is g c = c.in_ok-roomy-in-None.ensures
+
+pub returns-in_ok-roomy-in-None-clause-checked : goal.returns-in_ok-roomy-in-None-clause-checked
+returns-in_ok-roomy-in-None-clause-checked g c =
     let slot : c.args.at + c.slots.result ≡ c.args.at + length (slots_of c.args.check.insn) = ap (λ n. c.args.at + n) c.slots.ensures in
     let none : target_in (c.args.start + c.args.at) c.args.check.insn ≡ None = sym c.in-None.ensures in
+    let led = subst (λ (d : Description). IfOk c.lead-in-None.result (λ _. HasLed c.args.limits.now c.args.callers.now d c.args.table.now c.args.check.insn FallThrough (c.args.at + c.slots.result) c.lead-in-None.new.table)) (roomy_is g c) c.lead-in-None.ensures.led in
     if_ok c.lead-in-None.result
     (checked_straight c.args.limits.now c.args.program.now c.args.callers.now c.args.start c.args.known c.args.table.now c.lead-in-None.new.table c.args.at (c.args.at + c.slots.result) c.args.check.insn
     slot c.requires.here c.requires.at c.requires.end c.requires.stays none)
-    c.lead-in-None.ensures.led
+    led
 
 one_arrives : (g : Over) (c : After-table-in-None-1 g) → (c.args.start ≡ 0) × NeverLacks c.args.program.now × AllArrive c.args.program.now c.args.table.now × Arrives c.args.program.now c.args.at c.args.known → IsOkAnd c.lead-in-None.result (λ _. AllArrive c.args.program.now c.lead-in-None.new.table)
 one_arrives g c (zero, never, all, arrives) =
@@ -61,11 +65,11 @@ one_arrives g c (zero, never, all, arrives) =
     let place : c.args.start + c.args.at ≡ c.args.at = omega (arith, zero) in
     let here = subst (λ (k : ℕ). insn_at program k ≡ Some c.args.check.insn) place c.requires.here in
     let behind : goes_to c.args.at c.args.check.insn FallThrough ≡ Some (c.args.at + c.slots.result) = ap (λ n. Some (c.args.at + n)) (sym c.slots.ensures) in
-    c.lead-in-None.ensures.passes program c.args.at never all (omega (arith, c.requires.end.inside)) here arrives behind
+    c.lead-in-None.ensures.passes program c.args.at never all (omega (arith, c.requires.end.inside)) here (subst (Arrives program c.args.at) (sym (roomy_is g c)) arrives) behind
 
-pub returns-in-None-clause-arrives : goal.returns-in-None-clause-arrives
-returns-in-None-clause-arrives g c =
+pub returns-in_ok-roomy-in-None-clause-arrives : goal.returns-in_ok-roomy-in-None-clause-arrives
+returns-in_ok-roomy-in-None-clause-arrives g c =
     if_ok c.lead-in-None.result (λ all_arrive zero never all arrives. all_arrive (zero, never, all, arrives)) (if_and _ _ c.lead-in-None.result (one_arrives g c))
 
-pub returns-in-None-clause-fails : goal.returns-in-None-clause-fails
-returns-in-None-clause-fails g c = err_and _ _ c.lead-in-None.result c.lead-in-None.ensures.fails (one_arrives g c)
+pub returns-in_ok-roomy-in-None-clause-fails : goal.returns-in_ok-roomy-in-None-clause-fails
+returns-in_ok-roomy-in-None-clause-fails g c = err_and _ _ c.lead-in-None.result c.lead-in-None.ensures.fails (one_arrives g c)

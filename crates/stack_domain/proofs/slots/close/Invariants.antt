@@ -1,0 +1,12 @@
+use Rattle.std.proofs.Common.{◌≡◌, ◌<◌, ◌≤◌, ℕ, None, Some, length}
+use Rattle.std.specs.Prelude.{slice_index_or}
+use Rattle.stack_domain.specs.declared.numbers.StackNumber.{StackNumber}
+use Rattle.stack_domain.proofs.slots.close.Given as goal
+
+-- what is left in the slots before this one is of a live frame, and the others are as they were
+abbrev pub invariant-loop-slot : goal.invariant-loop-slot
+invariant-loop-slot l = record {
+  count : length l.slots ≡ length l.fn.slots;
+  done : (j : ℕ) → j < l.slot → (kept : StackNumber) → slice_index_or l.slots j None ≡ Some kept → (slice_index_or l.fn.slots j None ≡ Some kept) × (kept.place.frame < l.live);
+  rest : (j : ℕ) → l.slot ≤ j → slice_index_or l.slots j None ≡ slice_index_or l.fn.slots j None;
+}

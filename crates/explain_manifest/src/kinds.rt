@@ -7,6 +7,7 @@ use check_register_kinds::{Certainty, FreezeName, HeldFreeze, Kind, Offsets, Reg
 use cli_text_page::Page;
 use explain_path::{Log, Registers};
 use scalar_domain::Scalar;
+use stack_domain::NumberPlace;
 
 /// What distinguishes the signed order of words from the unsigned one.
 const SIGN: u64 = 1 << 63;
@@ -21,6 +22,26 @@ pub fn put_kind(page: &mut Page, log: &Log, known: &Description, kind: Kind) {
         Kind::Number(scalar) => put_number(page, scalar),
         Kind::Address(region, offsets) => put_address(page, known, region, offsets),
         Kind::Freeze(name) => put_copy(page, log, known, name),
+    }
+}
+
+/// Puts which number a load gives of those that are kept on the stack, if it gives one: so many bytes behind a register's address
+/// are loaded without a sign.
+pub fn put_kept(page: &mut Page, known: &Description, base: Reg, offset: i16, bytes: u16) {
+    let Kind::Address(Region::Frame(frame), offsets) = known.kind(base) else {
+        return;
+    };
+    if offsets.least != offsets.most {
+        return;
+    }
+    let place = NumberPlace {
+        frame,
+        offset: offsets.least.saturating_add_signed(offset),
+        bytes,
+    };
+    if let Some(number) = known.numbers.find(place) {
+        page.text("; loads ");
+        put_number(page, number);
     }
 }
 

@@ -2,9 +2,9 @@
 // `explain_path` for the path, and on `listing` for how instructions are written.
 
 use crate::arguments::helper_of;
-use crate::kinds::{put_held, put_registers};
+use crate::kinds::{put_held, put_kept, put_registers};
 use crate::program::Told;
-use bpf_insn::{Callee, Insn, Reg, jump_target};
+use bpf_insn::{Callee, Insn, LoadForm, Reg, jump_target};
 use cli_text_page::Page;
 use explain_path::{Path, Registers, Sighting};
 use helpers::Helper;
@@ -124,9 +124,30 @@ fn put_known(page: &mut Page, told: &Told<'_>, sighting: &Sighting, insn: Insn) 
         page.text("  ");
         put_registers(page, told.log, &sighting.known, registers);
     }
+    put_loaded(page, sighting, insn);
     if tells_freezes(insn) {
         page.text("  ");
         put_held(page, told.log, &sighting.known);
+    }
+}
+
+// Puts which number a load without a sign gives, if it is kept on the stack.
+fn put_loaded(page: &mut Page, sighting: &Sighting, insn: Insn) {
+    if let Insn::Load {
+        form,
+        src,
+        offset,
+        ..
+    } = insn
+    {
+        let bytes = match form {
+            LoadForm::Byte => 1,
+            LoadForm::HalfWord => 2,
+            LoadForm::Word => 4,
+            LoadForm::DoubleWord => 8,
+            LoadForm::SignedByte | LoadForm::SignedHalfWord | LoadForm::SignedWord => return,
+        };
+        put_kept(page, &sighting.known, src, offset, bytes);
     }
 }
 

@@ -155,6 +155,11 @@ static void nulls_and_faults(void)
     WANT(camr_open("\xff", 1, &none, NULL, 0) == CAMR_NOT_UTF8 && camr_open(NULL, 0, &none, NULL, 0) == CAMR_FAULTY);
     WANT(camr_submit(NULL, 0, 0, 0, &it) == CAMR_NULL && camr_submit(engine, 0, 0, 0, NULL) == CAMR_NULL);
     WANT(camr_complete(engine, 1, CAMR_REQ_CMP, 0, NULL, 1, &run) == CAMR_NULL && run == NULL);
+    run = (camr_run *)fault, r0 = 9, ended = true;
+    WANT(camr_complete(NULL, 1, CAMR_REQ_CMP, 0, NULL, 0, &run) == CAMR_NULL && run == NULL);
+    WANT(camr_drive(engine, NULL, &r0, &ended) == CAMR_NULL && r0 == 0 && !ended);
+    run = (camr_run *)fault;
+    WANT(camr_resume(NULL, 1, &run) == CAMR_NULL && run == NULL);
     WANT(camr_stretch(NULL) == CAMR_NULL && camr_advance(engine, NULL, &r0, &ended) == CAMR_NULL);
     WANT(camr_trace(engine, 0, NULL, 9, &written, &r0) == CAMR_NULL);
     for (camr_result result = 0; result <= CAMR_TOO_LONG; result++)

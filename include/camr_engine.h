@@ -7,9 +7,10 @@
  * libcamr_c.a, which `tools/build-c-library` proves and builds.
  *
  * RESULTS. A call answers a camr_result. CAMR_DONE: it was carried out, and is recorded. CAMR_UNKNOWN to CAMR_CONTROLLER_FROZEN:
- * it was refused, and the refusal is recorded. Every other result: the engine is as before, and nothing is recorded. What is
- * written through a pointer is 0, false or NULL unless the result is CAMR_DONE, where nothing else is said; of a drive that stops
- * behind some of its stops, R0 at the last of these. No call ends the process, and none waits.
+ * it was refused, and the refusal is recorded. Every other result: the engine is as before, and nothing is recorded; but a drive
+ * that answers CAMR_OUT_OF_MEMORY has recorded its stops before. What is written through a pointer that is not NULL
+ * is 0, false or NULL unless the result is CAMR_DONE, where nothing else is said; of such a drive, R0 at the last of its stops. No
+ * call ends the process, and none waits.
  *
  * HANDLES. A camr_engine comes from camr_open and goes with camr_close. A camr_run comes from camr_complete or camr_resume and
  * goes with camr_run_free, always, also when it has ended or is parked. Handles are this library's: nobody looks behind them. A
@@ -149,8 +150,8 @@ static inline camr_result camr_open(const char *manifest, size_t length, camr_en
 {
     uint8_t none = 0;
     size_t written = 0;
+    if (engine != NULL) *engine = NULL;
     if (engine == NULL) return CAMR_NULL;
-    *engine = NULL;
     camr_result place = camr_place_(manifest, length);
     if (place != CAMR_DONE) return place;
     place = camr_place_(fault, fault_length);
@@ -175,8 +176,8 @@ static inline void camr_close(camr_engine *engine)
  * CAMR_UNKNOWN, CAMR_LIMIT, CAMR_OUT_OF_MEMORY, CAMR_NULL. */
 static inline camr_result camr_submit(camr_engine *engine, uint32_t queue, uint32_t priority, uint32_t retries, uint32_t *ccb)
 {
+    if (ccb != NULL) *ccb = 0;
     if (engine == NULL || ccb == NULL) return CAMR_NULL;
-    *ccb = 0;
     return camr_raw_submit(&engine, queue, priority, retries, ccb);
 }
 
@@ -184,8 +185,8 @@ static inline camr_result camr_submit(camr_engine *engine, uint32_t queue, uint3
  * CAMR_UNKNOWN, CAMR_FROZEN, CAMR_NO_OPENING, CAMR_NOTHING_WAITS, CAMR_CONTROLLER_FROZEN, CAMR_OUT_OF_MEMORY, CAMR_NULL. */
 static inline camr_result camr_dispatch(camr_engine *engine, uint32_t queue, uint32_t *ccb)
 {
+    if (ccb != NULL) *ccb = 0;
     if (engine == NULL || ccb == NULL) return CAMR_NULL;
-    *ccb = 0;
     return camr_raw_dispatch(&engine, queue, ccb);
 }
 
@@ -202,8 +203,8 @@ static inline camr_result camr_complete(camr_engine *engine, uint32_t ccb, uint8
     uint8_t none = 0;
     bool started = false;
     camr_run *its = NULL;
+    if (run != NULL) *run = NULL;
     if (engine == NULL || run == NULL) return CAMR_NULL;
-    *run = NULL;
     camr_result place = camr_place_(sense, sense_length);
     if (place != CAMR_DONE) return place;
     camr_result result = camr_raw_complete(&engine, ccb, status, scsi, sense_length != 0 ? (const uint8_t *)sense : &none,
@@ -216,8 +217,8 @@ static inline camr_result camr_complete(camr_engine *engine, uint32_t ccb, uint8
  * CAMR_LIMIT, CAMR_GOES_BACK, CAMR_OUT_OF_MEMORY, CAMR_NULL. */
 static inline camr_result camr_clock(camr_engine *engine, uint64_t reading, uint32_t *removed)
 {
+    if (removed != NULL) *removed = 0;
     if (engine == NULL || removed == NULL) return CAMR_NULL;
-    *removed = 0;
     return camr_raw_clock(&engine, reading, removed);
 }
 
@@ -225,8 +226,9 @@ static inline camr_result camr_clock(camr_engine *engine, uint64_t reading, uint
  * not recorded. CAMR_NULL. */
 static inline camr_result camr_next_due(camr_engine *engine, bool *is_due, uint64_t *reading)
 {
+    if (is_due != NULL) *is_due = false;
+    if (reading != NULL) *reading = 0;
     if (engine == NULL || is_due == NULL || reading == NULL) return CAMR_NULL;
-    *reading = 0;
     *is_due = camr_raw_next_due(&engine, reading);
     return CAMR_DONE;
 }
@@ -235,15 +237,15 @@ static inline camr_result camr_next_due(camr_engine *engine, bool *is_due, uint6
  * given again. The engine keeps its token until camr_guest_release. CAMR_UNKNOWN, CAMR_LIMIT, CAMR_OUT_OF_MEMORY, CAMR_NULL. */
 static inline camr_result camr_guest_freeze(camr_engine *engine, uint32_t queue, uint32_t guest, uint32_t *freeze)
 {
+    if (freeze != NULL) *freeze = 0;
     if (engine == NULL || freeze == NULL) return CAMR_NULL;
-    *freeze = 0;
     return camr_raw_guest_freeze(&engine, queue, guest, freeze);
 }
 
 static inline camr_result camr_guest_freeze_controller(camr_engine *engine, uint32_t controller, uint32_t guest, uint32_t *freeze)
 {
+    if (freeze != NULL) *freeze = 0;
     if (engine == NULL || freeze == NULL) return CAMR_NULL;
-    *freeze = 0;
     return camr_raw_guest_freeze_controller(&engine, controller, guest, freeze);
 }
 
@@ -252,14 +254,16 @@ static inline camr_result camr_guest_freeze_controller(camr_engine *engine, uint
  * CAMR_NOT_HELD, CAMR_NULL. */
 static inline camr_result camr_guest_release(camr_engine *engine, uint32_t freeze, uint32_t *left)
 {
+    if (left != NULL) *left = 0;
     if (engine == NULL || left == NULL) return CAMR_NULL;
-    *left = 0;
     return camr_raw_guest_release(&engine, freeze, left);
 }
 
 /* The sums so far. It is not recorded. CAMR_NULL. */
 static inline camr_result camr_totals(camr_engine *engine, camr_totals_t *totals)
 {
+    const camr_totals_t none = {0, 0, 0, 0};
+    if (totals != NULL) *totals = none;
     if (engine == NULL || totals == NULL) return CAMR_NULL;
     camr_raw_totals(&engine, totals);
     return CAMR_DONE;
@@ -277,9 +281,9 @@ static inline camr_result camr_trace(camr_engine *engine, uint64_t from, char *b
                                      uint64_t *next)
 {
     uint8_t none = 0;
+    if (written != NULL) *written = 0;
+    if (next != NULL) *next = from;
     if (engine == NULL || written == NULL || next == NULL) return CAMR_NULL;
-    *written = 0;
-    *next = from;
     camr_result place = camr_place_(buffer, length);
     if (place != CAMR_DONE) return place;
     return camr_raw_trace(&engine, from, length != 0 ? (uint8_t *)buffer : &none, length, written, next);
@@ -290,8 +294,8 @@ static inline camr_result camr_trace(camr_engine *engine, uint64_t from, char *b
 static inline camr_result camr_trace_end(camr_engine *engine, char *buffer, size_t length, size_t *written)
 {
     uint8_t none = 0;
+    if (written != NULL) *written = 0;
     if (engine == NULL || written == NULL) return CAMR_NULL;
-    *written = 0;
     camr_result place = camr_place_(buffer, length);
     if (place != CAMR_DONE) return place;
     return camr_raw_trace_end(&engine, length != 0 ? (uint8_t *)buffer : &none, length, written);
@@ -311,26 +315,27 @@ static inline camr_result camr_stretch(camr_run *run)
  * these two it is back behind its last stop, and is stretched again. CAMR_NULL. */
 static inline camr_result camr_advance(camr_engine *engine, camr_run *run, uint64_t *r0, bool *ended)
 {
+    if (r0 != NULL) *r0 = 0;
+    if (ended != NULL) *ended = false;
     if (engine == NULL || run == NULL || r0 == NULL || ended == NULL) return CAMR_NULL;
-    *r0 = 0;
-    *ended = false;
     return camr_raw_advance(&engine, &run, r0, ended);
 }
 
-/* Takes a run from stop to stop until it has ended, with R0 at its exit: what camr_stretch and camr_advance do by turns, with the same
- * records, but faster. A run that was stretched is stretched again. With every result but CAMR_DONE *ended is false. CAMR_SPENT.
- * CAMR_NOT_OUT: it is a run of another engine, and is back behind its last stop. CAMR_OUT_OF_MEMORY: what it did up to its last stop
- * is recorded, *r0 is R0 after that, or 0 if there was none, and it is driven on from there. CAMR_NULL. */
+/* Takes a run from stop to stop until it has ended, with R0 at its exit: what camr_stretch and camr_advance do by turns, with the
+ * same records, but faster. A run that was stretched is stretched again. With every result but CAMR_DONE *ended is false.
+ * CAMR_SPENT. CAMR_NOT_OUT: it is a run of another engine, and is back behind its last stop. CAMR_OUT_OF_MEMORY: what it did up to
+ * its last stop is recorded, *r0 is R0 after that, or 0 if there was none, and it is driven on from there. CAMR_NULL. */
 static inline camr_result camr_drive(camr_engine *engine, camr_run *run, uint64_t *r0, bool *ended)
 {
+    if (r0 != NULL) *r0 = 0;
+    if (ended != NULL) *ended = false;
     if (engine == NULL || run == NULL || r0 == NULL || ended == NULL) return CAMR_NULL;
-    *r0 = 0;
-    *ended = false;
     return camr_raw_drive(&engine, &run, r0, ended);
 }
 
 /* Parks a run: it takes no step, and keeps its freezes, until camr_resume is given its number. The handle is spent. What it did
- * since its last stop is forgotten. It takes no memory. CAMR_NOT_OUT: it is as it was. CAMR_SPENT, CAMR_NULL. */
+ * since its last stop is forgotten. It takes no memory. CAMR_NOT_OUT: it is a run of another engine, and is back behind its last
+ * stop. CAMR_SPENT, CAMR_NULL. */
 static inline camr_result camr_park(camr_engine *engine, camr_run *run)
 {
     if (engine == NULL || run == NULL) return CAMR_NULL;
@@ -343,8 +348,8 @@ static inline camr_result camr_resume(camr_engine *engine, uint32_t number, camr
 {
     bool resumed = false;
     camr_run *its = NULL;
+    if (run != NULL) *run = NULL;
     if (engine == NULL || run == NULL) return CAMR_NULL;
-    *run = NULL;
     camr_result result = camr_raw_resume(&engine, number, &its, &resumed);
     if (resumed) *run = its;
     return result;
@@ -354,6 +359,8 @@ static inline camr_result camr_resume(camr_engine *engine, uint32_t number, camr
  * asks no engine. CAMR_NULL. */
 static inline camr_result camr_run_numbers(camr_run *run, uint32_t *number, uint32_t *freeze)
 {
+    if (number != NULL) *number = 0;
+    if (freeze != NULL) *freeze = 0;
     if (run == NULL || number == NULL || freeze == NULL) return CAMR_NULL;
     camr_raw_run_numbers(&run, number, freeze);
     return CAMR_DONE;
@@ -373,8 +380,8 @@ static inline void camr_run_free(camr_run *run)
 static inline camr_result camr_result_text(camr_result result, char *buffer, size_t length, size_t *written)
 {
     uint8_t none = 0;
+    if (written != NULL) *written = 0;
     if (written == NULL) return CAMR_NULL;
-    *written = 0;
     camr_result place = camr_place_(buffer, length);
     if (place != CAMR_DONE) return place;
     return camr_raw_result_text(result, length != 0 ? (uint8_t *)buffer : &none, length, written) ? CAMR_DONE : CAMR_UNKNOWN;

@@ -50,4 +50,4 @@ guests_at_stop old new run back OutOfMemory r0 tokens has came = went_guests old
 
 pub stops : (old new : EngineState) (run back : RunState) (fault : AdvanceFault) (r0 : ℕ) (held : HeldRun) (ended : Bool) (result : CallResult) → ComesBack old run fault back r0 new → AdmitsUnlessTold fault (IsOut old.world run) → held ≡ Out back → ended ≡ false → result ≡ advanced_result fault → IsDriven result (Some run) held old new r0 ended
 stops old new run back NotOut r0 held ended result came admits is unended is_result = rw is_result (is ∙ ap Out came.0, came.2, admits, came.1, unended)
-stops old new run back OutOfMemory r0 held ended result came admits is unended is_result = rw is_result ((back, is, came), unended)
+stops old new run back OutOfMemory r0 held ended result came admits is unended is_result = rw is_result ((back, is, came), admits, unended)

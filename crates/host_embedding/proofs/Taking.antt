@@ -52,7 +52,7 @@ has_ended stopped old new answer r0 is records out ends = (
 
 pub is_back : (its : AdvanceFault) (result : CallResult) (stopped : StoppedState) (back : RunState) (old new : EngineState) (r0 : ℕ) (ended : Bool) → result ≡ advanced_result its → back ≡ before_stop stopped → new ≡ old
     → AdmitsUnlessTold its (IsOut old.world (before_stop stopped)) → IsTakenOver result stopped (Out back) old new r0 ended
-is_back fault.OutOfMemory result stopped back old new r0 ended told same kept admits = rw told (kept, ap Out same)
+is_back fault.OutOfMemory result stopped back old new r0 ended told same kept admits = rw told (kept, ap Out same, admits)
 is_back fault.NotOut result stopped back old new r0 ended told same kept admits = rw told (kept, ap Out same, admits)
 
 -- so it was advanced, by what each of these is

@@ -85,11 +85,11 @@ GoesOrIsSpent true stopped held old new r0 = (held ≡ Spent) × (stopped.segmen
 GoesOrIsSpent false stopped held old new r0 = (again : RunState) × (held ≡ Out again) × GoesFurther old new (before_stop stopped) again
 
 -- An advance with this result, of a run at its stop: done, it was out in this engine, and it is one record more. If it is not out
--- there, or memory was refused, the engine is as before, and the run where its stretch began; the one is reported only if it is so.
+-- there, which is reported exactly then, or memory was refused, the engine is as before, and the run where its stretch began.
 abbrev pub IsTakenOver : CallResult → StoppedState → HeldRun → EngineState → EngineState → ℕ → Bool → Type 0
 IsTakenOver Done stopped held old new r0 ended =
     Records old new (advance_of stopped r0) × IsOut old.world (before_stop stopped) × GoesOrIsSpent ended stopped held old new r0
-IsTakenOver OutOfMemory stopped held old new r0 ended = (new ≡ old) × (held ≡ Out (before_stop stopped))
+IsTakenOver OutOfMemory stopped held old new r0 ended = (new ≡ old) × (held ≡ Out (before_stop stopped)) × IsOut old.world (before_stop stopped)
 IsTakenOver NotOut stopped held old new r0 ended =
     (new ≡ old) × (held ≡ Out (before_stop stopped)) × (IsOut old.world (before_stop stopped) → ⊥)
 IsTakenOver result stopped held old new r0 ended = ⊥
@@ -108,7 +108,7 @@ IsParked Done (Some run) held old new = Records old new (Called answers.Ok (Park
 IsParked NotOut (Some run) held old new = (held ≡ Out run) × (new ≡ old) × (IsOut old.world run → ⊥)
 IsParked result (Some run) held old new = ⊥
 
--- as many records more as there were advances
+-- some records more, or none
 pub record HasMoreRecords (old new : EngineState) : Type 0 where
   pub more : List Record
   pub history : new.history ≡ old.history ++ more
@@ -120,6 +120,6 @@ pub record HasMoreRecords (old new : EngineState) : Type 0 where
 abbrev pub IsDriven : CallResult → Option RunState → HeldRun → EngineState → EngineState → ℕ → Bool → Type 0
 IsDriven result None held old new r0 ended = (result ≡ results.Spent) × (held ≡ Spent) × (new ≡ old) × (r0 ≡ 0) × (ended ≡ false)
 IsDriven Done (Some run) held old new r0 ended = RunsToExit old run r0 new × IsOut old.world run × (held ≡ Spent) × (ended ≡ true)
-IsDriven OutOfMemory (Some run) held old new r0 ended = ((back : RunState) × (held ≡ Out back) × WentOn old run new back r0) × (ended ≡ false)
+IsDriven OutOfMemory (Some run) held old new r0 ended = ((back : RunState) × (held ≡ Out back) × WentOn old run new back r0) × IsOut old.world run × (ended ≡ false)
 IsDriven NotOut (Some run) held old new r0 ended = (held ≡ Out run) × (new ≡ old) × (IsOut old.world run → ⊥) × (r0 ≡ 0) × (ended ≡ false)
 IsDriven result (Some run) held old new r0 ended = ⊥

@@ -41,7 +41,7 @@ number_of TooLong = 21
 -- the text of a result
 abbrev pub text_of : CallResult → List ℕ
 text_of Done = codes "done"
-text_of OutOfMemory = codes "memory was refused, and nothing changed"
+text_of OutOfMemory = codes "memory was refused"
 text_of (Refused refusal) = refusal_text refusal
 text_of NotOut = codes "C4: the run is not out in this engine"
 text_of NotHeld = codes "C6: no guest's freeze is the token's"

@@ -15,7 +15,7 @@ pub const RESULTS: u32 = 22;
 pub enum CallResult {
     /// The call was carried out.
     Done,
-    /// Memory was refused. Nothing changed.
+    /// Memory was refused. Nothing changed, but what a drive did before.
     OutOfMemory,
     /// The call was refused, and that is recorded.
     Refused(CallRefusal),
@@ -120,7 +120,7 @@ impl CallResult {
     {
         match self {
             CallResult::Done => "done",
-            CallResult::OutOfMemory => "memory was refused, and nothing changed",
+            CallResult::OutOfMemory => "memory was refused",
             CallResult::Refused(refusal) => refusal.text(),
             CallResult::NotOut => "C4: the run is not out in this engine",
             CallResult::NotHeld => "C6: no guest's freeze is the token's",

@@ -17,13 +17,13 @@ use Rattle.world_calls.specs.declared.call.Call.{Call as TheCall}
 use Rattle.world_calls.specs.declared.call.Call.TheVariants as calls
 use Rattle.host_live.specs.Requests.{call_text, drive_text, own_text, request_text, step_text}
 use Rattle.host_live.specs.declared.request.Request.{Request}
-use Rattle.host_live.specs.declared.request.Request.TheVariants.{Call, Step, Drive, Drain, Totals}
+use Rattle.host_live.specs.declared.request.Request.TheVariants.{Call, Step, Drive, Drain, Totals, Ccbs}
 
 -- ---- a line is of one kind
 
--- which by its letters: `totals`, `step`, `drive`, `drain`, and all else
+-- which by its letters: `totals`, `ccbs`, `step`, `drive`, `drain`, and all else
 kind_at : List ℕ → ℕ
-kind_at text = cond (get_or text 0 0 == 116) 4 (cond (get_or text 1 0 == 116) 1 (cond (get_or text 2 0 == 105) 2 (cond (get_or text 3 0 == 105) 3 0)))
+kind_at text = cond (get_or text 0 0 == 116) 4 (cond (get_or text 1 0 == 99) 5 (cond (get_or text 1 0 == 116) 1 (cond (get_or text 2 0 == 105) 2 (cond (get_or text 3 0 == 105) 3 0))))
 
 kind_of : Request → ℕ
 kind_of (Call call) = 0
@@ -31,6 +31,7 @@ kind_of (Step run) = 1
 kind_of (Drive run) = 2
 kind_of Drain = 3
 kind_of Totals = 4
+kind_of Ccbs = 5
 
 begins : (word : List ℕ) (fields : Option (List ℕ)) (line : List ℕ) → option_append (Some word) fields ≡ Some line → (rest : List ℕ) × (fields ≡ Some rest) × (line ≡ word ++ rest)
 begins word fields line e =
@@ -56,6 +57,7 @@ kind_is (Step run) line e = ap kind_at (begins (codes "step ") _ line e).2
 kind_is (Drive run) line e = ap kind_at (begins (codes "drive ") _ line e).2
 kind_is Drain line e = ap kind_at (sym (same_text (codes "drain") line e))
 kind_is Totals line e = ap kind_at (sym (same_text (codes "totals") line e))
+kind_is Ccbs line e = ap kind_at (sym (same_text (codes "ccbs") line e))
 
 same_kind : (a b : Request) (line : List ℕ) → request_text a ≡ Some line → request_text b ≡ Some line → kind_of a ≡ kind_of b
 same_kind a b line e f = sym (kind_is a line e) ∙ kind_is b line f
@@ -69,6 +71,7 @@ drain_only line is (Step other) e = let kind : true ≡ false = ap (λ (n : ℕ)
 drain_only line is (Drive other) e = let kind : true ≡ false = ap (λ (n : ℕ). n == 3) (same_kind Drain (Drive other) line (ap Some (sym is)) e) in absurd cc
 drain_only line is Drain e = refl
 drain_only line is Totals e = let kind : true ≡ false = ap (λ (n : ℕ). n == 3) (same_kind Drain Totals line (ap Some (sym is)) e) in absurd cc
+drain_only line is Ccbs e = let kind : true ≡ false = ap (λ (n : ℕ). n == 3) (same_kind Drain Ccbs line (ap Some (sym is)) e) in absurd cc
 
 pub drain_reads : (line : List ℕ) → bytes_eq line (codes "drain") ≡ true → Reads own_text line (Some Drain)
 drain_reads line test =
@@ -82,11 +85,26 @@ totals_only line is (Step other) e = let kind : true ≡ false = ap (λ (n : ℕ
 totals_only line is (Drive other) e = let kind : true ≡ false = ap (λ (n : ℕ). n == 4) (same_kind Totals (Drive other) line (ap Some (sym is)) e) in absurd cc
 totals_only line is Drain e = let kind : true ≡ false = ap (λ (n : ℕ). n == 4) (same_kind Totals Drain line (ap Some (sym is)) e) in absurd cc
 totals_only line is Totals e = refl
+totals_only line is Ccbs e = let kind : true ≡ false = ap (λ (n : ℕ). n == 4) (same_kind Totals Ccbs line (ap Some (sym is)) e) in absurd cc
 
 pub totals_reads : (line : List ℕ) → bytes_eq line (codes "totals") ≡ true → Reads own_text line (Some Totals)
 totals_reads line test =
     let is = same_bytes line (codes "totals") test in
     record { said = ap Some (sym is); back = λ request e. totals_only line is request e }
+
+ccbs_only : (line : List ℕ) → line ≡ codes "ccbs" → (request : Request) → own_text request ≡ Some line → ◌≡◌ {A = Option Request} (Some Ccbs) (Some request)
+unfolding kind_of
+ccbs_only line is (Call other) e = absurd cc
+ccbs_only line is (Step other) e = let kind : true ≡ false = ap (λ (n : ℕ). n == 5) (same_kind Ccbs (Step other) line (ap Some (sym is)) e) in absurd cc
+ccbs_only line is (Drive other) e = let kind : true ≡ false = ap (λ (n : ℕ). n == 5) (same_kind Ccbs (Drive other) line (ap Some (sym is)) e) in absurd cc
+ccbs_only line is Drain e = let kind : true ≡ false = ap (λ (n : ℕ). n == 5) (same_kind Ccbs Drain line (ap Some (sym is)) e) in absurd cc
+ccbs_only line is Totals e = let kind : true ≡ false = ap (λ (n : ℕ). n == 5) (same_kind Ccbs Totals line (ap Some (sym is)) e) in absurd cc
+ccbs_only line is Ccbs e = refl
+
+pub ccbs_reads : (line : List ℕ) → bytes_eq line (codes "ccbs") ≡ true → Reads own_text line (Some Ccbs)
+ccbs_reads line test =
+    let is = same_bytes line (codes "ccbs") test in
+    record { said = ap Some (sym is); back = λ request e. ccbs_only line is request e }
 
 step_only : (line : List ℕ) (run : ℕ) → Reads step_text line (Some run) → (request : Request) → own_text request ≡ Some line → ◌≡◌ {A = Option Request} (Some (Step run)) (Some request)
 unfolding kind_of
@@ -95,6 +113,7 @@ step_only line run reads (Step other) e = let same = reads.back other e in cc
 step_only line run reads (Drive other) e = let kind : true ≡ false = ap (λ (n : ℕ). n == 1) (same_kind (Step run) (Drive other) line reads.said e) in absurd cc
 step_only line run reads Drain e = let kind : true ≡ false = ap (λ (n : ℕ). n == 1) (same_kind (Step run) Drain line reads.said e) in absurd cc
 step_only line run reads Totals e = let kind : true ≡ false = ap (λ (n : ℕ). n == 1) (same_kind (Step run) Totals line reads.said e) in absurd cc
+step_only line run reads Ccbs e = let kind : true ≡ false = ap (λ (n : ℕ). n == 1) (same_kind (Step run) Ccbs line reads.said e) in absurd cc
 
 pub step_reads : (line : List ℕ) (run : ℕ) → Reads step_text line (Some run) → Reads own_text line (Some (Step run))
 step_reads line run reads = record { said = reads.said; back = λ request e. step_only line run reads request e }
@@ -106,6 +125,7 @@ drive_only line run reads (Step other) e = let kind : true ≡ false = ap (λ (n
 drive_only line run reads (Drive other) e = let same = reads.back other e in cc
 drive_only line run reads Drain e = let kind : true ≡ false = ap (λ (n : ℕ). n == 2) (same_kind (Drive run) Drain line reads.said e) in absurd cc
 drive_only line run reads Totals e = let kind : true ≡ false = ap (λ (n : ℕ). n == 2) (same_kind (Drive run) Totals line reads.said e) in absurd cc
+drive_only line run reads Ccbs e = let kind : true ≡ false = ap (λ (n : ℕ). n == 2) (same_kind (Drive run) Ccbs line reads.said e) in absurd cc
 
 pub drive_reads : (line : List ℕ) (run : ℕ) → Reads drive_text line (Some run) → Reads own_text line (Some (Drive run))
 drive_reads line run reads = record { said = reads.said; back = λ request e. drive_only line run reads request e }
@@ -115,16 +135,17 @@ not_this word line other same e =
     let bad : true ≡ false = sym same ∙ (ap (λ (l : List ℕ). bytes_eq l word) (same_text word line e) ∙ other) in
     absurd cc
 
-none_own : (line : List ℕ) → bytes_eq line (codes "drain") ≡ false → bytes_eq line (codes "totals") ≡ false → Reads step_text line None → Reads drive_text line None
+none_own : (line : List ℕ) → bytes_eq line (codes "drain") ≡ false → bytes_eq line (codes "totals") ≡ false → bytes_eq line (codes "ccbs") ≡ false → Reads step_text line None → Reads drive_text line None
     → (request : Request) → own_text request ≡ Some line → ◌≡◌ {A = Option Request} None (Some request)
-none_own line no_drain no_totals step drive (Call call) e = absurd cc
-none_own line no_drain no_totals step drive (Step run) e = let same = step.back run e in absurd cc
-none_own line no_drain no_totals step drive (Drive run) e = let same = drive.back run e in absurd cc
-none_own line no_drain no_totals step drive Drain e = absurd (not_this (codes "drain") line no_drain refl e)
-none_own line no_drain no_totals step drive Totals e = absurd (not_this (codes "totals") line no_totals refl e)
+none_own line no_drain no_totals no_ccbs step drive (Call call) e = absurd cc
+none_own line no_drain no_totals no_ccbs step drive (Step run) e = let same = step.back run e in absurd cc
+none_own line no_drain no_totals no_ccbs step drive (Drive run) e = let same = drive.back run e in absurd cc
+none_own line no_drain no_totals no_ccbs step drive Drain e = absurd (not_this (codes "drain") line no_drain refl e)
+none_own line no_drain no_totals no_ccbs step drive Totals e = absurd (not_this (codes "totals") line no_totals refl e)
+none_own line no_drain no_totals no_ccbs step drive Ccbs e = absurd (not_this (codes "ccbs") line no_ccbs refl e)
 
-pub none_reads : (line : List ℕ) → bytes_eq line (codes "drain") ≡ false → bytes_eq line (codes "totals") ≡ false → Reads step_text line None → Reads drive_text line None → Reads own_text line None
-none_reads line no_drain no_totals step drive = record { said = tt; back = λ request e. none_own line no_drain no_totals step drive request e }
+pub none_reads : (line : List ℕ) → bytes_eq line (codes "drain") ≡ false → bytes_eq line (codes "totals") ≡ false → bytes_eq line (codes "ccbs") ≡ false → Reads step_text line None → Reads drive_text line None → Reads own_text line None
+none_reads line no_drain no_totals no_ccbs step drive = record { said = tt; back = λ request e. none_own line no_drain no_totals no_ccbs step drive request e }
 
 -- ---- a call
 
@@ -169,6 +190,7 @@ own_no_call line (Step run) call e f = let kind : false ≡ true = ap (λ (n : �
 own_no_call line (Drive run) call e f = let kind : false ≡ true = ap (λ (n : ℕ). n == 0) (same_kind (Drive run) (Call call) line e f) in absurd cc
 own_no_call line Drain call e f = let kind : false ≡ true = ap (λ (n : ℕ). n == 0) (same_kind Drain (Call call) line e f) in absurd cc
 own_no_call line Totals call e f = let kind : false ≡ true = ap (λ (n : ℕ). n == 0) (same_kind Totals (Call call) line e f) in absurd cc
+own_no_call line Ccbs call e f = let kind : false ≡ true = ap (λ (n : ℕ). n == 0) (same_kind Ccbs (Call call) line e f) in absurd cc
 
 own_said : (line : List ℕ) (request : Request) → own_text request ≡ Some line → request_text request ≡ Some line
 own_said line (Call call) e = absurd cc
@@ -176,6 +198,7 @@ own_said line (Step run) e = e
 own_said line (Drive run) e = e
 own_said line Drain e = e
 own_said line Totals e = e
+own_said line Ccbs e = e
 
 own_back : (line : List ℕ) (own : Request) → Reads own_text line (Some own) → (request : Request) → request_text request ≡ Some line → ◌≡◌ {A = Option Request} (Some own) (Some request)
 own_back line own reads (Call call) e = absurd (own_no_call line own call reads.said e)
@@ -183,6 +206,7 @@ own_back line own reads (Step run) e = reads.back (Step run) e
 own_back line own reads (Drive run) e = reads.back (Drive run) e
 own_back line own reads Drain e = reads.back Drain e
 own_back line own reads Totals e = reads.back Totals e
+own_back line own reads Ccbs e = reads.back Ccbs e
 
 pub own_is : (line : List ℕ) (own : Request) → Reads own_text line (Some own) → Reads request_text line (Some own)
 own_is line own reads = record { said = own_said line own reads.said; back = λ request e. own_back line own reads request e }
@@ -193,6 +217,7 @@ call_is_back line call own reads (Step run) e = let same = own.back (Step run) e
 call_is_back line call own reads (Drive run) e = let same = own.back (Drive run) e in absurd cc
 call_is_back line call own reads Drain e = let same = own.back Drain e in absurd cc
 call_is_back line call own reads Totals e = let same = own.back Totals e in absurd cc
+call_is_back line call own reads Ccbs e = let same = own.back Ccbs e in absurd cc
 
 pub call_is : (line : List ℕ) (call : TheCall) → Reads own_text line None → Reads call_text line (Some call) → Reads request_text line (Some (Call call))
 call_is line call own reads = record { said = reads.said; back = λ request e. call_is_back line call own reads request e }
@@ -203,6 +228,7 @@ none_is_back line own reads (Step run) e = own.back (Step run) e
 none_is_back line own reads (Drive run) e = own.back (Drive run) e
 none_is_back line own reads Drain e = own.back Drain e
 none_is_back line own reads Totals e = own.back Totals e
+none_is_back line own reads Ccbs e = own.back Ccbs e
 
 pub none_is : (line : List ℕ) → Reads own_text line None → Reads call_text line None → Reads request_text line None
 none_is line own reads = record { said = tt; back = λ request e. none_is_back line own reads request e }

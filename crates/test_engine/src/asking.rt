@@ -146,10 +146,7 @@ fn not_advanced(fault: AdvanceFault, run: Run) -> Reply {
 fn stop_replied(answer: Result<AdvanceAnswer, (AdvanceFault, Run)>) -> Reply {
     match answer {
         Ok(answer) => advanced(answer),
-        Err(fault) => {
-            let DriveFault { why, run, r0: _ } = fault;
-            not_advanced(why, run)
-        }
+        Err((fault, run)) => not_advanced(fault, run),
     }
 }
 
@@ -249,6 +246,9 @@ impl Responder for Driving<'_> {
 fn driven(engine: &mut Engine, run: Run) -> Reply {
     match engine.drive(run) {
         Ok(r0) => Reply::Success(Success::Ended(r0)),
-        Err((fault, run)) => not_advanced(fault, run),
+        Err(fault) => {
+            let DriveFault { why, run, r0: _ } = fault;
+            not_advanced(why, run)
+        }
     }
 }

@@ -1,8 +1,9 @@
 // The list: full chunks, the one that is filled, and one that is taken before it is needed. It relies on `iter` for a walk over it.
 
-ghost use Rattle.std.specs.Prelude.{◌≡◌, ◌↔◌, IsTrue, false, ◌+◌, ◌<◌, ◌≤◌, ◌++◌, ◌∷◌, [], length, slice_index_or, vec_capacity, Some, None, IsSome, IsOk, IfOk, OnOk, OnErr};
+ghost use Rattle.std.specs.Prelude.{◌≡◌, ◌↔◌, ◌*◌, List, IsTrue, false, ◌+◌, ◌<◌, ◌≤◌, ◌++◌, ◌∷◌, [], drop, length, slice_index_or, vec_capacity, Some, None, IsSome, IsOk, IfOk, OnOk, OnErr};
 ghost use Rattle.base_chunked_list.specs.ChunkedState.{no_items};
-ghost use Rattle.base_chunked_list.specs.Invariant.{IsSpare, KeepsChunks, seen, spare_room};
+ghost use Rattle.base_chunked_list.specs.Invariant.{AreFull, IsSpare, KeepsChunks, seen, spare_room};
+ghost use Rattle.base_chunked_list.specs.Chunks.{items_of};
 
 use crate::iter::Iter;
 use std::alloc::{AllocError, Global};
@@ -16,10 +17,12 @@ pub const CHUNK: usize = 1024;
 // How many chunks there may be beside the last one.
 const MOST_FULL: usize = 1 << 40;
 
-/// A list that only grows. It takes memory a chunk at a time, and a value stays where it was pushed. Contracts see its values in the
-/// order in which they were pushed, and how many there may be before more memory is taken.
+/// A list that grows at its end, and may forget its front. It takes memory a chunk at a time, and a value stays where it was pushed.
+/// Contracts see its values in the order in which they were pushed, and how many there may be before more memory is taken.
 #[derive(Drop)]
 pub struct ChunkedList<T> {
+    // how many values of the first chunk are forgotten
+    gone: usize,
     // of CHUNK values each
     full: Vec<Vec<T>>,
     // of CHUNK values at most, for which it has room
@@ -33,11 +36,11 @@ impl<T> Model for ChunkedList<T> {
 
     ghost Value = { ChunkedState T };
 
-    ghost use Rattle.base_chunked_list.specs.Invariant.{seen, KeepsChunks};
+    ghost use Rattle.base_chunked_list.specs.Invariant.{seen_from, KeepsFrom};
 
-    ghost view = { λ list. seen list.full.items list.last.items list.spare };
+    ghost view = { λ list. seen_from list.gone list.full.items list.last.items list.spare };
 
-    ghost invariant = { λ list. KeepsChunks list.full list.last list.spare };
+    ghost invariant = { λ list. KeepsFrom list.gone list.full list.last list.spare };
 }
 
 // A chunk more, of which there is none yet, and room for it among the full ones. It fails too where there are MOST_FULL of these.
@@ -69,6 +72,23 @@ fn make_place<T>(full: &mut Vec<Vec<T>>, last: &mut Vec<T>, spare: &mut Option<V
     }
 }
 
+// Drops the full chunks of which all values are among the first so many: how many of these there are still.
+fn drop_chunks<T: Drop>(full: &mut Vec<Vec<T>>, mut gone: usize) -> usize
+    requires { AreFull full.old.items }
+    ensures full { AreFull full.new.items }
+    ensures items { (last : List (T)) → drop result (items_of full.new.items ++ last) ≡ drop gone (items_of full.old.items ++ last) }
+    ensures count { length full.new.items * CHUNK + gone ≡ length full.old.items * CHUNK + result }
+    ensures fewer { result ≤ gone }
+    ensures first { 0 < length full.new.items → result < CHUNK }
+    ensures capacity { vec_capacity full.new ≡ vec_capacity full.old }
+{
+    while gone >= CHUNK && full.len() > 0 {
+        drop(full.remove(0));
+        gone -= CHUNK;
+    }
+    gone
+}
+
 // Whether there is room behind the full chunks for so many values more.
 fn has_room<T>(last: &Vec<T>, spare: &Option<Vec<T>>, more: usize) -> bool
     requires last { length last.now.items ≤ CHUNK }
@@ -86,6 +106,7 @@ impl<T> ChunkedList<T> {
     {
         let last = Vec::with_capacity(alloc, CHUNK)?;
         Ok(ChunkedList {
+            gone: 0,
             full: Vec::new(alloc),
             last,
             spare: None,
@@ -96,7 +117,7 @@ impl<T> ChunkedList<T> {
     pub fn len(&self) -> usize
         ensures { result ≡ length self.now.items }
     {
-        self.full.len() * CHUNK + self.last.len()
+        self.full.len() * CHUNK + self.last.len() - self.gone
     }
 
     /// Whether there is no value.
@@ -142,11 +163,27 @@ impl<T> ChunkedList<T> {
         self.last.push_reserved(value);
     }
 
+    /// Forgets so many values at the front. It gives back the memory of each chunk of which all are forgotten, but for the last one,
+    /// which is filled anew.
+    pub fn forget_first(&mut self, count: usize)
+    where
+        T: Drop,
+        requires { count ≤ length self.old.items }
+        ensures items { self.new.items ≡ drop count self.old.items }
+        ensures capacity { self.old.capacity ≤ self.new.capacity + count }
+    {
+        self.gone = drop_chunks(&mut self.full, self.gone + count);
+        if self.full.len() == 0 && self.gone == self.last.len() {
+            self.last.clear();
+            self.gone = 0;
+        }
+    }
+
     /// The values, in the order in which they were pushed.
     pub fn iter(&self) -> Iter<'_, T>
         ensures { result ≡ self.now.items }
     {
-        Iter::new(&self.full, &self.last)
+        Iter::new(&self.full, &self.last, self.gone)
     }
 }
 
@@ -158,6 +195,7 @@ impl<T> Index<usize> for ChunkedList<T> {
     ghost index_gives = { λ list place value. value ≡ slice_index_or list.items place value };
 
     fn index(&self, place: usize) -> &T {
+        let place = self.gone + place;
         let chunk = place / CHUNK;
         if chunk < self.full.len() {
             &self.full[chunk][place % CHUNK]

@@ -1,8 +1,10 @@
 // A walk over a list in chunks. It relies on nothing.
 
-ghost use Rattle.std.specs.Prelude.{◌≡◌, ◌<◌, ◌++◌, length, All};
+ghost use Rattle.std.specs.Prelude.{◌≡◌, ◌<◌, ◌≤◌, ◌++◌, drop, length, All};
 ghost use Rattle.std.specs.Iterator.{YieldsFirstRef, item_count};
 ghost use Rattle.base_chunked_list.specs.Chunks.{items_of, AreNotEmpty};
+ghost use Rattle.base_chunked_list.specs.Invariant.{AreFull};
+ghost use Rattle.base_chunked_list.specs.declared.chunked_list.TheConstants.{CHUNK};
 
 use std::marker::Model;
 
@@ -29,15 +31,24 @@ impl<'a, T> Model for Iter<'a, T> {
 }
 
 impl<'a, T> Iter<'a, T> {
-    // All the values of these chunks.
-    pub(crate) fn new(full: &'a [Vec<T>], last: &'a [T]) -> Self
-        requires { AreNotEmpty full.now }
-        ensures { result ≡ items_of full.now ++ last.now }
+    // All the values of these chunks, but for so many of the first one.
+    pub(crate) fn new(full: &'a [Vec<T>], last: &'a [T], gone: usize) -> Self
+        requires full { AreFull full.now }
+        requires all { gone ≤ length (items_of full.now ++ last.now) }
+        requires first { gone < CHUNK }
+        ensures { result ≡ drop gone (items_of full.now ++ last.now) }
     {
-        Iter {
-            here: &[],
-            behind: full,
-            last,
+        match full.split_first() {
+            Some((chunk, behind)) => Iter {
+                here: &chunk[gone..],
+                behind,
+                last,
+            },
+            None => Iter {
+                here: &last[gone..],
+                behind: &[],
+                last: &[],
+            },
         }
     }
 }

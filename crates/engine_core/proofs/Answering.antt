@@ -8,6 +8,7 @@ use Rattle.ccb.specs.declared.QueueId.{QueueId}
 use Rattle.engine_runs.specs.Admits.{KnowsProgram}
 use Rattle.engine_runs.specs.RunsState.{RunsState}
 use Rattle.world_calls.specs.declared.record.Record.{Record}
+use Rattle.engine_history.specs.HistoryState.{HistoryState}
 use Rattle.world.specs.World.{Transport, Setup, LiveRun, World, queue_setup}
 use Rattle.engine_core.specs.declared.event.Event.{Event}
 use Rattle.engine_core.specs.declared.event.Event.TheVariants.{Advance, Complete, GuestFreeze, Resume}
@@ -56,24 +57,24 @@ pub few_runs : (setup : Setup) (history : List Record) (transport : Transport) (
 few_runs setup history transport runs kept = (kept_sound setup history transport runs kept).kept.runs.all
 
 -- an engine, as contracts see it
-abbrev pub seen : Setup → List Record → Transport → RunsState → EngineState
-seen setup history transport runs = record { setup = setup; history = history; world = world_of setup history transport runs.runs }
+abbrev pub seen : Setup → HistoryState → Transport → RunsState → EngineState
+seen setup history transport runs = record { setup = setup; history = history.records; taken = history.taken; world = world_of setup history.records transport runs.runs }
 
 -- an engine after a call that was performed, with one record more
-pub record Appended (setup : Setup) (history later : List Record) (transport : Transport) (old : RunsState) (more : Transport) (new : RunsState) (told : Record) (capacity : ℕ) : Type 0 where
+pub record Appended (setup : Setup) (history later : HistoryState) (transport : Transport) (old : RunsState) (more : Transport) (new : RunsState) (told : Record) : Type 0 where
   pub records : Records (seen setup history transport old) (seen setup later more new) told
-  pub kept : KeepsEngine setup later more new
-  pub room : HistoryHasRoom (length later) capacity new.runs.list
+  pub kept : KeepsEngine setup later.records more new
+  pub room : HistoryHasRoom (length later.records) later.capacity new.runs.list
 
 -- where room was taken for it, and for that of a park of each run
-pub appended : (setup : Setup) (history reserved later : List Record) (event : Event) (transport : Transport) (old : RunsState) (more : Transport) (new : RunsState) (reply : Reply) (told : Record) (capacity last : ℕ) → KeepsEngine setup history transport old → reserved ≡ history → later ≡ reserved ++ told ∷ [] → length reserved + 257 ≤ capacity → last ≡ capacity → Performs setup event transport old more new reply told → Appended setup history later transport old more new told last
-appended setup history reserved later event transport old more new reply told capacity last kept same is room held it =
-    let all : later ≡ history ++ told ∷ [] = is ∙ ap (λ (h : List Record). h ++ told ∷ []) same in
-    let one = performed setup history later event transport old more new reply told kept all it in
-    let few = few_runs setup later more new one.kept in record {
-      records = record { history = all; setup = refl; step = one.leads };
+pub appended : (setup : Setup) (history reserved later : HistoryState) (event : Event) (transport : Transport) (old : RunsState) (more : Transport) (new : RunsState) (reply : Reply) (told : Record) → KeepsEngine setup history.records transport old → reserved.records ≡ history.records → reserved.taken ≡ history.taken → later.records ≡ reserved.records ++ told ∷ [] → later.taken ≡ reserved.taken → length reserved.records + 257 ≤ reserved.capacity → later.capacity ≡ reserved.capacity → Performs setup event transport old more new reply told → Appended setup history later transport old more new told
+appended setup history reserved later event transport old more new reply told kept same same_taken is is_taken room held it =
+    let all : later.records ≡ history.records ++ told ∷ [] = is ∙ ap (λ (h : List Record). h ++ told ∷ []) same in
+    let one = performed setup history.records later.records event transport old more new reply told kept all it in
+    let few = few_runs setup later.records more new one.kept in record {
+      records = record { history = all; taken = is_taken ∙ same_taken; setup = refl; step = one.leads };
       kept = one.kept;
-      room = room_kept _ _ _ _ new.runs.list (few_out new.runs.list (length reserved) capacity room few) (ap length is ∙ length_push _ _) held;
+      room = room_kept _ _ _ _ new.runs.list (few_out new.runs.list (length reserved.records) reserved.capacity room few) (ap length is ∙ length_push _ _) held;
     }
 
 -- a call gives what is recorded, or is refused as is recorded

@@ -4,6 +4,7 @@ use Rattle.bpf_insn.specs.declared.program.Slot.{Slot}
 use Rattle.bpf_semantics.specs.MachineState.{MachineState}
 use Rattle.bpf_semantics.specs.Reached.{Reached}
 use Rattle.bpf_semantics.specs.declared.stop.Stop.TheVariants.{Exit as at_exit}
+use Rattle.engine_history.specs.HistoryState.{HistoryState}
 use Rattle.world_calls.specs.declared.record.Record.{Record}
 use Rattle.world_calls.specs.declared.record.Record.TheVariants.{Advance}
 use Rattle.world_calls.specs.declared.record.StoppedAt.{StoppedAt}
@@ -41,7 +42,7 @@ run_at (Some place) list run out at =
     }
 
 -- one stretch, as contracts see the engine
-pub steps_of : (setup : Setup) (history later : List Record) (transport more : Transport) (runs after : RunsState) (place : ℕ) (progress : Progress) (told : Record) → IsStep setup transport runs place more after progress told → Records (seen setup history transport runs) (seen setup later more after) told → Steps (seen setup history transport runs) place (seen setup later more after) progress
+pub steps_of : (setup : Setup) (history later : HistoryState) (transport more : Transport) (runs after : RunsState) (place : ℕ) (progress : Progress) (told : Record) → IsStep setup transport runs place more after progress told → Records (seen setup history transport runs) (seen setup later more after) told → Steps (seen setup history transport runs) place (seen setup later more after) progress
 steps_of setup history later transport more runs after place progress told step records = record {
   next = step.next;
   answer = step.answer;

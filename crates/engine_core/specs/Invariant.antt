@@ -5,7 +5,7 @@ use Rattle.engine_runs.specs.RunsState.{RunsState, tokens_of}
 use Rattle.world_calls.specs.declared.record.Record.{Record}
 use Rattle.world.specs.World.{Setup, LiveRun, Transport}
 use Rattle.world.specs.Laws.FreezeLaws.{entries_of}
-use Rattle.engine_core.specs.EngineState.{world_of, IsRun}
+use Rattle.engine_core.specs.EngineState.{world_of, IsRunOf}
 
 -- what each live run has the right to give back are the entries that name it
 abbrev pub HoldEntries : List Freeze → RunsState → Type 0
@@ -13,7 +13,7 @@ HoldEntries freezes state = state.tokens ≡ map (λ run. tokens_of (entries_of 
 
 pub record KeepsEngine (setup : Setup) (history : List Record) (transport : Transport) (runs : RunsState) : Type 0 where
   -- the fields, read as a world, are the run of the stored history, over a setup of accepted programs
-  pub run : IsRun (record { setup = setup; history = history; world = world_of setup history transport runs.runs })
+  pub run : IsRunOf setup history (world_of setup history transport runs.runs)
   pub tokens : HoldEntries transport.freezes runs
 
 -- how many runs are out

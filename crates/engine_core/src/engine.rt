@@ -1,7 +1,7 @@
 // The engine: its configuration, its parts and its history. It relies on `parts` for CCBs, freezes and runs, and on `world` for what is
 // recorded.
 
-ghost use Rattle.std.specs.Prelude.{◌≡◌, ◌↔◌, IsTrue, ◌+◌, ◌≤◌, ◌++◌, ◌∷◌, [], length, false, IsNone, IfSome, IfOk, IfErr};
+ghost use Rattle.std.specs.Prelude.{◌≡◌, ◌↔◌, IsTrue, ◌+◌, ◌≤◌, ◌++◌, ◌∷◌, [], drop, length, false, IsNone, IfSome, IfOk, IfErr};
 ghost use Rattle.engine_config.specs.Configured.{AreProgramsOf};
 ghost use Rattle.freeze_ledger.specs.Deadlines.{some_timer};
 ghost use Rattle.engine_transport.specs.Freezing.{IsNextDue};
@@ -19,6 +19,7 @@ use base_chunked_list::ChunkedList;
 use bpf_accepted::Accepted;
 use ccb::QueueId;
 use engine_config::Config;
+use engine_history::EngineHistory;
 use engine_runs::{MAX_RUNS, Runs};
 use engine_transport::Transport;
 use interpreter::Segment;
@@ -30,13 +31,13 @@ use world_calls::{Record, Totals, Trace, Version};
 /// The room that a call makes in the history: for its own record, and for one of each run, which may be parked behind it.
 pub(crate) const ROOM: usize = 1 + MAX_RUNS;
 
-/// Device queues with their CCBs, freezes and recovery runs, and the whole history of the calls made on them.
-/// Contracts see the setup, the history and the world that it leads to.
+/// Device queues with their CCBs, freezes and recovery runs, and the history of the calls made on them, of which it keeps what was not
+/// handed on. Contracts see the setup, the whole history, how many of its records were handed on, and the world that it leads to.
 #[derive(Drop)]
 pub struct Engine {
     pub(crate) config: Config,
     pub(crate) parts: Parts,
-    pub(crate) history: ChunkedList<Record>,
+    pub(crate) history: EngineHistory,
 }
 
 impl Model for Engine {
@@ -47,12 +48,12 @@ impl Model for Engine {
     ghost use Rattle.engine_core.specs.EngineState.{world_of};
     ghost use Rattle.engine_core.specs.Invariant.{KeepsEngine};
 
-    ghost view = { λ e. record { setup = e.config; history = e.history.items; world = world_of e.config e.history.items e.parts.transport e.parts.runs.runs } };
+    ghost view = { λ e. record { setup = e.config; history = e.history.records; taken = e.history.taken; world = world_of e.config e.history.records e.parts.transport e.parts.runs.runs } };
 
     ghost use Rattle.std.specs.Prelude.{length};
     ghost use Rattle.engine_core.specs.Invariant.{HistoryHasRoom};
 
-    ghost invariant = { λ e. KeepsEngine e.config e.history.items e.parts.transport e.parts.runs × HistoryHasRoom (length e.history.items) e.history.capacity e.parts.runs.runs.list };
+    ghost invariant = { λ e. KeepsEngine e.config e.history.records e.parts.transport e.parts.runs × HistoryHasRoom (length e.history.records) e.history.capacity e.parts.runs.runs.list };
 }
 
 /// The queues and tables of the configuration, with no CCB, no freeze and no run.
@@ -79,7 +80,7 @@ impl Engine {
         ensures opened { IfOk result (λ engine. engine ≡ opened config) }
         ensures back { IfErr result (λ fault. fault.1 ≡ config) }
     {
-        let history = match ChunkedList::with_room(alloc) {
+        let history = match EngineHistory::with_room(alloc) {
             Ok(history) => history,
             Err(fault) => return Err((fault, config)),
         };
@@ -119,12 +120,35 @@ impl Engine {
         Version::of(self.config.helpers())
     }
 
-    /// The records of the calls so far, in their order.
+    /// The records of the calls so far that were not handed on, in their order: all of them where `hand_on` was never called.
     pub fn records(&self) -> &ChunkedList<Record>
-        ensures items { result.now.items ≡ self.now.history }
+        ensures items { result.now.items ≡ drop self.now.taken self.now.history }
         ensures run { IsRun self.now }
     {
-        &self.history
+        self.history.kept()
+    }
+
+    /// How many records its history has, with those that were handed on.
+    pub fn recorded(&self) -> u64
+        ensures { result ≡ length self.now.history }
+    {
+        self.history.len()
+    }
+
+    /// How many records of the history were handed on.
+    pub fn taken(&self) -> u64
+        ensures { result ≡ self.now.taken }
+    {
+        self.history.taken()
+    }
+
+    /// Forgets so many of the records that it keeps, the first ones, which the caller has handed on. The history stays as it is, for
+    /// contracts and for the sums.
+    pub fn hand_on(&mut self, count: usize)
+        requires { self.old.taken + count ≤ length self.old.history }
+        ensures handed { self.new ≡ record self.old { taken = self.old.taken + count } }
+    {
+        self.history.hand_on(count);
     }
 
     /// When the timer is due that goes first, in milliseconds of the clock; `None` exactly where no timer holds a freeze: before
@@ -143,17 +167,17 @@ impl Engine {
         ensures run { IsRun self.now }
     {
         Totals {
-            history: self.history.len() as u64,
+            history: self.history.len(),
             frozen: self.parts.transport.frozen(),
             active: self.parts.transport.active(),
             runs: self.parts.runs.len(),
         }
     }
 
-    /// The whole history with its sums. What is still frozen is forfeited, by guests and by runs.
+    /// What it keeps of the history, with the sums of all. What is still frozen is forfeited, by guests and by runs.
     pub fn shut(self) -> Trace
         ensures version { result.version ≡ version_of self.setup }
-        ensures records { result.records.items ≡ self.history }
+        ensures records { result.records.items ≡ drop self.taken self.history }
         ensures totals { TotalsOf self.setup self.history result.totals }
         ensures run { IsRun self }
     {
@@ -162,11 +186,11 @@ impl Engine {
         let Engine {
             config: _,
             parts: _,
-            history: records,
+            history,
         } = self;
         Trace {
             version,
-            records,
+            records: history.into_kept(),
             totals,
         }
     }

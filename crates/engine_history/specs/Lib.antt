@@ -1,0 +1,2 @@
+pub mod HistoryState
+pub mod Kept

@@ -19,7 +19,7 @@ use Rattle.replay.specs.declared.fault.ReplayFault.{ReplayFault}
 use Rattle.replay.specs.declared.fault.ReplayFault.TheVariants.{Header, Behind}
 
 -- a front of a history
-shorter : (setup : Setup) (xs ys : List Record) → IsHistory setup (xs ++ ys) → IsHistory setup xs
+pub shorter : (setup : Setup) (xs ys : List Record) → IsHistory setup (xs ++ ys) → IsHistory setup xs
 shorter setup xs ys history =
     let parts = leads_split setup (opening setup) (flat xs) (flat ys) history.0 (subst (λ (es : List (Event × Reply)). WorldRun setup es history.0) (flat_map-append events_of xs ys) history.1) in
     (parts.0, parts.1)

@@ -11,10 +11,10 @@ use Rattle.world_laws.proofs.Leads.{world_after_leads}
 use Rattle.engine_core.specs.ByNumber.{NumberedState, IsBehind, IsHistory, CannotFollow, sums_behind}
 use Rattle.replay.specs.Replaying.{RecordsLead, IsFirstFaulty}
 
-history_behind : (setup : Setup) (engine : NumberedState) (records : List Record) → engine.setup ≡ setup → IsBehind records engine → IsHistory setup records
+pub history_behind : (setup : Setup) (engine : NumberedState) (records : List Record) → engine.setup ≡ setup → IsBehind records engine → IsHistory setup records
 history_behind setup engine records same behind = subst (λ (s : Setup). IsHistory s records) same (behind.world, behind.leads)
 
-one_behind : (yielded rest : List Record) (told : Record) → (yielded ++ told ∷ []) ++ rest ≡ yielded ++ told ∷ rest
+pub one_behind : (yielded rest : List Record) (told : Record) → (yielded ++ told ∷ []) ++ rest ≡ yielded ++ told ∷ rest
 one_behind [] rest told = refl
 one_behind (x ∷ yielded) rest told = ap (λ (xs : List Record). x ∷ xs) (one_behind yielded rest told)
 
@@ -40,7 +40,7 @@ all_lead setup engine yielded items count behind same counted all =
 
 -- ---- the last line
 
-sums_are : (engine : NumberedState) (records : List Record) (count : ℕ) → (behind : IsBehind records engine) → count ≡ length records → sums_behind count engine ≡ totals_in records behind.world
+pub sums_are : (engine : NumberedState) (records : List Record) (count : ℕ) → (behind : IsBehind records engine) → count ≡ length records → sums_behind count engine ≡ totals_in records behind.world
 sums_are engine records count behind counted =
     ap (λ (n : ℕ). sums_behind n engine) counted ∙ sym (ap (λ (w : World). totals_in records w) behind.is)
 

@@ -11,7 +11,7 @@ use std::alloc::AllocError;
 use world_calls::{Call, CallAnswer, Record, StoppedAt};
 
 /// Whether the record follows, and then it is behind the engine too. Where it does not, the engine means nothing any more.
-pub(crate) fn follows(engine: &mut NumberedEngine<'_>, told: &Record) -> Result<bool, AllocError>
+pub fn follows(engine: &mut NumberedEngine<'_>, told: &Record) -> Result<bool, AllocError>
     ensures follows { IfOk result (λ yes. FollowsIf yes engine.old told.now engine.new) }
     ensures setup { engine.new.setup ≡ engine.old.setup }
 {

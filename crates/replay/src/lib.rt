@@ -9,4 +9,5 @@ mod likeness;
 mod replaying;
 
 pub use fault::{ReplayError, ReplayFault};
+pub use following::follows;
 pub use replaying::replay;

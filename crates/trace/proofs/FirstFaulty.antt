@@ -15,12 +15,12 @@ use Rattle.trace.proofs.Printing.{append_three, append_nothing, nothing_append}
 use Rattle.trace.proofs.SoFar.{AreOneLine, cut_line, in_front, not_both}
 
 -- these lines stand in front of this rest, by the first of them
-abbrev Begins : Version → List Record → Option Totals → List ℕ → List ℕ → Type 0
+abbrev pub Begins : Version → List Record → Option Totals → List ℕ → List ℕ → Type 0
 Begins version [] None rest text = rest ≡ text
 Begins version [] (Some totals) rest text = option_append (totals_text totals) (Some rest) ≡ Some text
 Begins version (entry ∷ records) sums rest text = option_append (record_text version entry) (option_append (front_text version records sums) (Some rest)) ≡ Some text
 
-begins : (version : Version) (records : List Record) (sums : Option Totals) (rest text : List ℕ) → option_append (front_text version records sums) (Some rest) ≡ Some text → Begins version records sums rest text
+pub begins : (version : Version) (records : List Record) (sums : Option Totals) (rest text : List ℕ) → option_append (front_text version records sums) (Some rest) ≡ Some text → Begins version records sums rest text
 unfolding records_text
 begins version [] None rest text e = same_text rest text e
 begins version [] (Some totals) rest text e = ap (λ (t : Option (List ℕ)). option_append t (Some rest)) (sym (nothing_append (totals_text totals))) ∙ e
@@ -35,27 +35,27 @@ one_more_line entry records None = omega arith
 one_more_line entry records (Some totals) = omega arith
 
 -- two lines in front of one text are the same
-record AreSame (told other more rest : Option (List ℕ)) : Type 0 where
-  line : List ℕ
-  tail : List ℕ
-  one : told ≡ Some line
-  two : other ≡ Some line
-  first : more ≡ Some tail
-  second : rest ≡ Some tail
+pub record AreSame (told other more rest : Option (List ℕ)) : Type 0 where
+  pub line : List ℕ
+  pub tail : List ℕ
+  pub one : told ≡ Some line
+  pub two : other ≡ Some line
+  pub first : more ≡ Some tail
+  pub second : rest ≡ Some tail
 
-same : (text : List ℕ) (told other more rest : Option (List ℕ)) → AreOneLine told → AreOneLine other → option_append (with_newline told) more ≡ Some text → option_append (with_newline other) rest ≡ Some text → AreSame told other more rest
+pub same : (text : List ℕ) (told other more rest : Option (List ℕ)) → AreOneLine told → AreOneLine other → option_append (with_newline told) more ≡ Some text → option_append (with_newline other) rest ≡ Some text → AreSame told other more rest
 same text told other more rest one another e f =
     let c = cut_line told more text e in
     let found = in_front text c.0 c.1 (first_of text c.0 c.1 (one c.0 c.2) c.4) other rest another f in
     record { line = c.0; tail = c.1; one = c.2; two = found.0; first = c.3; second = found.1 }
 
 -- a record's line is no last line
-not_same : (version : Version) (text : List ℕ) (entry : Record) (totals : Totals) (more rest : Option (List ℕ)) → option_append (record_text version entry) more ≡ Some text → option_append (totals_text totals) rest ≡ Some text → ⊥
+pub not_same : (version : Version) (text : List ℕ) (entry : Record) (totals : Totals) (more rest : Option (List ℕ)) → option_append (record_text version entry) more ≡ Some text → option_append (totals_text totals) rest ≡ Some text → ⊥
 not_same version text entry totals more rest e f =
     let its = same text (entry_text version entry) (sums_text totals) more rest (one_line version entry) (one_last_line totals) e f in
     not_both version entry totals its.line its.one its.two
 
-no_record_there : (version : Version) (text : List ℕ) → HasNoLine version text → (entry : Record) (more : Option (List ℕ)) → option_append (record_text version entry) more ≡ Some text → ⊥
+pub no_record_there : (version : Version) (text : List ℕ) → HasNoLine version text → (entry : Record) (more : Option (List ℕ)) → option_append (record_text version entry) more ≡ Some text → ⊥
 no_record_there version text none entry more e =
     let parts = parts_of (record_text version entry) more text e in
     none.no_record entry parts.1 (ap (option_append (record_text version entry)) (sym parts.3) ∙ e)

@@ -5,6 +5,7 @@ pub mod Cuts
 pub mod Entries
 pub mod Answered
 pub mod LastLine
+pub mod Shown
 pub mod SoFar
 pub mod FirstFaulty
 pub mod Grown

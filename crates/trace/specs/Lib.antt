@@ -7,4 +7,5 @@ pub mod Printed
 pub mod Reading
 pub mod FaultText
 pub mod OneFaultyLine
+pub mod ShortLines
 pub mod Growing

@@ -15,7 +15,7 @@ use world_calls::{Record, StoppedAt, TracedBytes, Version};
 
 /// The record of a line, which stands without its line feed. None where it is that of no record which a text of the version may have. It
 /// takes memory for sense bytes and traced bytes alone.
-pub(crate) fn read_record(
+pub fn read_record(
     alloc: Global,
     version: Version,
     line: &str,

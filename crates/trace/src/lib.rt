@@ -14,10 +14,11 @@ mod sink;
 mod sums;
 mod version;
 
+pub use entry::read_record;
 pub use fault::{PrintFault, TraceError, TraceFault};
 pub use growing::Growing;
 pub use printer::{print, print_entry};
 pub use reader::read;
 pub use sink::{Sink, WriteFailed};
-pub use sums::print_totals;
+pub use sums::{print_totals, read_totals};
 pub use version::header;

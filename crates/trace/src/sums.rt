@@ -59,7 +59,7 @@ fn print_sums(history: u64, frozen: u32, active: u32, runs: u32, text: &mut Text
 }
 
 /// The sums of the last line, which stands without its line feed.
-pub(crate) fn read_totals(line: &str) -> Option<Totals>
+pub fn read_totals(line: &str) -> Option<Totals>
     ensures { Reads sums_text line.now result }
 {
     let rest = behind_end(line)?;

@@ -1,9 +1,9 @@
--- The shared history, one record longer.
-use Rattle.std.proofs.Common.{◌≡◌, ℕ, true, false, Option, List, [], ◌∷◌, ◌++◌, refl, ap, sym, subst, ◌∙◌}
+-- The shared history, some records longer.
+use Rattle.std.proofs.Common.{◌≡◌, ℕ, true, false, Option, List, [], ◌∷◌, ◌++◌, length, drop, refl, ap, sym, subst, ◌∙◌}
 use Rattle.std.specs.Prelude.{MatchOption}
 use Rattle.world_calls.specs.declared.record.Record.{Record}
 use Rattle.monitor.specs.declared.knowledge.Pair.{Pair}
-use Rattle.monitor.specs.LegalHistory.{LegalHistory, StartsWith, pair, records, unshared}
+use Rattle.monitor.specs.LegalHistory.{LegalHistory, StartsWith, records, unshared}
 use Rattle.monitor.specs.Telling.{CallerState, Joins, KeeperState, Looks, new_caller, new_watch}
 use Rattle.world.specs.World.{Setup}
 use Rattle.world.specs.WorldRun.{WorldRun}
@@ -13,35 +13,38 @@ use Rattle.engine_core.specs.declared.event.Event.{Event}
 use Rattle.engine_core.specs.declared.reply.Reply.{Reply}
 use Rattle.engine_core.specs.declared.reply.Reply.TheVariants.{Success, Refused, NotAdmitted, OutOfMemory}
 use Rattle.engine_core.specs.Replies.{ReplyMatchesEvent, GivesAsRecorded, IsRecorded, ToldFit, is_recorded}
-use Rattle.engine_lock.specs.Publishing.{last_of}
+use Rattle.engine_lock.specs.Publishing.{beyond}
 use Rattle.engine_lock.specs.Sharing.{Answers, IsNewCaller, IsNewWatch, IsSince, Section, Tells, TellsUnrecorded, is_unfit}
 use Rattle.engine_lock.proofs.Since.{HasRecord, has_record}
 
-pub last_more : (before : List Record) (made : Record) → last_of (before ++ made ∷ []) ≡ made
-last_more [] made = refl
-last_more (only ∷ []) made = refl
-last_more (first ∷ second ∷ rest) made = last_more (second ∷ rest) made
+-- what was made is beyond what is known
+dropped : (known : List Pair) (made : List Record) → drop (length known) (records known ++ made) ≡ made
+dropped [] made = refl
+dropped (p ∷ ps) made = dropped ps made
 
--- the engine's last record is beyond what was known, and is the one that the reply makes
-module _ (known : List Record) (old new : EngineState) (event : Event) (reply : Reply) (fits : ReplyMatchesEvent event reply) (is : is_recorded reply ≡ true) (recorded : IsRecorded old event reply new) (same : known ≡ old.history) where
+pub beyond_is : (known : List Pair) (whole made : List Record) → whole ≡ records known ++ made → beyond known whole ≡ made
+beyond_is known whole made is = ap (beyond known) is ∙ dropped known made
+
+pub is_beyond : (known : List Pair) (whole made : List Record) → whole ≡ records known ++ made → whole ≡ records known ++ beyond known whole
+is_beyond known whole made is = is ∙ ap (λ (rs : List Record). records known ++ rs) (sym (beyond_is known whole made is))
+
+-- of a call that is recorded this is the record that its reply makes
+module _ (known : List Pair) (old new : EngineState) (event : Event) (reply : Reply) (fits : ReplyMatchesEvent event reply) (is : is_recorded reply ≡ true) (recorded : IsRecorded old event reply new) (same : records known ≡ old.history) where
   made : HasRecord event reply
   made = has_record event reply fits is
 
-  longer : new.history ≡ known ++ made.told ∷ []
-  longer =
+  one_longer : new.history ≡ records known ++ made.told ∷ []
+  one_longer =
       let more : Records old new made.told = subst (λ (o : Option Record). MatchOption o (new ≡ old) (λ told. Records old new told)) made.is recorded in
       more.history ∙ ap (λ (before : List Record). before ++ made.told ∷ []) (sym same)
 
-  last_is : last_of new.history ≡ made.told
-  last_is = ap last_of longer ∙ last_more known made.told
+  pub call_beyond : new.history ≡ records known ++ beyond known new.history
+  call_beyond = is_beyond known new.history (made.told ∷ []) one_longer
 
-  pub last_beyond : new.history ≡ known ++ last_of new.history ∷ []
-  last_beyond = longer ∙ ap (λ (r : Record). known ++ r ∷ []) (sym last_is)
-
-  pub tells_made : (setup : Setup) (history : List Pair) (before after : CallerState) → Joins setup history before (last_of new.history) after → Tells setup history event reply before after
+  pub tells_made : (setup : Setup) (history : List Pair) (before after : CallerState) → Joins setup history before (beyond known new.history) after → Tells setup history event reply before after
   tells_made setup history before after joins =
-      subst (λ (o : Option Record). MatchOption o (TellsUnrecorded setup history reply before after) (λ told. Joins setup history before told after)) (sym made.is)
-      (subst (λ (r : Record). Joins setup history before r after) last_is joins)
+      subst (λ (o : Option Record). MatchOption o (TellsUnrecorded setup history reply before after) (λ told. Joins setup history before (told ∷ []) after)) (sym made.is)
+      (subst (λ (rs : List Record). Joins setup history before rs after) (beyond_is known new.history (made.told ∷ []) one_longer) joins)
 
 -- a call that is not recorded tells what was looked at, or nothing
 pub tells_unfit : (setup : Setup) (history : List Pair) (event : Event) (reply : Reply) (before after : CallerState) → is_unfit reply ≡ true → Looks setup history before after → Tells setup history event reply before after

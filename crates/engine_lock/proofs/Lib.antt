@@ -1,3 +1,4 @@
 pub mod Since
 pub mod QueuePrograms
 pub mod Histories
+pub mod Driven

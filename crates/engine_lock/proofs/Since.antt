@@ -32,6 +32,7 @@ since_more setup begun calls old new event reply s fits is recorded run =
     record {
       run = run;
       setup_is = more.setup ∙ s.setup_is;
+      untaken = more.taken ∙ s.untaken;
       since = s.since ++ made.told ∷ [];
       history = more.history ∙ (ap (λ (rs : List Record). rs ++ made.told ∷ []) s.history ∙ append_assoc begun s.since (made.told ∷ []));
       count = omega (arith, length-append s.since (made.told ∷ []), s.count);

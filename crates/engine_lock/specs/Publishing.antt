@@ -1,9 +1,7 @@
--- The last record of a history.
-use Rattle.std.specs.Prelude.{List, [], ◌∷◌}
+-- The records of a history beyond those that are known.
+use Rattle.std.specs.Prelude.{List, length, drop}
 use Rattle.world_calls.specs.declared.record.Record.{Record}
-use Rattle.monitor.specs.Nameless.{a_record}
+use Rattle.monitor.specs.declared.knowledge.Pair.{Pair}
 
-abbrev pub last_of : List Record → Record
-last_of [] = a_record
-last_of (only ∷ []) = only
-last_of (first ∷ second ∷ rest) = last_of (second ∷ rest)
+abbrev pub beyond : List Pair → List Record → List Record
+beyond known made = drop (length known) made

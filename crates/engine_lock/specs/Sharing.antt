@@ -1,5 +1,5 @@
 -- What an engine that is shared keeps under its lock, and what a call of it says.
-use Rattle.std.specs.Prelude.{◌≡◌, ℕ, Bool, true, false, List, [], ◌++◌, length, All, MatchOption}
+use Rattle.std.specs.Prelude.{◌≡◌, ℕ, Bool, true, false, List, [], ◌∷◌, ◌++◌, length, All, MatchOption}
 use Rattle.std.specs.List.{sum_by}
 use Rattle.world_calls.specs.declared.record.Record.{Record}
 use Rattle.world.specs.World.{Setup}
@@ -12,10 +12,11 @@ use Rattle.monitor.specs.declared.knowledge.Pair.{Pair}
 use Rattle.monitor.specs.LegalHistory.{LegalHistory, StartsWith, records, unshared}
 use Rattle.monitor.specs.Telling.{Agrees, CallerState, Joins, KeeperState, Looks, WatchState}
 
--- an engine of this setup that began with these records, and so many more since
+-- an engine of this setup that began with these records, and has so many more since, of which none was handed on
 pub record IsSince (setup : Setup) (begun : List Record) (calls : ℕ) (state : EngineState) : Type 0 where
   pub run : IsRun state
   pub setup_is : state.setup ≡ setup
+  pub untaken : state.taken ≡ 0
   pub since : List Record
   pub history : state.history ≡ begun ++ since
   pub count : length since ≡ calls
@@ -51,7 +52,7 @@ TellsUnrecorded setup history reply before after = after ≡ before
 -- What a call tells its caller, where this history stood. Where it is recorded its record joined the history, at its end, and the
 -- caller has seen the history with it.
 abbrev pub Tells : Setup → List Pair → Event → Reply → CallerState → CallerState → Type 0
-Tells setup history event reply before after = MatchOption (record_of event reply) (TellsUnrecorded setup history reply before after) (λ made. Joins setup history before made after)
+Tells setup history event reply before after = MatchOption (record_of event reply) (TellsUnrecorded setup history reply before after) (λ made. Joins setup history before (made ∷ []) after)
 
 -- One call of a shared engine, a section under its lock: the engine as it was found, by its history with who made each record, and
 -- as it was left; what it answered, and what that tells the caller.

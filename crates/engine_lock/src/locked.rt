@@ -6,6 +6,7 @@ ghost use Rattle.engine_core.specs.EngineState.{IsRun};
 ghost use Rattle.engine_core.specs.Replies.{IsOfKnown};
 ghost use Rattle.monitor.specs.LegalHistory.{unshared};
 ghost use Rattle.monitor.specs.Telling.{new_caller};
+ghost use Rattle.engine_lock.specs.Driving.{Drives, is_not_out};
 ghost use Rattle.engine_lock.specs.Sharing.{Answers, Closes, IsNewCaller, IsNewWatch, Section, Tells, is_unfit, keeper_of};
 ghost use Rattle.engine_lock.specs.declared.fault.LockFault.TheVariants.{TooManyCallers};
 ghost use Rattle.engine_lock.specs.declared.object.TheConstants.{MAX_CALLERS};
@@ -13,9 +14,9 @@ ghost use Rattle.engine_lock.specs.declared.object.TheConstants.{MAX_CALLERS};
 use crate::caller::Caller;
 use crate::fault::LockFault;
 use crate::object::{MAX_CALLERS, Object};
-use crate::publishing::publish_last;
+use crate::publishing::publish_beyond;
 use ccb::QueueId;
-use engine_core::{Engine, Event, Reply};
+use engine_core::{AdvanceFault, DriveFault, Engine, Event, Reply, Run};
 use monitor::{Keeper, Monitor, Watch};
 use std::marker::Model;
 use std::sync::Wait;
@@ -51,6 +52,7 @@ impl<B: Object> Locked<B> {
         requires run { IsRun engine }
         requires setup { engine.setup ≡ B.setup }
         requires begun { engine.history ≡ B.begun }
+        requires untaken { engine.taken ≡ 0 }
         requires book { book.total ≡ 0 }
         requires rest { (rest.parts ≡ B.parts) × (rest.amount ≡ 0) × (B.parts ≡ MAX_CALLERS) }
         requires keeper { keeper ≡ record { history = unshared B.begun; callers = 0 } }
@@ -124,11 +126,40 @@ impl<B: Object> Locked<B> {
                 keeper,
             } = self;
             book.add(&mut caller.calls, 1);
-            publish_last(rt, monitor, keeper, &mut caller.part, engine);
+            publish_beyond(rt, monitor, keeper, &mut caller.part, engine);
         } else if is_unfit(&reply) {
             self.keeper.look(rt, monitor, &mut caller.part);
         }
         reply
+    }
+
+    /// Drives a run to its exit, and publishes the records of its stops with their caller, all in one step.
+    pub(crate) fn drive<R: Wait>(
+        &mut self,
+        rt: &R,
+        monitor: &Monitor<B>,
+        caller: &mut Caller<B>,
+        run: Run,
+    ) -> Result<u64, DriveFault>
+        ensures { Drives B.setup run result caller.old caller.new }
+    {
+        let Locked {
+            engine,
+            given: _,
+            book,
+            rest: _,
+            keeper,
+        } = self;
+        let known = engine.totals().history;
+        let driven = engine.drive(run);
+        let made = engine.totals().history - known;
+        if made > 0 {
+            book.add(&mut caller.calls, made);
+            publish_beyond(rt, monitor, keeper, &mut caller.part, engine);
+        } else if is_not_out(&driven) {
+            keeper.look(rt, monitor, &mut caller.part);
+        }
+        driven
     }
 
     /// Ends the sharing: the engine, exactly where all callers that were given out are here. Else all comes back.
@@ -180,6 +211,16 @@ impl<B: Object> Locked<B> {
         callers.destroy_empty();
         book.audit(&mut all);
         engine
+    }
+}
+
+// Whether the engine did not have the run out, which is C4.
+fn is_not_out(driven: &Result<u64, DriveFault>) -> bool
+    ensures { result ≡ is_not_out driven.now }
+{
+    match driven {
+        Ok(_) => false,
+        Err(fault) => matches!(fault.why, AdvanceFault::NotOut),
     }
 }
 

@@ -59,6 +59,7 @@ impl Opened {
     pub fn named<B: Object>(self) -> Shared<B>
         requires setup { self.engine.setup ≡ B.setup }
         requires begun { self.engine.history ≡ B.begun }
+        requires untaken { self.engine.taken ≡ 0 }
         requires name { (self.calls.name ≡ B.name) × (self.calls.parts ≡ B.parts) }
         requires table { self.monitor ≡ B.table }
     {

@@ -4,6 +4,7 @@
 ghost use Rattle.std.specs.Prelude.{◌≡◌, ◌≤◌, [], IfOk, IfErr};
 ghost use Rattle.engine_config.specs.Configured.{AreProgramsOf};
 ghost use Rattle.monitor.specs.LegalHistory.{LegalHistory};
+ghost use Rattle.engine_lock.specs.Driving.{Drives};
 ghost use Rattle.engine_lock.specs.Sharing.{IsNewCaller, IsNewWatch, Section};
 ghost use Rattle.engine_lock.specs.declared.fault.LockFault.TheVariants.{TooManyCallers};
 ghost use Rattle.engine_lock.specs.declared.object.TheConstants.{MAX_CALLERS};
@@ -14,7 +15,7 @@ use crate::fault::LockFault;
 use crate::locked::Locked;
 use crate::object::Object;
 use bpf_accepted::Accepted;
-use engine_core::{Event, Reply};
+use engine_core::{DriveFault, Event, Reply, Run};
 use monitor::{Monitor, Watch};
 use std::sync::{Arc, Mutex, Wait};
 
@@ -99,5 +100,23 @@ impl<B: Object> Shared<B> {
         let reply = locked.call(rt, &self.monitor, caller, event, known);
         pause.inside(rt);
         reply
+    }
+
+    /// Drives a run to its exit in one section under the lock: R0 at its exit. Its records are those of its advances one by one, in
+    /// their order, and nobody sees some of them alone. Other callers wait for all that it executes, so it is for short runs.
+    ///
+    /// C4 exactly as for the run's advance: the caller has then seen a history in whose last world the run is not out, and the run
+    /// comes back as it was. If memory is refused the run comes back at the last of its stops that was recorded.
+    pub fn drive<R: Wait>(
+        &self,
+        rt: &R,
+        caller: &mut Caller<B>,
+        run: Run,
+    ) -> Result<u64, DriveFault>
+        ensures { Drives B.setup run result caller.old caller.new }
+    {
+        let mut guard = self.lock.lock(rt);
+        let locked = &mut *guard;
+        locked.drive(rt, &self.monitor, caller, run)
     }
 }

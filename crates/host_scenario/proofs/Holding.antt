@@ -125,7 +125,7 @@ pub record Leaves (event : Event) (before after : List Record) (tokens : List Fr
   pub holds : HoldsAll after tokens
 
 module _ (setup : Setup) (before after : CallerState) (left now : HandlesState) where
-  mine : (history : List Pair) (made : Record) → Joins setup history before made after → after.mine ≡ before.mine ++ made ∷ []
+  mine : (history : List Pair) (made : Record) → Joins setup history before (made ∷ []) after → after.mine ≡ before.mine ++ made ∷ []
   mine history made joins = ap (λ (c : CallerState). c.mine) joins.after_is
 
   behind : (number : ℕ) (made : Record) → after.mine ≡ before.mine ++ made ∷ [] → is_held number after.mine ≡ true → held_behind number (is_held number before.mine) made ≡ true

@@ -1,14 +1,15 @@
--- A history that goes on: it begins with all that it began with, and a caller's records are one more or as before.
+-- A history that goes on: it begins with all that it began with, and a caller's records are more by its own or as before.
 use Rattle.std.proofs.Common.{◌≡◌, ◌≢◌, ℕ, ◌<◌, ◌≤◌, ◌==◌, if◌then◌else◌, Bool, true, false, List, [], ◌∷◌, ◌++◌, All, refl, sym, ap, ◌∙◌, subst, append_assoc, append-nil, eq-eqb, ne_eqb, arith}
 use Rattle.std.proofs.lemmas.List.Elements.{All-nil, All-cons, All-head, All-tail, All-weaker}
 use Rattle.world_calls.specs.declared.record.Record.{Record}
 use Rattle.monitor.specs.declared.knowledge.Pair.{Pair}
-use Rattle.monitor.specs.LegalHistory.{pair, unshared, records, made_by, StartsWith}
+use Rattle.monitor.specs.LegalHistory.{all_by, pair, unshared, records, made_by, StartsWith}
 
--- the records of a history with one pair more
-pub records_push : (history : List Pair) (p : Pair) → records (history ++ p ∷ []) ≡ records history ++ p.made ∷ []
-records_push [] p = refl
-records_push (x ∷ xs) p = ap (λ rs. x.made ∷ rs) (records_push xs p)
+-- the records of a history with those of a caller behind it
+pub records_more : (history : List Pair) (c : ℕ) (made : List Record) → records (history ++ all_by c made) ≡ records history ++ made
+records_more [] c [] = refl
+records_more [] c (r ∷ rs) = ap (λ l. r ∷ l) (records_more [] c rs)
+records_more (x ∷ xs) c made = ap (λ rs. x.made ∷ rs) (records_more xs c made)
 
 -- what stood there before the engine was shared
 pub records_unshared : (before : List Record) → records (unshared before) ≡ before
@@ -25,17 +26,24 @@ made_by-append c (p ∷ ps) ys = let rest = made_by-append c ps ys in
     elim (p.caller == c) as (λ b. (if b then p.made ∷ made_by c (ps ++ ys) else made_by c (ps ++ ys)) ≡ (if b then p.made ∷ made_by c ps else made_by c ps) ++ made_by c ys)
     [ true ↦ ap (λ l. p.made ∷ l) rest | false ↦ rest ]
 
-one_own : (c : ℕ) (r : Record) → made_by c (pair c r ∷ []) ≡ r ∷ []
-one_own c r = subst (λ (b : Bool). (if b then r ∷ [] else []) ≡ r ∷ []) (sym (eq-eqb c c refl)) refl
+all_own : (c : ℕ) (rs : List Record) → made_by c (all_by c rs) ≡ rs
+all_own c [] = refl
+all_own c (r ∷ rs) = subst (λ (b : Bool). (if b then r ∷ made_by c (all_by c rs) else made_by c (all_by c rs)) ≡ r ∷ rs) (sym (eq-eqb c c refl)) (ap (λ l. r ∷ l) (all_own c rs))
 
-one_other : (d c : ℕ) (r : Record) → d ≢ c → made_by c (pair d r ∷ []) ≡ []
-one_other d c r apart = subst (λ (b : Bool). (if b then r ∷ [] else []) ≡ []) (sym (ne_eqb d c apart)) refl
+none_own : (d c : ℕ) (rs : List Record) → d ≢ c → made_by c (all_by d rs) ≡ []
+none_own d c [] apart = refl
+none_own d c (r ∷ rs) apart = subst (λ (b : Bool). (if b then r ∷ made_by c (all_by d rs) else made_by c (all_by d rs)) ≡ []) (sym (ne_eqb d c apart)) (none_own d c rs apart)
 
-pub own_more : (c : ℕ) (r : Record) (log : List Pair) (mine : List Record) → made_by c log ≡ mine → made_by c (log ++ pair c r ∷ []) ≡ mine ++ r ∷ []
-own_more c r log mine is = made_by-append c log (pair c r ∷ []) ∙ (λ i. is i ++ one_own c r i)
+pub own_more : (c : ℕ) (rs : List Record) (log : List Pair) (mine : List Record) → made_by c log ≡ mine → made_by c (log ++ all_by c rs) ≡ mine ++ rs
+own_more c rs log mine is = made_by-append c log (all_by c rs) ∙ (λ i. is i ++ all_own c rs i)
 
-pub other_more : (d c : ℕ) (r : Record) (log : List Pair) (mine : List Record) → d ≢ c → made_by c log ≡ mine → made_by c (log ++ pair d r ∷ []) ≡ mine
-other_more d c r log mine apart is = made_by-append c log (pair d r ∷ []) ∙ (λ i. is i ++ one_other d c r apart i) ∙ append-nil mine
+pub other_more : (d c : ℕ) (rs : List Record) (log : List Pair) (mine : List Record) → d ≢ c → made_by c log ≡ mine → made_by c (log ++ all_by d rs) ≡ mine
+other_more d c rs log mine apart is = made_by-append c log (all_by d rs) ∙ (λ i. is i ++ none_own d c rs apart i) ∙ append-nil mine
+
+-- all of a caller's records are of one that was given out
+pub all_given : (c given : ℕ) (rs : List Record) → c ≤ given → All (λ p. p.caller ≤ given) (all_by c rs)
+all_given c given [] low = All-nil (λ (p : Pair). p.caller ≤ given)
+all_given c given (r ∷ rs) low = All-cons (λ (p : Pair). p.caller ≤ given) (pair c r) (all_by c rs) low (all_given c given rs low)
 
 -- a caller that is still to come has made none
 pub none_yet : (n c : ℕ) (log : List Pair) → n < c → All (λ p. p.caller ≤ n) log → made_by c log ≡ []
@@ -45,8 +53,8 @@ none_yet n c (p ∷ ps) less below =
     let rest : made_by c ps ≡ [] = none_yet n c ps less (All-tail (λ (q : Pair). q.caller ≤ n) p ps below) in
     subst (λ (b : Bool). (if b then p.made ∷ made_by c ps else made_by c ps) ≡ []) (sym (ne_eqb p.caller c (λ same. omega arith))) rest
 
-pub longer : (log seen : List Pair) (p : Pair) → StartsWith log seen → StartsWith (log ++ p ∷ []) seen
-longer log seen p before = (before.0 ++ p ∷ [], ap (λ l. l ++ p ∷ []) before.1 ∙ append_assoc seen before.0 (p ∷ []))
+pub longer : (log seen more : List Pair) → StartsWith log seen → StartsWith (log ++ more) seen
+longer log seen more before = (before.0 ++ more, ap (λ l. l ++ more) before.1 ∙ append_assoc seen before.0 more)
 
 pub itself : (log : List Pair) → StartsWith log log
 itself log = ([], sym (append-nil log))
@@ -54,8 +62,8 @@ itself log = ([], sym (append-nil log))
 pub from_nothing : (log : List Pair) → StartsWith log []
 from_nothing log = (log, refl)
 
-pub all_longer : (log : List Pair) (p : Pair) (told : List (List Pair)) → All (StartsWith log) told → All (StartsWith (log ++ p ∷ [])) told
-all_longer log p told h = All-weaker (StartsWith log) (StartsWith (log ++ p ∷ [])) (λ seen. longer log seen p) told h
+pub all_longer : (log more : List Pair) (told : List (List Pair)) → All (StartsWith log) told → All (StartsWith (log ++ more)) told
+all_longer log more told h = All-weaker (StartsWith log) (StartsWith (log ++ more)) (λ seen. longer log seen more) told h
 
 pub none_told : (log : List Pair) → All (StartsWith log) []
 none_told log = All-nil (StartsWith log)

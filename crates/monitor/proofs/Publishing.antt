@@ -1,6 +1,6 @@
--- A record is published, the sums are shown again, and a caller looks: each step keeps the rule.
-use Rattle.std.proofs.Common.{◌≡◌, ℕ, ◌≤◌, true, false, true≢false, List, [], ◌∷◌, ◌++◌, length, set, refl, sym, ap, ◌∙◌, subst}
-use Rattle.std.proofs.lemmas.List.Elements.{All-push}
+-- Records are published, the sums are shown again, and a caller looks: each step keeps the rule.
+use Rattle.std.proofs.Common.{◌≡◌, ℕ, ◌≤◌, true, false, true≢false, List, [], ◌++◌, length, set, refl, sym, ap, ◌∙◌, subst}
+use Rattle.std.proofs.lemmas.List.Elements.{All-append}
 use Rattle.crossbeam_utils.specs.Register.{Turns}
 use Rattle.world_calls.specs.declared.record.Record.{Record}
 use Rattle.world_calls.specs.declared.totals.Totals.{Totals}
@@ -8,9 +8,9 @@ use Rattle.world.specs.World.{Setup}
 use Rattle.world.specs.TotalsOf.{TotalsOf}
 use Rattle.monitor.specs.declared.knowledge.Pair.{Pair}
 use Rattle.monitor.specs.declared.knowledge.View.{View}
-use Rattle.monitor.specs.LegalHistory.{pair, records, made_by, StartsWith, LegalHistory}
+use Rattle.monitor.specs.LegalHistory.{all_by, records, made_by, StartsWith, LegalHistory}
 use Rattle.monitor.specs.Seats.{IsKeeper, HasSums, Say, Whole, ViewHolds, Kept, published, AgreesWith, Extends, ShownAgain, HasLooked}
-use Rattle.monitor.proofs.Histories.{own_more, other_more, longer, itself, all_longer, none_told}
+use Rattle.monitor.proofs.Histories.{all_given, own_more, other_more, longer, itself, all_longer, none_told}
 use Rattle.monitor.proofs.Places.{each_set, not_alone, free_of, others_stay}
 
 -- a history that has sums is legal
@@ -21,48 +21,48 @@ legal_of setup log totals h = (h.sums.0, h.sums.1)
 agrees : (words : List ℕ) (count : ℕ) (whole : Whole) (seat : ℕ) (v : View) → v.calls ≡ true → v.log ≡ whole.log → ViewHolds words count whole seat v → AgreesWith v.log v
 agrees words count whole seat v calls same fit = subst (λ l. AgreesWith l v) (sym same) (record { began = fit.seen; heard = fit.told; own = (fit.calls calls).3 })
 
-pub publishes : (seat : ℕ) (v : View) (made : Record) (totals : Totals) (new : List ℕ) → v.keeps ≡ true → v.calls ≡ true → v.opens ≡ false → Say new totals → HasSums v.setup (v.log ++ pair v.number made ∷ []) totals
+pub publishes : (seat : ℕ) (v : View) (made : List Record) (totals : Totals) (new : List ℕ) → v.keeps ≡ true → v.calls ≡ true → v.opens ≡ false → Say new totals → HasSums v.setup (v.log ++ all_by v.number made) totals
     → Turns Kept seat v (λ _. new) (λ v' x y w. Extends v' made w)
 publishes seat v made totals new keeps calls closed say sums words views h at =
     let whole = h.whole in
     let fit = h.each seat v at in
     let k = fit.keeps keeps in
     let c = fit.calls calls in
-    let p : Pair = pair v.number made in
+    let more : List Pair = all_by v.number made in
     let same : v.log ≡ whole.log = k.2 in
-    let whole' : Whole = record whole { log = whole.log ++ p ∷ []; totals = totals } in
+    let whole' : Whole = record whole { log = whole.log ++ more; totals = totals } in
     let w : View = published made v in
-    let same' : v.log ++ p ∷ [] ≡ whole'.log = ap (λ l. l ++ p ∷ []) same in
+    let same' : v.log ++ more ≡ whole'.log = ap (λ l. l ++ more) same in
     let F : ℕ → View → Type 0 = ViewHolds new (length (set views seat w)) whole' in
-    let own : made_by v.number whole'.log ≡ v.mine ++ made ∷ [] = own_more v.number made whole.log v.mine c.3 in
+    let own : made_by v.number whole'.log ≡ v.mine ++ made = own_more v.number made whole.log v.mine c.3 in
     let mine : F seat w = record {
       alone = λ e. absurd (true≢false (sym e ∙ closed));
       keeps = λ e. (k.0, k.1, same', k.3);
       calls = λ e. (c.0, c.1, c.2, own);
       shows = λ e. (k.1, say);
-      seen = subst (λ l. StartsWith l (v.log ++ p ∷ [])) same' (itself (v.log ++ p ∷ []));
+      seen = subst (λ l. StartsWith l (v.log ++ more)) same' (itself (v.log ++ more));
       told = none_told whole'.log;
     } in (
       w,
       record {
         whole = whole';
         sums = subst (λ (y : Setup × List Pair). HasSums y.0 y.1 totals) (λ i. (k.1 i, same' i)) sums;
-        numbered = All-push (λ (q : Pair). q.caller ≤ whole.given) whole.log p h.numbered c.2;
+        numbered = All-append (λ (q : Pair). q.caller ≤ whole.given) whole.log more h.numbered (all_given v.number whole.given made c.2);
         each = each_set F views seat w mine (λ j u apart there.
             let theirs = h.each j u there in record {
               alone = λ e. absurd (not_alone views j seat u v apart there at (theirs.alone e));
               keeps = λ e. absurd (apart ((theirs.keeps e).0 ∙ sym k.0));
               calls = λ e. let d = theirs.calls e in (d.0, d.1, d.2, other_more v.number u.number made whole.log u.mine (λ is. free_of words (length views) whole seat j v u apart calls fit theirs e (sym is)) d.3);
               shows = λ e. ((theirs.shows e).0, say);
-              seen = longer whole.log u.seen p theirs.seen;
-              told = all_longer whole.log p u.told theirs.told;
+              seen = longer whole.log u.seen more theirs.seen;
+              told = all_longer whole.log more u.told theirs.told;
             });
       },
       record {
         after = refl;
         agreed = agrees words (length views) whole seat v calls same fit;
-        own = subst (λ l. made_by v.number l ≡ v.mine ++ made ∷ []) (sym same') own;
-        legal = legal_of v.setup (v.log ++ p ∷ []) totals sums;
+        own = subst (λ l. made_by v.number l ≡ v.mine ++ made) (sym same') own;
+        legal = legal_of v.setup (v.log ++ more) totals sums;
       },
     )
 

@@ -9,9 +9,13 @@ use Rattle.monitor.specs.declared.knowledge.Pair.{Pair}
 abbrev pub pair : ℕ → Record → Pair
 pair caller made = record { caller = caller; made = made }
 
+-- records that one caller made
+abbrev pub all_by : ℕ → List Record → List Pair
+all_by caller made = map (λ it. pair caller it) made
+
 -- records that stood there before the engine was shared: no caller made them
 abbrev pub unshared : List Record → List Pair
-unshared before = map (λ made. pair 0 made) before
+unshared before = all_by 0 before
 
 -- the records alone
 abbrev pub records : List Pair → List Record

@@ -9,7 +9,7 @@ use Rattle.world.specs.World.{Setup}
 use Rattle.world.specs.TotalsOf.{TotalsOf}
 use Rattle.monitor.specs.declared.knowledge.Pair.{Pair}
 use Rattle.monitor.specs.declared.knowledge.View.{View}
-use Rattle.monitor.specs.LegalHistory.{pair, unshared, records, made_by, StartsWith, LegalHistory}
+use Rattle.monitor.specs.LegalHistory.{all_by, unshared, records, made_by, StartsWith, LegalHistory}
 use Rattle.monitor.specs.Nameless.{no_setup}
 use Rattle.monitor.specs.Telling.{KeeperState, CallerState, WatchState}
 
@@ -116,13 +116,13 @@ pub record Kept (words : List ℕ) (views : List View) : Type 0 where
   pub numbered : All (λ p. p.caller ≤ whole.given) whole.log
   pub each : (seat : ℕ) (v : View) → get_elem? views seat ≡ some v → ViewHolds words (length views) whole seat v
 
--- the keeper's view with a caller's part in it, once the caller's record has joined the history
-abbrev pub published : Record → View → View
+-- the keeper's view with a caller's part in it, once the caller's records have joined the history
+abbrev pub published : List Record → View → View
 published made v = record v {
-  log = v.log ++ pair v.number made ∷ [];
-  mine = v.mine ++ made ∷ [];
+  log = v.log ++ all_by v.number made;
+  mine = v.mine ++ made;
   shown = true;
-  seen = v.log ++ pair v.number made ∷ [];
+  seen = v.log ++ all_by v.number made;
   told = [];
 }
 
@@ -132,12 +132,12 @@ pub record AgreesWith (log : List Pair) (v : View) : Type 0 where
   pub heard : All (StartsWith log) v.told
   pub own : made_by v.number log ≡ v.mine
 
--- what a step tells: a record joins the history and the sums are shown
-pub record Extends (v : View) (made : Record) (w : View) : Type 0 where
+-- what a step tells: records join the history and the sums are shown
+pub record Extends (v : View) (made : List Record) (w : View) : Type 0 where
   pub after : w ≡ published made v
   pub agreed : AgreesWith v.log v
-  pub own : made_by v.number (v.log ++ pair v.number made ∷ []) ≡ v.mine ++ made ∷ []
-  pub legal : LegalHistory v.setup (v.log ++ pair v.number made ∷ [])
+  pub own : made_by v.number (v.log ++ all_by v.number made) ≡ v.mine ++ made
+  pub legal : LegalHistory v.setup (v.log ++ all_by v.number made)
 
 -- the sums are shown again
 abbrev pub ShownAgain : View → List ℕ → List ℕ → View → Type 0

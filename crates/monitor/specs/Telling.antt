@@ -6,7 +6,7 @@ use Rattle.world_calls.specs.declared.totals.Totals.{Totals}
 use Rattle.world.specs.World.{Setup}
 use Rattle.world.specs.TotalsOf.{TotalsOf}
 use Rattle.monitor.specs.declared.knowledge.Pair.{Pair}
-use Rattle.monitor.specs.LegalHistory.{pair, records, made_by, StartsWith, LegalHistory}
+use Rattle.monitor.specs.LegalHistory.{all_by, records, made_by, StartsWith, LegalHistory}
 
 -- the keeper knows the whole history, and how many callers there are
 pub record KeeperState : Type 0 where
@@ -49,16 +49,17 @@ pub record Agrees (history : List Pair) (caller : CallerState) : Type 0 where
 abbrev pub having_seen : List Pair → CallerState → CallerState
 having_seen history caller = record caller { seen = history; told = [] }
 
--- the caller has made this record, and has seen the history to which it was added
-abbrev pub having_made : List Pair → Record → CallerState → CallerState
+-- the caller has made these records, and has seen the history to which they were added
+abbrev pub having_made : List Pair → List Record → CallerState → CallerState
 having_made history made caller = record caller {
-  seen = history ++ pair caller.number made ∷ [];
+  seen = history ++ all_by caller.number made;
   told = [];
-  mine = caller.mine ++ made ∷ [];
+  mine = caller.mine ++ made;
 }
 
--- A caller's record joined the history, at its end: the history with it is legal, and both agree with the caller
-pub record Joins (setup : Setup) (history : List Pair) (before : CallerState) (made : Record) (after : CallerState) : Type 0 where
+-- A caller's records joined the history, at its end, one behind the other: the history with them is legal, and both agree with the
+-- caller
+pub record Joins (setup : Setup) (history : List Pair) (before : CallerState) (made : List Record) (after : CallerState) : Type 0 where
   pub agreed : Agrees history before
   pub after_is : after ≡ having_made history made before
   pub agrees : Agrees after.seen after

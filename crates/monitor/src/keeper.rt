@@ -1,10 +1,10 @@
 // Who publishes: the keeper stands under the lock of the shared engine, beside the engine, and knows the whole history. It relies
 // on `steps` for what happens at the cell.
 
-ghost use Rattle.std.specs.Prelude.{◌≡◌, ◌+◌, [], ◌∷◌, ◌++◌};
+ghost use Rattle.std.specs.Prelude.{◌≡◌, ◌+◌, ◌++◌};
 ghost use Rattle.crossbeam_utils.specs.Seq.{cell_view};
 ghost use Rattle.world.specs.TotalsOf.{TotalsOf};
-ghost use Rattle.monitor.specs.LegalHistory.{pair, records};
+ghost use Rattle.monitor.specs.LegalHistory.{all_by, records};
 ghost use Rattle.monitor.specs.Seats.{IsKeeper, keeper_state};
 ghost use Rattle.monitor.specs.Telling.{Agrees, Joins, Looks, new_caller, new_watch};
 
@@ -74,10 +74,11 @@ impl<B: Origin> Keeper<B> {
         Watch::new(cell.split_pass::<LetsWatch>(&mut self.seat))
     }
 
-    /// A record that a caller made joins the history, at its end; the caller has seen the history with it, and the sums of that
-    /// are shown. It takes no memory, and may wait for those that read.
+    /// Records that a caller made join the history, at its end, one behind the other and in one step: nobody sees some of them
+    /// alone. The caller has seen the history with them, and the sums of that are shown. It takes no memory, and may wait for those
+    /// that read.
     ///
-    /// Only the proof knows the record: it is that of `S`.
+    /// Only the proof knows the records: they are those of `S`.
     pub fn publish<S: Told, R: Wait>(
         &mut self,
         rt: &R,
@@ -85,8 +86,8 @@ impl<B: Origin> Keeper<B> {
         caller: &mut CallerPart<B>,
         totals: Totals,
     )
-        requires totals { TotalsOf B.setup (records self.old.history ++ S.told ∷ []) totals }
-        ensures history { self.new ≡ record self.old { history = self.old.history ++ pair caller.old.number S.told ∷ [] } }
+        requires totals { TotalsOf B.setup (records self.old.history ++ S.told) totals }
+        ensures history { self.new ≡ record self.old { history = self.old.history ++ all_by caller.old.number S.told } }
         ensures caller { Joins B.setup self.old.history caller.old S.told caller.new }
     {
         publish_as::<B, S, R>(rt, &monitor.cell, &mut self.seat, &mut caller.seat, totals);

@@ -1,4 +1,4 @@
-// The rule of the cell, and its steps: a record is published, the sums are shown again, a caller looks, a watch reads. Parts of
+// The rule of the cell, and its steps: records are published, the sums are shown again, a caller looks, a watch reads. Parts of
 // views go from seat to seat by splitting and joining, without a step at the words. It relies on `crossbeam_utils`, whose cell
 // keeps the rule whatever its threads do.
 use crate::knowledge::View;
@@ -24,21 +24,22 @@ pub type Cell = RuledSeqCell<[u64; 4], View, OneHistory, 4>;
 
 pub type Seat = Pass<[u64; 4], View>;
 
-/// The record that is published, for its proof. Whoever publishes passes `Brand` to a function over this, of whose arguments one
-/// tells the record, and picks it there.
+/// The records that are published, for their proof. Whoever publishes passes `Brand` to a function over this, of whose arguments one
+/// tells the records, and picks them there.
 pub trait Told {
+    ghost use Rattle.std.specs.Prelude.{List};
     ghost use Rattle.world_calls.specs.declared.record.Record.{Record};
 
-    ghost told: { Record };
+    ghost told: { List Record };
 }
 
 impl Told for Brand {
-    ghost use Rattle.monitor.specs.Nameless.{a_record};
+    ghost use Rattle.std.specs.Prelude.{[]};
 
-    ghost told = { a_record };
+    ghost told = { [] };
 }
 
-/// A caller's record joins the history, and its sums are shown.
+/// A caller's records join the history, and its sums are shown.
 pub struct Publishes<S: Told>(PhantomData<S>);
 
 impl<S: Told> Outcome<[u64; 4], View> for Publishes<S> {

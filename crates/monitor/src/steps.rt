@@ -1,10 +1,10 @@
-// What happens at the cell when a record is published, and when a caller looks: the caller's part goes into the keeper's hands,
+// What happens at the cell when records are published, and when a caller looks: the caller's part goes into the keeper's hands,
 // whose seat steps, and comes back. It relies on the cell's rule.
 
-ghost use Rattle.std.specs.Prelude.{◌≡◌, true, false, [], ◌∷◌, ◌++◌};
+ghost use Rattle.std.specs.Prelude.{◌≡◌, true, false, ◌++◌};
 ghost use Rattle.crossbeam_utils.specs.Seq.{cell_view};
 ghost use Rattle.world.specs.TotalsOf.{TotalsOf};
-ghost use Rattle.monitor.specs.LegalHistory.{pair, records};
+ghost use Rattle.monitor.specs.LegalHistory.{all_by, records};
 ghost use Rattle.monitor.specs.Seats.{IsKeeper, IsCaller, keeper_state, caller_state, with_part, without_part};
 ghost use Rattle.monitor.specs.Telling.{Joins, Looks};
 
@@ -27,7 +27,7 @@ fn hand_over(cell: &Cell, from: &mut Seat, to: &mut Seat)
     cell.join_pass::<HandsOver>(to, handed);
 }
 
-/// The caller's record joins the history, and the sums of the history with it are shown.
+/// The caller's records join the history, and the sums of the history with them are shown.
 pub(crate) fn publish_as<B: Origin, S: Told, R: Wait>(
     rt: &R,
     cell: &Cell,
@@ -38,11 +38,11 @@ pub(crate) fn publish_as<B: Origin, S: Told, R: Wait>(
     requires cell { (cell.now.table.shared.table_id ≡ B.table) × (keeper.old.table_id ≡ B.table) × (caller.old.table_id ≡ B.table) }
     requires keeper { IsKeeper B.setup (cell_view keeper.old) }
     requires caller { IsCaller B.setup (cell_view caller.old) }
-    requires totals { TotalsOf B.setup (records (cell_view keeper.old).log ++ S.told ∷ []) totals }
+    requires totals { TotalsOf B.setup (records (cell_view keeper.old).log ++ S.told) totals }
     ensures cell { (keeper.new.table_id ≡ B.table) × (caller.new.table_id ≡ B.table) }
     ensures keeper { IsKeeper B.setup (cell_view keeper.new) }
     ensures caller { IsCaller B.setup (cell_view caller.new) }
-    ensures history { keeper_state (cell_view keeper.new) ≡ record (keeper_state (cell_view keeper.old)) { history = (cell_view keeper.old).log ++ pair (cell_view caller.old).number S.told ∷ [] } }
+    ensures history { keeper_state (cell_view keeper.new) ≡ record (keeper_state (cell_view keeper.old)) { history = (cell_view keeper.old).log ++ all_by (cell_view caller.old).number S.told } }
     ensures joins { Joins B.setup (cell_view keeper.old).log (caller_state (cell_view caller.old)) S.told (caller_state (cell_view caller.new)) }
 {
     let words = words_of(totals);

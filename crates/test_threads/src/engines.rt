@@ -25,8 +25,8 @@ fn config_once(alloc: Global, manifest: &str) -> Option<Config> {
     }
 }
 
-// The configuration that the manifest says.
-fn config(alloc: Global, manifest: &str) -> Option<Config> {
+/// The configuration that the manifest says.
+pub fn config(alloc: Global, manifest: &str) -> Option<Config> {
     match config_once(alloc, manifest) {
         Some(config) => Some(config),
         None => config_once(alloc, manifest),

@@ -4,6 +4,7 @@
 #![tactic(auto)]
 
 mod asking;
+mod at_once;
 mod crew;
 mod engines;
 mod inboxes;
@@ -42,7 +43,7 @@ enum Check {
 }
 
 /// All checks, with their names.
-const CHECKS: [(&str, Check); 21] = [
+const CHECKS: [(&str, Check); 22] = [
     (
         "finds_out_bodies_that_never_give_or_never_take_in",
         Check::WrongBodies,
@@ -58,6 +59,10 @@ const CHECKS: [(&str, Check); 21] = [
     (
         "shows_ten_thousand_recoveries_in_their_order",
         Check::Engine(OfEngine::Recoveries),
+    ),
+    (
+        "drives_each_short_run_in_one_section",
+        Check::Engine(OfEngine::AtOnce),
     ),
     (
         "served_and_memory_refused_once",

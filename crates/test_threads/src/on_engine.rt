@@ -1,7 +1,8 @@
 // The checks of an engine that is shared, each with the engine that it begins with.
 
-ghost use Rattle.std.specs.Prelude.{◌≡◌};
+ghost use Rattle.std.specs.Prelude.{◌≡◌, IfSome};
 
+use crate::at_once::drives_at_once;
 use crate::engines::{MANIFEST, engine_of, engine_with};
 use crate::recoveries::{CCBS, shows_ten_thousand_recoveries};
 use crate::refusals::{PLAIN_MANIFEST, TRACING_MANIFEST, is_plainly_told, is_traced, parks_none};
@@ -21,6 +22,7 @@ use std::thread::Threads;
 #[derive(Clone, Copy)]
 pub enum OfEngine {
     Recoveries,
+    AtOnce,
     Served,
     Traced,
     ParksNone,
@@ -42,7 +44,9 @@ pub enum OfEngine {
 // The engine with which a check begins.
 fn engine_for(alloc: Global, check: OfEngine) -> Option<Engine> {
     match check {
-        OfEngine::SixteenRuns | OfEngine::Recoveries => engine_with(alloc, CCBS, 0),
+        OfEngine::SixteenRuns | OfEngine::Recoveries | OfEngine::AtOnce => {
+            engine_with(alloc, CCBS, 0)
+        }
         OfEngine::TwoRuns | OfEngine::OneThread | OfEngine::Nobody | OfEngine::HeldUp => {
             engine_with(alloc, 2, 0)
         }
@@ -65,12 +69,14 @@ fn holds_of<B: Object + Send + Sync, R: Threads + Wait + Sync>(
 ) -> Option<bool>
     requires setup { opened.engine.setup ≡ B.setup }
     requires begun { opened.engine.history ≡ B.begun }
+    requires untaken { opened.engine.taken ≡ 0 }
     requires name { (opened.calls.name ≡ B.name) × (opened.calls.parts ≡ B.parts) }
     requires table { opened.monitor ≡ B.table }
 {
     let shared = opened.named::<B>();
     match check {
         OfEngine::Recoveries => shows_ten_thousand_recoveries(rt, alloc, shared),
+        OfEngine::AtOnce => drives_at_once(rt, alloc, shared),
         OfEngine::Served => is_plainly_told(rt, alloc, shared),
         OfEngine::Traced => is_traced(rt, alloc, shared),
         OfEngine::ParksNone => parks_none(rt, alloc, shared),
@@ -90,8 +96,14 @@ fn holds_of<B: Object + Send + Sync, R: Threads + Wait + Sync>(
     }
 }
 
-// That engine, to be shared. If memory is refused it comes back, and the same call succeeds the second time.
-fn opened(alloc: Global, engine: Engine) -> Option<Opened> {
+// That engine, to be shared, of which no record was handed on. If memory is refused it comes back, and the same call succeeds the
+// second time.
+fn opened(alloc: Global, engine: Engine) -> Option<Opened>
+    ensures { IfSome result (λ opened. opened.engine.taken ≡ 0) }
+{
+    if engine.taken() != 0 {
+        return None;
+    }
     match Opened::new(alloc, engine) {
         Ok(opened) => Some(opened),
         Err((_, engine)) => Opened::new(alloc, engine).ok(),

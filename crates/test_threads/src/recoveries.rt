@@ -119,13 +119,14 @@ fn recovers_each<B: Object + Send + Sync, R: Threads + Wait + Sync>(
     put && course.is_whole(CCBS) && starts_all(rt, shared, &mut crew.caller)
 }
 
-// All rounds.
-fn recovers_all<B: Object + Send + Sync, R: Threads + Wait + Sync>(
+/// So many rounds of recoveries by all workers.
+pub fn recovers_all<B: Object + Send + Sync, R: Threads + Wait + Sync>(
     rt: &R,
     shared: &Shared<B>,
     crew: &mut Crew<B>,
+    rounds: u32,
 ) -> bool {
-    for _ in 0..ROUNDS {
+    for _ in 0..rounds {
         if !recovers_each(rt, shared, crew) {
             return false;
         }
@@ -140,7 +141,7 @@ fn recovers_beside<B: Object + Send + Sync, R: Threads + Wait + Sync>(
     progress: &Progress,
     crew: &mut Crew<B>,
 ) -> bool {
-    let recovered = comes(&progress.begun) && recovers_all(rt, shared, crew);
+    let recovered = comes(&progress.begun) && recovers_all(rt, shared, crew, ROUNDS);
     progress.over.store(true, Ordering::SeqCst);
     recovered
 }

@@ -32,7 +32,7 @@ goes_as setup before after stopped given run r0 is gives = let goes = subst (λ 
 
 module _ (setup : Setup) where
   -- one advance more, with what ended by it
-  abbrev goes_further : (number : ℕ) (exited : List ℕ) (a b c : CallerState) (stopped : StoppedState) (reply : Reply) → Drives setup number [] a b → stopped.number ≡ number → Section setup (Advance stopped) reply b c → ended_by (Advance stopped) reply ≡ exited → Drives setup number exited a c
+  abbrev pub goes_further : (number : ℕ) (exited : List ℕ) (a b c : CallerState) (stopped : StoppedState) (reply : Reply) → Drives setup number [] a b → stopped.number ≡ number → Section setup (Advance stopped) reply b c → ended_by (Advance stopped) reply ≡ exited → Drives setup number exited a c
   goes_further number exited a b c stopped reply drives same section is =
       let call : CallMade = record { event = Advance stopped; reply = reply } in record {
         calls = drives.calls ++ call ∷ [];
@@ -44,11 +44,21 @@ module _ (setup : Setup) where
       }
 
   -- one call more that was carried out
-  abbrev WasGiven : CallMade → Type 0
+  abbrev pub WasGiven : CallMade → Type 0
   WasGiven call = is_given call.reply ≡ true
 
-  went_on : (calls : List CallMade) (call : CallMade) → AreCarriedOut calls → is_given call.reply ≡ true → AreCarriedOut (calls ++ call ∷ [])
+  pub went_on : (calls : List CallMade) (call : CallMade) → AreCarriedOut calls → is_given call.reply ≡ true → AreCarriedOut (calls ++ call ∷ [])
   went_on calls call went is = All-append WasGiven calls (call ∷ []) went (All-cons WasGiven call [] is (All-nil WasGiven))
+
+  -- the advance behind them that was replied to so
+  pub until_after : (calls : List CallMade) (stopped : StoppedState) → AreCarriedOut calls → (is : Reply → Bool) (reply : Reply) → is reply ≡ true → GoUntil is (calls ++ record { event = Advance stopped; reply = reply } ∷ [])
+  until_after calls stopped went is reply so = record {
+    before = calls;
+    last = record { event = Advance stopped; reply = reply };
+    calls_are = refl;
+    went = went;
+    last_is = so;
+  }
 
   -- The run was advanced so many times, each time with success, and is at this stop.
   pub record Drove (run : RunState) (before after : CallerState) (stopped : StoppedState) (turn : ℕ) : Type 0 where
@@ -88,13 +98,7 @@ module _ (setup : Setup) where
 
     -- the advance that was replied to so
     pub until : (is : Reply → Bool) (reply : Reply) → is reply ≡ true → GoUntil is (so_far.drives.calls ++ record { event = Advance stopped; reply = reply } ∷ [])
-    until is reply so = record {
-      before = so_far.drives.calls;
-      last = record { event = Advance stopped; reply = reply };
-      calls_are = refl;
-      went = so_far.went;
-      last_is = so;
-    }
+    until = until_after so_far.drives.calls stopped so_far.went
 
     -- it came back, where that advance was not carried out
     pub comes_back : (why : Why) (reply : Reply) (came : Returned) (left : RunState) → Section setup (Advance stopped) reply b c → ended_by (Advance stopped) reply ≡ [] → HasLeft why run.program.budget (so_far.drives.calls ++ record { event = Advance stopped; reply = reply } ∷ []) → came ≡ back.Run (before_stop stopped) → came ≡ back.Run left → Leaves setup run left why a c

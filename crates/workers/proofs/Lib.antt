@@ -1,4 +1,5 @@
 pub mod Advances
+pub mod AtOnce
 pub mod Made
 pub mod Parking
 pub mod Recording

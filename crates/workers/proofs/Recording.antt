@@ -35,7 +35,7 @@ record Since (before after : CallerState) (more : List Outcome) : Type 0 where
   recorded : completions_of after.mine ≡ completions_of before.mine ++ more
 
 module _ (setup : Setup) where
-  by_record : (history : List Pair) (before after : CallerState) (made : Record) → Joins setup history before made after → Since before after (completion_in made ++ [])
+  by_record : (history : List Pair) (before after : CallerState) (made : Record) → Joins setup history before (made ∷ []) after → Since before after (completion_in made ++ [])
   by_record history before after made joins = record {
     number = ap (λ (c : CallerState). c.number) joins.after_is;
     recorded = ap (λ (c : CallerState). completions_of c.mine) joins.after_is ∙ completions_append before.mine (made ∷ []);

@@ -8,6 +8,8 @@ use Rattle.inbox.specs.Views.{InboxView, PassView, IsOf}
 use Rattle.ccb.specs.declared.call_refusal.CallRefusal.TheVariants.{Unknown, NotActive}
 use Rattle.world.specs.World.{Setup}
 use Rattle.engine_core.specs.RunState.{RunState}
+use Rattle.engine_core.specs.declared.answers.AdvanceFault.{AdvanceFault}
+use Rattle.engine_core.specs.declared.answers.AdvanceFault.TheVariants as faults
 use Rattle.engine_core.specs.declared.event.Event.{Event}
 use Rattle.engine_core.specs.declared.event.Event.TheVariants.{Complete, Advance}
 use Rattle.engine_core.specs.declared.reply.Returned.{Returned}
@@ -118,6 +120,11 @@ is_memory reply = false
 abbrev pub lacks_memory : List CallMade → Bool
 lacks_memory [] = false
 lacks_memory (call ∷ calls) = is_memory call.reply || lacks_memory calls
+
+-- the engine's reason as a worker's
+abbrev pub why_of : AdvanceFault → Why
+why_of faults.OutOfMemory = WantOfMemory
+why_of faults.NotOut = NotOut
 
 abbrev pub is_for_memory : Why → Bool
 is_for_memory WantOfMemory = true

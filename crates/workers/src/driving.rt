@@ -5,11 +5,11 @@ ghost use Rattle.std.specs.Prelude.{◌≡◌, ℕ, true, false, IfErr, IfSome, 
 ghost use Rattle.engine_core.specs.declared.reply.Returned.TheVariants as its;
 ghost use Rattle.engine_core.specs.declared.reply.Success.TheVariants.{Started};
 ghost use Rattle.engine_core.specs.declared.reply.Reply.TheVariants.{Refused};
-ghost use Rattle.workers.specs.Serving.{Ends, HasServed, HasStopped, IsReady, IsRunBack, Leaves, StartsNone, is_answered, is_for_memory};
+ghost use Rattle.workers.specs.Serving.{Ends, HasServed, HasStopped, IsReady, IsRunBack, Leaves, StartsNone, is_answered, is_for_memory, why_of};
 
 use crate::gate::Gate;
 use crate::worker::{Kept, Worker};
-use engine_core::{CallRefusal, Event, Reply, Returned, Run, Success};
+use engine_core::{AdvanceFault, CallRefusal, DriveFault, Event, Reply, Returned, Run, Success};
 use engine_lock::{Caller, Object, Shared};
 use inbox::Inbox;
 use std::sync::Wait;
@@ -30,6 +30,10 @@ pub struct Undriven {
     pub run: Run,
     pub why: Why,
 }
+
+/// A program of at most so many slots, whose runs execute at most so many instructions, is short. So many private instructions take 2 to
+/// 10 microseconds, and comparing so many slots less than one: the others wait no longer than for a few handings over of the lock.
+const SHORT: u32 = 1000;
 
 /// How many runs one worker starts in one service at most: a sixteenth of the numbers that runs can have.
 pub(crate) const MOST_STARTED: u32 = u32::MAX / 16;
@@ -140,10 +144,67 @@ fn started_by(given: Success) -> Option<Run>
     }
 }
 
-/// Drives a run to its end, stop by stop: what is private to it is executed outside the engine's lock. If an advance is not carried
-/// out, the run comes back with the reason. Each turn executes an instruction at least, so an accepted program's run ends within its
-/// budget of turns.
+/// Drives a run to its end. If an advance is not carried out, the run comes back with the reason. Where the gate is open and the run
+/// is short all its stops are one section under the engine's lock. Else each stop is one, after the gate was asked, and what is private
+/// to the run is executed outside the lock.
 pub fn drive<B: Object, G: Gate, R: Wait>(
+    rt: &R,
+    shared: &Shared<B>,
+    gate: &G,
+    caller: &mut Caller<B>,
+    run: Run,
+) -> Result<(), Undriven>
+    ensures ended { OnOk result (Ends B.setup run.number caller.old caller.new) }
+    ensures kept { IfErr result (λ back. Leaves B.setup run back.run back.why caller.old caller.new) }
+{
+    if gate.is_open() && is_short(&run) {
+        drive_at_once(rt, shared, caller, run)
+    } else {
+        drive_by_stops(rt, shared, gate, caller, run)
+    }
+}
+
+// Whether the run's program is short.
+fn is_short(run: &Run) -> bool {
+    let program = run.program();
+    program.budget() <= SHORT && program.program().len() <= SHORT as usize
+}
+
+// Drives a run to its end in one section.
+fn drive_at_once<B: Object, R: Wait>(
+    rt: &R,
+    shared: &Shared<B>,
+    caller: &mut Caller<B>,
+    run: Run,
+) -> Result<(), Undriven>
+    ensures ended { OnOk result (Ends B.setup run.number caller.old caller.new) }
+    ensures kept { IfErr result (λ back. Leaves B.setup run back.run back.why caller.old caller.new) }
+{
+    match shared.drive(rt, caller, run) {
+        Ok(_) => Ok(()),
+        Err(fault) => {
+            let DriveFault { why, run, r0: _ } = fault;
+            Err(Undriven {
+                run,
+                why: why_of(why),
+            })
+        }
+    }
+}
+
+// The engine's reason as a worker's.
+fn why_of(fault: AdvanceFault) -> Why
+    ensures { result ≡ why_of fault }
+{
+    match fault {
+        AdvanceFault::OutOfMemory => Why::OutOfMemory,
+        AdvanceFault::NotOut => Why::NotOut,
+    }
+}
+
+// Drives a run to its end, a section a stop. Each turn executes an instruction at least, so an accepted program's run ends within its
+// budget of turns.
+fn drive_by_stops<B: Object, G: Gate, R: Wait>(
     rt: &R,
     shared: &Shared<B>,
     gate: &G,

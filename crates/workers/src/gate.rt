@@ -6,6 +6,11 @@ pub trait Gate {
     /// The run of that number has executed what is private to it, and is about to present its helper call or its exit: the
     /// stop of this number in its life, from 1.
     fn before<R: Wait>(&self, rt: &R, run: u32, ordinal: u32);
+
+    /// Whether it holds nobody up. Then it need not be asked, and a short run may be driven in one section under the lock.
+    fn is_open(&self) -> bool {
+        false
+    }
 }
 
 /// Holds nobody up.
@@ -14,4 +19,8 @@ pub struct Open;
 
 impl Gate for Open {
     fn before<R: Wait>(&self, _rt: &R, _run: u32, _ordinal: u32) {}
+
+    fn is_open(&self) -> bool {
+        true
+    }
 }

@@ -5,6 +5,7 @@ use Rattle.inbox.specs.Views.{IsOf, PassView}
 use Rattle.workers.specs.Serving.{SeatState}
 use Rattle.host_scenario.proofs.Taken.{caller_of, has_taken, moved_all, moves_one, pass_moves, pass_of}
 use Rattle.host_scenario.proofs.Whole.{has_made, whole_trace}
+use Rattle.host_scenario.proofs.running.close.Given as given
 use Rattle.host_scenario.proofs.running.close.Goals as goal
 
 pub loop-seats-preserved : goal.loop-seats-preserved
@@ -22,15 +23,19 @@ loop-seats-preserved g c =
       take_room = omega (arith, c.push_reserved-in-loop-seats.ensures.len, c.push_reserved-in-loop-seats.ensures.capacity, c.remove.ensures.len, c.loop-seats.invariant.take_room, some);
     }
 
+-- no record was handed on
+whole_history : (g : given.Over) (c : goal.After-shut g) → c.shut.result.records.items ≡ c.in-Ok-close.engine.history
+whole_history g c = c.shut.ensures.records ∙ ap (λ n. drop n c.in-Ok-close.engine.history) c.in-Ok-close.ensures.closed.since.untaken
+
 pub returns-in-Ok-close-clause-trace : goal.returns-in-Ok-close-clause-trace
-returns-in-Ok-close-clause-trace g c = whole_trace g.B.Origin.setup g.B.Origin.begun _ c.in-Ok-close.engine c.shut.result.version c.shut.result.records.items c.shut.result.totals c.in-Ok-close.ensures.closed.since c.shut.ensures.version c.shut.ensures.records c.shut.ensures.totals
+returns-in-Ok-close-clause-trace g c = whole_trace g.B.Origin.setup g.B.Origin.begun _ c.in-Ok-close.engine c.shut.result.version c.shut.result.records.items c.shut.result.totals c.in-Ok-close.ensures.closed.since c.shut.ensures.version (whole_history g c) c.shut.ensures.totals
 
 pub returns-in-Ok-close-clause-made : goal.returns-in-Ok-close-clause-made
 returns-in-Ok-close-clause-made g c =
     let none : length c.loop-seats.seats.items ≡ 0 = grind (arith, c.is_empty.ensures, c.loop-seats-test.false) in
     has_made g.B.Origin.setup g.B.Origin.begun c.loop-seats.callers.items c.args.host.caller c.in-Ok-close.engine c.shut.result.records.items c.in-Ok-close.ensures.closed
     (record { rest = map caller_of c.args.host.seats.items; is = moved_all caller_of c.loop-seats.callers.items (c.args.host.caller ∷ map caller_of c.args.host.seats.items) c.loop-seats.seats.items c.loop-seats.invariant.callers none })
-    c.shut.ensures.records
+    (whole_history g c)
 
 pub returns-in-Ok-close-clause-taken : goal.returns-in-Ok-close-clause-taken
 returns-in-Ok-close-clause-taken g c kept =
@@ -40,4 +45,4 @@ returns-in-Ok-close-clause-taken g c kept =
     (moved_all caller_of c.loop-seats.callers.items (c.args.host.caller ∷ map caller_of c.args.host.seats.items) c.loop-seats.seats.items c.loop-seats.invariant.callers none)
     (c.push_reserved.ensures.items ∙ ap (λ (ps : List PassView). ps ++ c.args.host.put ∷ []) c.args.host.put_room.0)
     (moved_all pass_of c.loop-seats.takes.items (c.args.host.take ∷ map pass_of c.args.host.seats.items) c.loop-seats.seats.items c.loop-seats.invariant.takes none)
-    c.in-Ok.ensures.closed c.in-Ok-close.ensures.closed c.shut.ensures.records
+    c.in-Ok.ensures.closed c.in-Ok-close.ensures.closed (whole_history g c)

@@ -9,6 +9,7 @@ invariant_of-result g c = (
   record {
     run = c.requires.run;
     setup_is = c.requires.setup;
+    untaken = c.requires.untaken;
     since = [];
     history = c.requires.begun ∙ sym (append-nil g.B.Origin.begun);
     count = sym c.requires.book;

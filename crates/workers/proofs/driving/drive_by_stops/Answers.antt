@@ -7,7 +7,7 @@ use Rattle.engine_lock.specs.Sharing.{is_unfit}
 use Rattle.workers.specs.declared.driving.Why.TheVariants.{NotOut, OutOfMemory}
 use Rattle.workers.specs.Serving.{ended_by, is_memory}
 use Rattle.workers.proofs.Advances.{comes_back, ends, goes_as, goes_on, is_used_up, sets_out, until}
-use Rattle.workers.proofs.driving.drive.Goals as goal
+use Rattle.workers.proofs.driving.drive_by_stops.Goals as goal
 
 pub loop-turn-init : goal.loop-turn-init
 loop-turn-init g c = sets_out g.B.Origin.setup c.args.run c.args.caller.now c.to_stop-stopped.result c.to_stop-stopped.ensures.run

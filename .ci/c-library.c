@@ -4,6 +4,7 @@
 
 #include <stdio.h>
 #include <string.h>
+#include <sys/resource.h>
 
 #define WANT(fact) do { if (!(fact)) { fprintf(stderr, "c-library.c:%d: not so: %s\n", __LINE__, #fact); exit(1); } } while (0)
 
@@ -78,6 +79,39 @@ static void recovers(void)
     WANT(camr_trace(engine, 0, NULL, 0, &written, &next) == CAMR_NO_ROOM);
     WANT(camr_trace_end(engine, place, sizeof place, &written) == CAMR_DONE);
     WANT(written == 12 && memcmp(place, "end 6 0 0 0\n", 12) == 0);
+    WANT(camr_take(engine, place, 20, &written) == CAMR_NO_ROOM && written == 0);
+    WANT(camr_take(engine, place, 60, &written) == CAMR_DONE && written > 13 && memcmp(place, trace, written) == 0);
+    size_t taken = written;
+    WANT(camr_trace(engine, 0, place, sizeof place, &written, &next) == CAMR_TAKEN && written == 0 && next == 0);
+    WANT(camr_trace(engine, 5, place, sizeof place, &written, &next) == CAMR_DONE && next == 6);
+    WANT(camr_take(engine, place, sizeof place, &written) == CAMR_DONE && taken + written == sizeof trace - 1);
+    WANT(memcmp(place, trace + taken, written) == 0);
+    WANT(camr_take(engine, place, sizeof place, &written) == CAMR_DONE && written == 0);
+    WANT(camr_take(engine, NULL, 0, &written) == CAMR_DONE && written == 0);
+    WANT(camr_totals(engine, &totals) == CAMR_DONE && totals.history == 6);
+    WANT(camr_trace_end(engine, place, sizeof place, &written) == CAMR_DONE && memcmp(place, "end 6 0 0 0\n", 12) == 0);
+    camr_close(engine);
+}
+
+/* A host that takes each line needs no more memory after a million records than after ten thousand. */
+static void streams(void)
+{
+    camr_engine *engine = opened();
+    struct rusage usage;
+    long early = 0;
+    char place[65536];
+    size_t written;
+    uint32_t removed;
+    for (uint64_t reading = 1; reading <= 1000000; reading++) {
+        WANT(camr_clock(engine, reading, &removed) == CAMR_DONE);
+        if (reading % 1000 == 0)
+            do WANT(camr_take(engine, place, sizeof place, &written) == CAMR_DONE);
+            while (written != 0);
+        if (reading % 10000 == 0) getrusage(RUSAGE_SELF, &usage);
+        if (reading == 10000) early = usage.ru_maxrss;
+    }
+    WANT(usage.ru_maxrss - early < 1024);
+    WANT(camr_trace_end(engine, place, sizeof place, &written) == CAMR_DONE && memcmp(place, "end 1000000 0 0 0\n", 18) == 0);
     camr_close(engine);
 }
 
@@ -162,9 +196,9 @@ static void nulls_and_faults(void)
     WANT(camr_resume(NULL, 1, &run) == CAMR_NULL && run == NULL);
     WANT(camr_stretch(NULL) == CAMR_NULL && camr_advance(engine, NULL, &r0, &ended) == CAMR_NULL);
     WANT(camr_trace(engine, 0, NULL, 9, &written, &r0) == CAMR_NULL);
-    for (camr_result result = 0; result <= CAMR_TOO_LONG; result++)
+    for (camr_result result = 0; result <= CAMR_TAKEN; result++)
         WANT(camr_result_text(result, fault, sizeof fault, &written) == CAMR_DONE && written >= 4);
-    WANT(camr_result_text(22, fault, sizeof fault, &written) == CAMR_UNKNOWN && written == 0);
+    WANT(camr_result_text(23, fault, sizeof fault, &written) == CAMR_UNKNOWN && written == 0);
     camr_run_free(NULL);
     camr_close(NULL);
     camr_close(engine);
@@ -177,5 +211,6 @@ int main(void)
     freezes();
     parks();
     nulls_and_faults();
+    streams();
     return 0;
 }

@@ -14,7 +14,7 @@ struct camr_engine {
     struct { uint32_t waiting[CCBS], first, last, active; } queues[QUEUES];
     struct { uint32_t queue, failures; } ccbs[CCBS];
     uint32_t next, failed, live;
-    uint64_t records;
+    uint64_t records, taken;
 };
 struct camr_run { uint32_t ccb; };
 
@@ -81,11 +81,12 @@ uint32_t camr_raw_drive(camr_engine **engine, camr_run **run, uint64_t *r0, bool
     return CAMR_DONE;
 }
 
-uint32_t camr_raw_trace(camr_engine **engine, uint64_t from, uint8_t *place, size_t length, size_t *written, uint64_t *next)
+uint32_t camr_raw_take(camr_engine **engine, uint8_t *place, size_t length, size_t *written)
 {
-    (void)from;
+    *written = 0;
+    if ((*engine)->taken == (*engine)->records) return CAMR_DONE;
+    (*engine)->taken = (*engine)->records;
     *written = (size_t)snprintf((char *)place, length, "advance 1 1 helper %s = 0\n", (*engine)->failed < FAILURES ? "4" : "5 0c");
-    *next = (*engine)->records;
     return CAMR_DONE;
 }
 

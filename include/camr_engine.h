@@ -2,15 +2,18 @@
  * camr_engine.h: the recovery engine of camr for a transport written in C or C++.
  *
  * An engine holds device queues with their CCBs, the freezes of queues and controllers, the recovery runs that failed CCBs
- * started, and the whole history of the calls made on it, of which each answered call is one record more. What each call means
- * is told in docs/CALLS.md and docs/DEFINITIONS.md; the engine is proved against that. Behind this header is a static library,
- * libcamr_c.a, which `tools/build-c-library` proves and builds.
+ * started, and the history of the calls made on it, of which each answered call is one record more. What each call means is told in
+ * docs/CALLS.md and docs/DEFINITIONS.md; the engine is proved against that. Behind this header is a static library, libcamr_c.a,
+ * which `tools/build-c-library` proves and builds.
  *
- * RESULTS. A call answers a camr_result. CAMR_DONE: it was carried out, and is recorded. CAMR_UNKNOWN to CAMR_CONTROLLER_FROZEN:
- * it was refused, and the refusal is recorded. Every other result: the engine is as before, and nothing is recorded; but a drive
- * that answers CAMR_OUT_OF_MEMORY has recorded its stops before. What is written through a pointer that is not NULL
- * is 0, false or NULL unless the result is CAMR_DONE, where nothing else is said; of such a drive, R0 at the last of its stops. No
- * call ends the process, and none waits.
+ * MEMORY. An engine keeps a record, in 40 bytes and up to 64 more for sense or traced bytes, until the host takes its line
+ * (camr_take): a host that takes the lines runs in constant memory. No contract speaks of memory; .ci/c-library measures it.
+ *
+ * RESULTS. A call answers a camr_result. CAMR_DONE: it was carried out, and is recorded if it changes what the engine holds.
+ * CAMR_UNKNOWN to CAMR_CONTROLLER_FROZEN: it was refused, and the refusal is recorded. Every other result: the engine is as before,
+ * and nothing is recorded; but a drive that answers CAMR_OUT_OF_MEMORY has recorded its stops before. What is written through a
+ * pointer that is not NULL is 0, false or NULL unless the result is CAMR_DONE, where nothing else is said; of such a drive, R0 at
+ * the last of its stops. No call ends the process, and none waits.
  *
  * HANDLES. A camr_engine comes from camr_open and goes with camr_close. A camr_run comes from camr_complete or camr_resume and
  * goes with camr_run_free, always, also when it has ended or is parked. Handles are this library's: nobody looks behind them. A
@@ -74,7 +77,8 @@ enum {
     CAMR_NO_ROOM = 18,            /* not one line more finds room */
     CAMR_NO_TEXT = 19,            /* a record has no text: none of an engine's records is such */
     CAMR_NULL = 20,               /* a pointer is null */
-    CAMR_TOO_LONG = 21            /* a length is greater than any object's */
+    CAMR_TOO_LONG = 21,           /* a length is greater than any object's */
+    CAMR_TAKEN = 22               /* the record was taken before */
 };
 
 /* CAM statuses that a device may report. */
@@ -128,6 +132,7 @@ void camr_raw_run_numbers(camr_run **run, uint32_t *number, uint32_t *freeze);
 void camr_raw_run_free(camr_run **run);
 void camr_raw_totals(camr_engine **engine, camr_totals_t *sums);
 uint32_t camr_raw_trace(camr_engine **engine, uint64_t from, uint8_t *place, size_t length, size_t *written, uint64_t *next);
+uint32_t camr_raw_take(camr_engine **engine, uint8_t *place, size_t length, size_t *written);
 uint32_t camr_raw_trace_end(camr_engine **engine, uint8_t *place, size_t length, size_t *written);
 bool camr_raw_result_text(uint32_t result, uint8_t *place, size_t length, size_t *written);
 
@@ -270,12 +275,13 @@ static inline camr_result camr_totals(camr_engine *engine, camr_totals_t *totals
 }
 
 /*
- * Puts whole lines of the trace into a buffer, as many as find room: those of the records from this number on, from 0, and
- * before that of record 0 the first line of a trace. *written is how many bytes, and *next the record from which to go on: where
- * it is the number of records, there is no more. Where there is no record yet, the first line is put by itself, and *next stays 0:
- * a host that follows the trace asks when there is one. CAMR_NO_ROOM: no record's line finds room, that of record 0 together with
- * the first line, and the buffer is as it was; a line has at most 700 bytes, and the first one 13. CAMR_NO_TEXT, CAMR_NULL,
- * CAMR_TOO_LONG. With each result the buffer is as it was from *written on.
+ * Puts whole lines of the trace into a buffer, as many as find room: those of the records from this number on, from 0, and before
+ * that of record 0 the first line of a trace. *written is how many bytes, and *next, with each result, the record from which to go
+ * on: where it is the number of records, or more, there is no more. Where there is no record yet, the first line is put by itself,
+ * and *next stays 0: a host that follows the trace asks when there is one. CAMR_NO_ROOM: no record's line finds room, that of
+ * record 0 together with the first line, or without a record the first line alone, and the buffer is as it was; a line has at most
+ * 361 bytes, and the first one 13. CAMR_TAKEN: the record of this number was taken, and the buffer is as it was. CAMR_NO_TEXT,
+ * CAMR_NULL, CAMR_TOO_LONG. With each result the buffer is as it was from *written on.
  */
 static inline camr_result camr_trace(camr_engine *engine, uint64_t from, char *buffer, size_t length, size_t *written,
                                      uint64_t *next)
@@ -287,6 +293,24 @@ static inline camr_result camr_trace(camr_engine *engine, uint64_t from, char *b
     camr_result place = camr_place_(buffer, length);
     if (place != CAMR_DONE) return place;
     return camr_raw_trace(&engine, from, length != 0 ? (uint8_t *)buffer : &none, length, written, next);
+}
+
+/*
+ * Takes whole lines of the trace into a buffer, as many as find room: those of the records that were not taken yet, in their order,
+ * and before that of record 0 the first line of a trace. The engine forgets these records, and gives their memory back or fills it
+ * anew; its sums count them still. *written is how many bytes, 0 if no record is left, and then the first line is not put either: a
+ * host that ends an engine without a record asks for it (camr_trace from 0). A buffer of 720 bytes has room for one line at least.
+ * CAMR_NO_ROOM: the next line finds no room, nothing is taken, and the buffer is as it was. CAMR_NO_TEXT, CAMR_NULL, CAMR_TOO_LONG.
+ * With each result the buffer is as it was from *written on.
+ */
+static inline camr_result camr_take(camr_engine *engine, char *buffer, size_t length, size_t *written)
+{
+    uint8_t none = 0;
+    if (written != NULL) *written = 0;
+    if (engine == NULL || written == NULL) return CAMR_NULL;
+    camr_result place = camr_place_(buffer, length);
+    if (place != CAMR_DONE) return place;
+    return camr_raw_take(&engine, length != 0 ? (uint8_t *)buffer : &none, length, written);
 }
 
 /* Puts the last line of the trace, the sums so far, into a buffer: a trace that `camr replay` accepts is the lines of all records

@@ -8,8 +8,8 @@
  *   - a command that timed out is reported once its LUN is reset, and its neighbours with it;
  *   - a command that a lost connection took with it is reported once a new connection is there and every LUN is reset through it.
  *
- * The trace is written as it grows, and what a run decided is read from its lines. An engine keeps its history, so it is closed at
- * so many records and the next one opened; their traces are TRACE.0, TRACE.1, .. Status 0: nothing was read wrong, and nothing is left.
+ * The trace is taken from the engine as it grows, which keeps no line that was taken, and is written to TRACE; what a run decided is
+ * read from its lines. Status 0: nothing was read wrong, and nothing is left.
  *
  *     transport MANIFEST TRACE PORTAL TARGET SECONDS
  */
@@ -30,7 +30,7 @@
 enum { LUNS = 4, ACTIVE = 32, COMMANDS = 40, PLACES = 64, BLOCK = 512, BLOCKS = 8, BYTES = BLOCK * BLOCKS, MOST_SENSE = 64 };
 enum { FIRST_LUN = 1, ABSENT_LUN = 9, PRIORITY = 10, RETRIES = 3, GUEST_LINK = 1, GUEST_RESET = 2, GUEST_PROBE = 3 };
 enum { COMMAND_MS = 1000, RESET_MS = 2000, LINK_MS = 2000, TICK_MS = 10, PROBE_MS = 100, ODD_MS = 120, QUIET_MS = 30000 };
-enum { MOST_RECORDS = 150000, MOST_PROBES = 60 };
+enum { MOST_PROBES = 60 };
 
 /* What a command is. Those from BEYOND on are refused by a disk that is well. */
 enum kind { INQUIRE, CAPACITY, READ, WRITE, TEST, REGISTER, BEYOND, UNKNOWN_OPCODE, NACA, COMPARE, ABSENT, KINDS };
@@ -103,8 +103,6 @@ static struct {
     camr_engine *engine;
     uint64_t begun;                 /* the engine's clock reads 0 at this time */
     FILE *file;
-    unsigned files;
-    uint64_t next;                  /* the record whose line is written next */
     struct iscsi_context *link;     /* NULL while there is no connection */
     enum { DOWN, CONNECTING, RESETTING, UP } stage;
     bool is_lost, cancels, is_draining;
@@ -190,15 +188,14 @@ static void read_lines(char *lines, struct decision *decision)
     }
 }
 
-/* Writes the trace's lines that are new. */
+/* Takes the trace's new lines, and writes them. */
 static void follow_trace(struct decision *decision)
 {
     static char lines[65536];
-    camr_totals_t totals;
-    size_t written;
-    expect(camr_totals(host.engine, &totals), "camr_totals");
-    while (host.next < totals.history) {
-        expect(camr_trace(host.engine, host.next, lines, sizeof lines - 1, &written, &host.next), "camr_trace");
+    for (;;) {
+        size_t written;
+        expect(camr_take(host.engine, lines, sizeof lines - 1, &written), "camr_take");
+        if (written == 0) return;
         if (fwrite(lines, 1, written, host.file) != written) end("the trace cannot be written");
         lines[written] = '\0';
         if (decision != NULL) read_lines(lines, decision);
@@ -208,7 +205,7 @@ static void follow_trace(struct decision *decision)
 static void open_engine(void)
 {
     static char manifest[1 << 20];
-    char fault[256], name[4096];
+    char fault[256];
     FILE *file = fopen(host.manifest, "rb");
     if (file == NULL) end("%s cannot be read", host.manifest);
     size_t length = fread(manifest, 1, sizeof manifest, file);
@@ -216,10 +213,8 @@ static void open_engine(void)
     camr_result result = camr_open(manifest, length, &host.engine, fault, sizeof fault);
     if (result == CAMR_FAULTY) end("%s: %s", host.manifest, fault);
     expect(result, "camr_open");
-    snprintf(name, sizeof name, "%s.%u", host.trace, host.files++);
-    host.file = fopen(name, "wb");
-    if (host.file == NULL) end("%s cannot be written", name);
-    host.next = 0;
+    host.file = fopen(host.trace, "wb");
+    if (host.file == NULL) end("%s cannot be written", host.trace);
     host.begun = milliseconds();
 }
 
@@ -644,7 +639,7 @@ static void say_how_far(uint64_t records)
     fflush(NULL);
 }
 
-/* Goes on until that time, and then until nothing is left. With MOST_RECORDS in its history the engine is changed for a new one. */
+/* Goes on until that time, and then until nothing is left. */
 static void run_until(uint64_t last)
 {
     uint64_t tick_at = 0, said_at = milliseconds();
@@ -661,13 +656,11 @@ static void run_until(uint64_t last)
             say_how_far(totals.history);
             said_at = now;
         }
-        host.is_draining = now >= last || totals.history >= MOST_RECORDS;
+        host.is_draining = now >= last;
         if (now >= last + QUIET_MS) end("not all came to an end: %" PRIu64 " of %" PRIu64 " commands", host.finished, host.submitted);
         if (!host.is_draining || host.submitted != host.finished || totals.frozen != 0 || totals.active != 0 || totals.runs != 0) continue;
         close_engine();
-        if (now >= last) return;
-        open_engine();
-        host.is_draining = false;
+        return;
     }
 }
 

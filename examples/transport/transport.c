@@ -178,20 +178,26 @@ static void print_totals(uint64_t second)
     fflush(stdout);
 }
 
-/* Writes the whole trace, a buffer at a time. */
-static bool write_trace(FILE *file)
+/* Takes the lines of the trace that are new, which the engine forgets then, and writes them, a buffer at a time. */
+static bool take_trace(FILE *file)
 {
     static char buffer[65536];
-    camr_totals_t totals;
-    uint64_t next = 0;
     size_t written;
-    expect(camr_totals(host.engine, &totals), "camr_totals");
     do {
-        expect(camr_trace(host.engine, next, buffer, sizeof buffer, &written, &next), "camr_trace");
+        expect(camr_take(host.engine, buffer, sizeof buffer, &written), "camr_take");
         if (fwrite(buffer, 1, written, file) != written) return false;
-    } while (next < totals.history);
-    expect(camr_trace_end(host.engine, buffer, sizeof buffer, &written), "camr_trace_end");
-    return fwrite(buffer, 1, written, file) == written && fclose(file) == 0;
+    } while (written != 0);
+    return true;
+}
+
+/* Writes what is left of the trace, and its last line. */
+static bool end_trace(FILE *file)
+{
+    char line[128];
+    size_t written;
+    if (!take_trace(file)) return false;
+    expect(camr_trace_end(host.engine, line, sizeof line, &written), "camr_trace_end");
+    return fwrite(line, 1, written, file) == written && fclose(file) == 0;
 }
 
 static bool open_engine(const char *path)
@@ -217,6 +223,8 @@ int main(int count, char **words)
         return 2;
     }
     if (!open_engine(words[1])) return 1;
+    FILE *file = fopen(words[2], "wb");
+    bool is_written = file != NULL;
     uint64_t begun = milliseconds();
     for (unsigned long number = 0; number < serving; number++)
         if (pthread_create(&threads[number], NULL, serve, (void *)(uintptr_t)number) != 0) return 1;
@@ -224,6 +232,7 @@ int main(int count, char **words)
         pause_for(10000);
         pthread_mutex_lock(&host.lock);
         read_clock(begun);
+        is_written = is_written && take_trace(file);
         if (tick % 100 == 0) print_totals(tick / 100);
         pthread_mutex_unlock(&host.lock);
     }
@@ -231,8 +240,7 @@ int main(int count, char **words)
     host.stops = true;
     pthread_mutex_unlock(&host.lock);
     for (unsigned long number = 0; number < serving; number++) pthread_join(threads[number], NULL);
-    FILE *file = fopen(words[2], "wb");
-    bool is_written = file != NULL && write_trace(file);
+    is_written = is_written && end_trace(file);
     if (!is_written) fprintf(stderr, "transport: %s: the trace was not written\n", words[2]);
     camr_close(host.engine);
     return is_written ? 0 : 1;

@@ -10,6 +10,7 @@ ghost use Rattle.engine_core.specs.EngineState.{EngineState};
 ghost use Rattle.host_opening.specs.declared.opening.OpenFault.{OpenFault as TheFault};
 ghost use Rattle.host_opening.specs.Opened.{Opens};
 ghost use Rattle.camr_c.specs.Exports.{Called, Frozen, IsOpened, Released, Stays, TellsDue, sums_of};
+ghost use Rattle.host_embedding.specs.declared.call_result.TheConstants.{RESULTS};
 
 use crate::engine_slot::EngineSlot;
 use crate::raw_box::RawBox;
@@ -37,7 +38,7 @@ pub extern "C" fn camr_raw_open(
     written: &mut usize,
 ) -> u32
     ensures opened { (answer : Result (Box EngineState) TheFault) × Opens manifest.now answer × IsOpened answer result engine.old.held engine.new.held }
-    ensures few { result < 22 }
+    ensures few { result < RESULTS }
     ensures text { written.new ≤ length fault.new }
 {
     *written = 0;
@@ -75,7 +76,7 @@ pub extern "C" fn camr_raw_submit(
     requires { IsSome engine.old.held }
     ensures did { Called result engine.old engine.new (answers.Ccb (record { 0 = ccb.new }))
         (Submit (record { 0 = queue }) priority retries) }
-    ensures few { result < 22 }
+    ensures few { result < RESULTS }
     ensures kept { result ≢ 0 → ccb.new ≡ ccb.old }
 {
     engine.held().submit(queue, priority, retries, ccb).number()
@@ -85,7 +86,7 @@ pub extern "C" fn camr_raw_submit(
 pub extern "C" fn camr_raw_dispatch(engine: &mut EngineSlot, queue: u32, ccb: &mut u32) -> u32
     requires { IsSome engine.old.held }
     ensures did { Called result engine.old engine.new (answers.Ccb (record { 0 = ccb.new })) (Dispatch (record { 0 = queue })) }
-    ensures few { result < 22 }
+    ensures few { result < RESULTS }
     ensures kept { result ≢ 0 → ccb.new ≡ ccb.old }
 {
     engine.held().dispatch(queue, ccb).number()
@@ -95,7 +96,7 @@ pub extern "C" fn camr_raw_dispatch(engine: &mut EngineSlot, queue: u32, ccb: &m
 pub extern "C" fn camr_raw_clock(engine: &mut EngineSlot, reading: u64, removed: &mut u32) -> u32
     requires { IsSome engine.old.held }
     ensures did { Called result engine.old engine.new (answers.Removed removed.new) (Clock reading) }
-    ensures few { result < 22 }
+    ensures few { result < RESULTS }
     ensures kept { result ≢ 0 → removed.new ≡ removed.old }
 {
     engine.held().clock(reading, removed).number()
@@ -126,7 +127,7 @@ pub extern "C" fn camr_raw_guest_freeze(
 ) -> u32
     requires { IsSome engine.old.held }
     ensures did { Frozen result engine.old engine.new freeze.new (Device (record { 0 = queue })) guest }
-    ensures few { result < 22 }
+    ensures few { result < RESULTS }
     ensures kept { result ≢ 0 → freeze.new ≡ freeze.old }
 {
     let place = Place::Device(QueueId(queue));
@@ -142,7 +143,7 @@ pub extern "C" fn camr_raw_guest_freeze_controller(
 ) -> u32
     requires { IsSome engine.old.held }
     ensures did { Frozen result engine.old engine.new freeze.new (Controller controller) guest }
-    ensures few { result < 22 }
+    ensures few { result < RESULTS }
     ensures kept { result ≢ 0 → freeze.new ≡ freeze.old }
 {
     let place = Place::Controller(controller);
@@ -157,7 +158,7 @@ pub extern "C" fn camr_raw_guest_release(
 ) -> u32
     requires { IsSome engine.old.held }
     ensures did { Released result engine.old engine.new left.new freeze }
-    ensures few { result < 22 }
+    ensures few { result < RESULTS }
     ensures kept { result ≢ 0 → left.new ≡ left.old }
 {
     engine.held().guest_release(freeze, left).number()

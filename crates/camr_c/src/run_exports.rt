@@ -5,6 +5,7 @@ ghost use Rattle.ccb.specs.Completion.{Outcome};
 ghost use Rattle.host_embedding.specs.Calls.{IsAdvanced, IsDriven, IsParked};
 ghost use Rattle.host_embedding.specs.Held.{is_same_run, out_of, IsStretched};
 ghost use Rattle.camr_c.specs.Exports.{Did, Turns, Stays, CalledWith, IsReported, Completed, Resumed};
+ghost use Rattle.host_embedding.specs.declared.call_result.TheConstants.{RESULTS};
 
 use crate::engine_slot::EngineSlot;
 use crate::raw_box::RawBox;
@@ -36,7 +37,7 @@ pub extern "C" fn camr_raw_complete(
     requires { IsSome engine.old.held }
     ensures did { (report : Option Outcome) × IsReported ccb status scsi sense.now report
         × Turns engine.old.held engine.new.held (λ before after. Completed report before after result started.new run.old.held run.new.held) }
-    ensures few { result < 22 }
+    ensures few { result < RESULTS }
 {
     *started = false;
     let Some(completion) = reported(ccb, status, scsi, sense) else {
@@ -59,7 +60,7 @@ pub extern "C" fn camr_raw_stretch(run: &mut RunSlot) -> u32
     requires { IsSome run.old.held }
     ensures did { Did result (λ its. Turns run.old.held run.new.held (λ was is.
         IsStretched its was.held is.held × is_same_run was is)) }
-    ensures few { result < 22 }
+    ensures few { result < RESULTS }
 {
     run.held().stretch().number()
 }
@@ -75,7 +76,7 @@ pub extern "C" fn camr_raw_advance(
     requires run { IsSome run.old.held }
     ensures did { CalledWith result engine.old engine.new run.old run.new (λ its before after was is.
         IsAdvanced its was is before after r0.new ended.new) }
-    ensures few { result < 22 }
+    ensures few { result < RESULTS }
     ensures kept { result ≢ 0 → (r0.new ≡ r0.old) × (ended.new ≡ ended.old) }
 {
     engine.held().advance(run.held(), r0, ended).number()
@@ -92,7 +93,7 @@ pub extern "C" fn camr_raw_drive(
     requires run { IsSome run.old.held }
     ensures did { CalledWith result engine.old engine.new run.old run.new (λ its before after was is.
         IsDriven its (out_of was) is before after r0.new ended.new) }
-    ensures few { result < 22 }
+    ensures few { result < RESULTS }
     ensures unended { result ≢ 0 → ended.new ≡ false }
 {
     engine.held().drive(run.held(), r0, ended).number()
@@ -104,7 +105,7 @@ pub extern "C" fn camr_raw_park(engine: &mut EngineSlot, run: &mut RunSlot) -> u
     requires run { IsSome run.old.held }
     ensures did { CalledWith result engine.old engine.new run.old run.new (λ its before after was is.
         IsParked its (out_of was) is before after) }
-    ensures few { result < 22 }
+    ensures few { result < RESULTS }
 {
     engine.held().park(run.held()).number()
 }
@@ -120,7 +121,7 @@ pub extern "C" fn camr_raw_resume(
 ) -> u32
     requires { IsSome engine.old.held }
     ensures did { Turns engine.old.held engine.new.held (λ before after. Resumed number before after result resumed.new run.old.held run.new.held) }
-    ensures few { result < 22 }
+    ensures few { result < RESULTS }
 {
     *resumed = false;
     match engine.held().resume(alloc, number) {

@@ -1,10 +1,13 @@
 // The trace of an engine as text. It relies on `host_embedding` for lines.
 
-ghost use Rattle.std.specs.Prelude.{◌<◌, ◌≤◌, IsSome, length};
+ghost use Rattle.std.specs.Prelude.{◌≢◌, ◌<◌, ◌≤◌, ℕ, IsSome, length};
 ghost use Rattle.world.specs.World.{version_of};
 ghost use Rattle.world.specs.TotalsOf.{totals_in};
-ghost use Rattle.host_embedding.specs.Lines.{PutsLines, PutsSums};
-ghost use Rattle.camr_c.specs.Exports.{Did, Stays};
+ghost use Rattle.host_embedding.specs.Lines.{PutsLines, PutsSums, TakesLines};
+ghost use Rattle.host_embedding.specs.declared.call_result.CallResult.TheVariants.{NoRoom};
+ghost use Rattle.host_embedding.specs.declared.text_lines.TheConstants.{LONGEST_TAKEN};
+ghost use Rattle.camr_c.specs.Exports.{Did, Stays, Turns};
+ghost use Rattle.host_embedding.specs.declared.call_result.TheConstants.{RESULTS};
 
 use crate::engine_slot::EngineSlot;
 use host_embedding::PutLines;
@@ -21,8 +24,8 @@ pub extern "C" fn camr_raw_trace(
 ) -> u32
     requires { IsSome engine.old.held }
     ensures did { Did result (λ its. Stays engine.old.held engine.new.held (λ it.
-        PutsLines its (version_of it.setup) it.history from place.old place.new written.new next.new)) }
-    ensures few { result < 22 }
+        PutsLines its (version_of it.setup) it.history it.taken from place.old place.new written.new next.new)) }
+    ensures few { result < RESULTS }
     ensures text { written.new ≤ length place.new }
 {
     let mut put = PutLines {
@@ -32,6 +35,29 @@ pub extern "C" fn camr_raw_trace(
     let result = engine.held().put_lines(from, place, &mut put);
     *written = put.written;
     *next = put.next;
+    result.number()
+}
+
+/// Takes whole lines of the trace: those of the records that were not taken yet, which are forgotten then, after the first line if
+/// record 0 is among them. What stands after them stays as it was.
+#[unsafe(no_mangle)]
+pub extern "C" fn camr_raw_take(
+    engine: &mut EngineSlot,
+    place: &mut [u8],
+    written: &mut usize,
+) -> u32
+    requires { IsSome engine.old.held }
+    ensures did { Did result (λ its. (LONGEST_TAKEN ≤ length place.old → its ≢ NoRoom) × Turns engine.old.held engine.new.held (λ before after.
+        (next : ℕ) × TakesLines its before after place.old place.new written.new next)) }
+    ensures few { result < RESULTS }
+    ensures text { written.new ≤ length place.new }
+{
+    let mut put = PutLines {
+        written: 0,
+        next: 0,
+    };
+    let result = engine.held().take_lines(place, &mut put);
+    *written = put.written;
     result.number()
 }
 
@@ -45,7 +71,7 @@ pub extern "C" fn camr_raw_trace_end(
     requires { IsSome engine.old.held }
     ensures did { Did result (λ its. Stays engine.old.held engine.new.held (λ it.
         PutsSums its (totals_in it.history it.world) place.old place.new written.new)) }
-    ensures few { result < 22 }
+    ensures few { result < RESULTS }
     ensures text { written.new ≤ length place.new }
 {
     let mut put = PutLines {

@@ -2,5 +2,6 @@ pub mod Driving
 pub mod Going
 pub mod Lines
 pub mod Guests
+pub mod Handing
 pub mod Taking
 mod Results

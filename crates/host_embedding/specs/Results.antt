@@ -11,7 +11,7 @@ use Rattle.engine_core.specs.declared.answers.ReleaseFault.TheVariants as releas
 use Rattle.engine_core.specs.declared.answers.AdvanceFault.{AdvanceFault}
 use Rattle.engine_core.specs.declared.answers.AdvanceFault.TheVariants as advance
 use Rattle.host_embedding.specs.declared.call_result.CallResult.{CallResult}
-use Rattle.host_embedding.specs.declared.call_result.CallResult.TheVariants.{Done, OutOfMemory, Refused, NotOut, NotHeld, NoToken, NoCompletion, Spent, NotStretched, NotUtf8, Faulty, NoRoom, NoText, Null, TooLong}
+use Rattle.host_embedding.specs.declared.call_result.CallResult.TheVariants.{Done, OutOfMemory, Refused, NotOut, NotHeld, NoToken, NoCompletion, Spent, NotStretched, NotUtf8, Faulty, NoRoom, NoText, Null, TooLong, Taken}
 
 -- the number of a refusal stands in its row
 abbrev pub number_of_refusal : CallRefusal → ℕ
@@ -37,6 +37,7 @@ number_of NoRoom = 18
 number_of NoText = 19
 number_of Null = 20
 number_of TooLong = 21
+number_of Taken = 22
 
 -- the text of a result
 abbrev pub text_of : CallResult → List ℕ
@@ -55,6 +56,7 @@ text_of NoRoom = codes "not one line more finds room"
 text_of NoText = codes "a record has no text"
 text_of Null = codes "a pointer is null"
 text_of TooLong = codes "a length is greater than any object's"
+text_of Taken = codes "the record was taken before"
 
 abbrev pub result_of : CallFault → CallResult
 result_of fault.OutOfMemory = OutOfMemory

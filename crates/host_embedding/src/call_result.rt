@@ -8,7 +8,7 @@ use ccb::{CallRefusal, REFUSALS};
 use engine_core::{AdvanceFault, CallFault, ReleaseFault};
 
 /// How many results there are.
-pub const RESULTS: u32 = 22;
+pub const RESULTS: u32 = 23;
 
 /// What a call answers.
 #[derive(Clone, Copy, Debug, PartialEq, Eq)]
@@ -43,6 +43,8 @@ pub enum CallResult {
     Null,
     /// A length is greater than any object's, which whoever calls from C tells itself.
     TooLong,
+    /// The record was handed on, and is kept no more. Nothing changed.
+    Taken,
 }
 
 // Whether the refusal's row has that number.
@@ -85,6 +87,7 @@ impl CallResult {
             CallResult::NoText => 19,
             CallResult::Null => 20,
             CallResult::TooLong => 21,
+            CallResult::Taken => 22,
         }
     }
 
@@ -107,6 +110,7 @@ impl CallResult {
             19 => CallResult::NoText,
             20 => CallResult::Null,
             21 => CallResult::TooLong,
+            22 => CallResult::Taken,
             _ => match refusal_numbered(number) {
                 Some(refusal) => CallResult::Refused(refusal),
                 None => return None,
@@ -134,6 +138,7 @@ impl CallResult {
             CallResult::NoText => "a record has no text",
             CallResult::Null => "a pointer is null",
             CallResult::TooLong => "a length is greater than any object's",
+            CallResult::Taken => "the record was taken before",
         }
     }
 

@@ -1,23 +1,19 @@
 // An engine with the tokens of all its guests' freezes, which are found by their freezes' numbers. It relies on `engine_core` for
 // each call and for tokens.
 
-ghost use Rattle.std.specs.Prelude.{◌≡◌, ◌≢◌, ◌↔◌, [], false, IfSome, IsNone, IfOk, IfErr};
-ghost use Rattle.freeze_ledger.specs.declared.freeze.Holder.TheVariants.{Guest};
+ghost use Rattle.std.specs.Prelude.{◌≡◌, ◌≢◌, ◌↔◌, [], false, IfSome, IsNone};
 ghost use Rattle.freeze_ledger.specs.Deadlines.{some_timer};
 ghost use Rattle.engine_transport.specs.Freezing.{IsNextDue};
-ghost use Rattle.world_calls.specs.declared.call.Call.TheVariants.{Submit, Dispatch, GuestFreeze, Clock};
-ghost use Rattle.world_calls.specs.declared.record.Record.TheVariants.{Called};
+ghost use Rattle.world_calls.specs.declared.call.Call.TheVariants.{Submit, Dispatch, Clock};
 ghost use Rattle.world_calls.specs.declared.call_answer.CallAnswer.TheVariants as answers;
 ghost use Rattle.world.specs.TotalsOf.{totals_in};
-ghost use Rattle.engine_core.specs.EngineState.{IsRun, Records};
-ghost use Rattle.engine_core.specs.Faults.{FaultIs};
+ghost use Rattle.engine_core.specs.EngineState.{IsRun};
 ghost use Rattle.engine_core.specs.ByNumber.{guests_of};
 ghost use Rattle.host_embedding.specs.Calls.{IsCalled, IsFrozen, IsReleased};
 
 use crate::call_result::CallResult;
 use ccb::{CcbId, Place, QueueId};
-use engine_core::{CallFault, Engine, GuestToken, Totals, put_token, take_token};
-use freeze_ledger::FreezeToken;
+use engine_core::{Engine, GuestToken, Totals, put_token, take_token};
 use std::alloc::Global;
 use std::marker::Model;
 
@@ -39,19 +35,6 @@ impl Model for EngineHandle {
     ghost use Rattle.host_embedding.specs.Guests.{HasGuests};
 
     ghost invariant = { λ handle. HasGuests handle.engine handle.tokens.items };
-}
-
-// A guest's freeze of a place of either kind.
-fn freeze_place(engine: &mut Engine, place: Place, guest: u32) -> Result<FreezeToken, CallFault>
-    ensures taken { IfOk result (λ token. Records engine.old engine.new (Called (answers.Freeze token.number) (GuestFreeze place guest))) }
-    ensures token { IfOk result (λ token. (token.place ≡ place) × (token.holder ≡ Guest guest)) }
-    ensures fault { IfErr result (λ fault. FaultIs fault (engine.new ≡ engine.old) (λ refusal. Records engine.old engine.new (Called (answers.Refused refusal) (GuestFreeze place guest)))) }
-    ensures run { IsRun engine.new }
-{
-    match place {
-        Place::Device(queue) => engine.guest_freeze(queue, guest),
-        Place::Controller(controller) => engine.guest_freeze_controller(controller, guest),
-    }
 }
 
 impl EngineHandle {
@@ -122,7 +105,7 @@ impl EngineHandle {
         if self.tokens.reserve(1).is_err() {
             return CallResult::OutOfMemory;
         }
-        match freeze_place(&mut self.engine, place, guest) {
+        match self.engine.freeze_place(place, guest) {
             Ok(token) => {
                 *freeze = token.number();
                 self.tokens.push_reserved(GuestToken::new(token));

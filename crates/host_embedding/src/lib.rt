@@ -9,8 +9,8 @@ mod run_handle;
 mod text_lines;
 mod texts;
 
-pub use call_result::CallResult;
+pub use call_result::{CallResult, RESULTS};
 pub use engine_handle::EngineHandle;
 pub use run_handle::{HeldRun, RunHandle};
-pub use text_lines::PutLines;
+pub use text_lines::{LONGEST_TAKEN, PutLines};
 pub use texts::put_front;

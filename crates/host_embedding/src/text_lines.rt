@@ -1,18 +1,21 @@
 // The trace of an engine as text, in whole lines, from a record on. It relies on `trace` for lines.
 
-ghost use Rattle.std.specs.Prelude.{◌≡◌, ◌≢◌, ◌+◌, ◌++◌, ◌≤◌, ◌<◌, None, Some, IfSome, IfNone, true, false, drop, length, take};
+ghost use Rattle.std.specs.Prelude.{◌≡◌, ◌≢◌, ◌+◌, ◌++◌, ◌≤◌, ◌<◌, None, Some, IfSome, IfNone, true, false, drop, length, slice_index_or, take};
 ghost use Rattle.std.specs.Fmt.{with_newline};
 ghost use Rattle.trace.specs.TraceText.{line_of};
 ghost use Rattle.world.specs.World.{version_of};
 ghost use Rattle.world.specs.TotalsOf.{totals_in};
-ghost use Rattle.host_embedding.specs.Lines.{AddsLines, FindsNoRoom, HasNoLine, IsWithin, PutsLines, PutsSums};
+ghost use Rattle.host_embedding.specs.Lines.{AddsLines, FindsNoRoom, HasNoLine, IsWithin, PutsLines, PutsSums, TakesLines};
 
 use crate::call_result::CallResult;
 use crate::engine_handle::EngineHandle;
-use base_chunked_list::ChunkedList;
+use engine_core::Engine;
 use trace::{header, print_entry, print_totals};
 use trace_lines::{NoText, Text};
 use world_calls::Record;
+
+/// How many bytes have room for the line of any record with its line feed, and before it for the first line of a trace.
+pub const LONGEST_TAKEN: usize = 720;
 
 /// What of a trace was put into a place.
 #[derive(Clone, Copy, Debug, PartialEq, Eq)]
@@ -55,16 +58,26 @@ fn line(entry: &Record) -> Option<Text>
     }
 }
 
+// The record of that number, which was not handed on.
+fn entry(engine: &Engine, number: u64) -> &Record
+    requires kept { engine.now.taken ≤ number }
+    requires there { number < length engine.now.history }
+    ensures { result.now ≡ slice_index_or engine.now.history number result.now }
+{
+    &engine.records()[(number - engine.taken()) as usize]
+}
+
 // Whether the line of record 0 finds room in a place after so many bytes, if there is such a record.
 #[tactic(auto, using(crate::proofs::Lines::finds_some, crate::proofs::Lines::finds_none))]
-fn finds_room(records: &ChunkedList<Record>, place: &[u8], written: usize) -> bool
-    ensures room { result ≡ true → 0 < length records.now.items → FindsNoRoom records.now.items 0 place.now written → ⊥ }
-    ensures none { result ≡ false → (0 < length records.now.items) × FindsNoRoom records.now.items 0 place.now written }
+fn finds_room(engine: &Engine, place: &[u8], written: usize) -> bool
+    requires { engine.now.taken ≡ 0 }
+    ensures room { result ≡ true → 0 < length engine.now.history → FindsNoRoom engine.now.history 0 place.now written → ⊥ }
+    ensures none { result ≡ false → (0 < length engine.now.history) × FindsNoRoom engine.now.history 0 place.now written }
 {
-    if records.len() == 0 {
+    if engine.recorded() == 0 {
         return true;
     }
-    match line(&records[0]) {
+    match line(entry(engine, 0)) {
         Some(line) => written <= place.len() && line.len() <= place.len() - written,
         None => true,
     }
@@ -72,26 +85,32 @@ fn finds_room(records: &ChunkedList<Record>, place: &[u8], written: usize) -> bo
 
 impl EngineHandle {
     /// Puts whole lines of the trace into a place, as many as find room: those of the records from this number on, and before
-    /// that of record 0 the first line of a trace. If the line of the first of these records finds no room, nothing is put, and the
-    /// place is as it was. What stands after the lines that were put stays as it was.
+    /// that of record 0 the first line of a trace. If the record of this number was handed on, or the line of the first of these
+    /// records finds no room, nothing is put, and the place is as it was. What stands after the lines that were put stays as it was.
     pub fn put_lines(&self, from: u64, place: &mut [u8], put: &mut PutLines) -> CallResult
         ensures room { put.new.written ≤ length place.new }
-        ensures lines { PutsLines result (version_of self.now.setup) self.now.history from place.old place.new put.new.written put.new.next }
+        ensures lines { PutsLines result (version_of self.now.setup) self.now.history self.now.taken from place.old place.new put.new.written put.new.next }
     {
-        let records = self.engine.records();
+        put_from(&self.engine, from, place, put)
+    }
+
+    /// Puts whole lines of the records that were not handed on, as many as find room, and hands those records on: it forgets them.
+    /// Before the line of record 0 stands the first line of a trace. With no record left nothing is put; else a place of LONGEST_TAKEN
+    /// bytes has room for one line at least. What stands after the lines that were put stays as it was.
+    pub fn take_lines(&mut self, place: &mut [u8], put: &mut PutLines) -> CallResult
+        ensures room { put.new.written ≤ length place.new }
+        ensures lines { TakesLines result self.old self.new place.old place.new put.new.written put.new.next }
+        ensures some { LONGEST_TAKEN ≤ length place.old → result ≢ CallResult.NoRoom }
+    {
+        let from = self.engine.taken();
         put.written = 0;
         put.next = from;
-        if from == 0 {
-            let first = header(self.engine.version()).as_bytes();
-            if !finds_room(records, place, first.len()) {
-                return CallResult::NoRoom;
-            }
-            match put_behind(first, place, 0) {
-                Some(count) => put.written = count,
-                None => return CallResult::NoRoom,
-            }
+        if from >= self.engine.recorded() {
+            return CallResult::Done;
         }
-        put_records(records, place, put)
+        let result = self.put_lines(from, place, put);
+        self.engine.hand_on((put.next - from) as usize);
+        result
     }
 
     /// Puts the last line of a trace into a place: the sums so far. What stands after it stays as it was.
@@ -113,24 +132,48 @@ impl EngineHandle {
     }
 }
 
+// The same of an engine.
+fn put_from(engine: &Engine, from: u64, place: &mut [u8], put: &mut PutLines) -> CallResult
+    ensures room { put.new.written ≤ length place.new }
+    ensures lines { PutsLines result (version_of engine.now.setup) engine.now.history engine.now.taken from place.old place.new put.new.written put.new.next }
+{
+    put.written = 0;
+    put.next = from;
+    if from < engine.taken() {
+        return CallResult::Taken;
+    }
+    if from == 0 {
+        let first = header(engine.version()).as_bytes();
+        if !finds_room(engine, place, first.len()) {
+            return CallResult::NoRoom;
+        }
+        match put_behind(first, place, 0) {
+            Some(count) => put.written = count,
+            None => return CallResult::NoRoom,
+        }
+    }
+    put_records(engine, place, put)
+}
+
 // Puts the lines of the records from the next on, as many as find room. If the first of them does not, nothing is put.
 #[tactic(auto, using(crate::proofs::Lines::adds_none, crate::proofs::Lines::adds_one))]
-fn put_records(records: &ChunkedList<Record>, place: &mut [u8], put: &mut PutLines) -> CallResult
-    requires { put.old.written ≤ length place.old }
+fn put_records(engine: &Engine, place: &mut [u8], put: &mut PutLines) -> CallResult
+    requires room { put.old.written ≤ length place.old }
+    requires kept { engine.now.taken ≤ put.old.next }
     ensures room { put.new.written ≤ length place.new }
-    ensures lines { result ≢ CallResult.NoRoom → AddsLines records.now.items (take put.old.written place.old) put.old.next (take put.new.written place.new) put.new.next }
-    ensures within { IsWithin records.now.items put.old.next put.new.next }
+    ensures lines { result ≢ CallResult.NoRoom → AddsLines engine.now.history (take put.old.written place.old) put.old.next (take put.new.written place.new) put.new.next }
+    ensures within { IsWithin engine.now.history put.old.next put.new.next }
     ensures behind { (put.old.written ≤ put.new.written) × (drop put.new.written place.new ≡ drop put.new.written place.old) }
     ensures same { result ≡ CallResult.NoRoom → place.new ≡ place.old }
-    ensures none { result ≡ CallResult.NoRoom → (put.new.written ≡ put.old.written) × (put.new.next ≡ put.old.next) × (put.old.next < length records.now.items) × FindsNoRoom records.now.items put.old.next place.new put.old.written }
-    ensures full { result ≡ CallResult.Done → FindsNoRoom records.now.items put.new.next place.new put.new.written }
-    ensures some { result ≡ CallResult.Done → put.old.next < length records.now.items → put.old.next < put.new.next }
-    ensures others { result ≢ CallResult.NoRoom → result ≢ CallResult.Done → (result ≡ CallResult.NoText) × HasNoLine records.now.items put.new.next }
+    ensures none { result ≡ CallResult.NoRoom → (put.new.written ≡ put.old.written) × (put.new.next ≡ put.old.next) × (put.old.next < length engine.now.history) × FindsNoRoom engine.now.history put.old.next place.new put.old.written }
+    ensures full { result ≡ CallResult.Done → FindsNoRoom engine.now.history put.new.next place.new put.new.written }
+    ensures some { result ≡ CallResult.Done → put.old.next < length engine.now.history → put.old.next < put.new.next }
+    ensures others { result ≢ CallResult.NoRoom → result ≢ CallResult.Done → (result ≡ CallResult.NoText) × HasNoLine engine.now.history put.new.next }
 {
-    let all = records.len() as u64;
+    let all = engine.recorded();
     let from = put.next;
     for number in from..all {
-        let Some(line) = line(&records[number as usize]) else {
+        let Some(line) = line(entry(engine, number)) else {
             return CallResult::NoText;
         };
         match put_behind(line.as_slice(), place, put.written) {

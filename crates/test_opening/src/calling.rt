@@ -106,6 +106,16 @@ pub fn lines(engine: &EngineHandle, from: u64, place: &mut [u8]) -> (CallResult,
     (result, put)
 }
 
+/// The lines that are taken into a place.
+pub fn take(engine: &mut EngineHandle, place: &mut [u8]) -> (CallResult, PutLines) {
+    let mut put = PutLines {
+        written: 0,
+        next: 0,
+    };
+    let result = engine.take_lines(place, &mut put);
+    (result, put)
+}
+
 /// The last line in a place.
 pub fn end(engine: &EngineHandle, place: &mut [u8]) -> (CallResult, PutLines) {
     let mut put = PutLines {

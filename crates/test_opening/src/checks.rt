@@ -2,7 +2,7 @@
 
 use crate::calling::{
     advance, clock, complete, dispatch, drive, end, freeze_controller, freeze_queue, lines,
-    live_runs, opened, park, release, resume, stretch, submit,
+    live_runs, opened, park, release, resume, stretch, submit, take,
 };
 use ccb::CamStatus;
 use host_embedding::{CallResult, EngineHandle, PutLines, RunHandle};
@@ -47,7 +47,7 @@ const END: &str = "end 6 0 0 0
 ";
 
 /// How many results there are.
-const RESULTS: u32 = 22;
+const RESULTS: u32 = 23;
 
 fn engine_of(alloc: Global) -> Option<Box<EngineHandle>> {
     match opened(alloc, MANIFEST.as_bytes()) {
@@ -157,6 +157,28 @@ pub fn lines_go_on(alloc: Global) -> Option<bool> {
             && lines(&engine, 2, &mut line).0 == CallResult::NoRoom
             && lines(&engine, 0, &mut first).0 == CallResult::NoRoom
             && end(&engine, &mut last).0 == CallResult::NoRoom,
+    )
+}
+
+// Whether so many bytes are taken, up to that record.
+fn takes(engine: &mut EngineHandle, place: &mut [u8], written: usize, next: u64) -> bool {
+    take(engine, place) == (CallResult::Done, PutLines { written, next })
+}
+
+/// Lines are taken once, where they find room, and a line that was taken is put no more. The sums count all records.
+pub fn lines_are_taken_once(alloc: Global) -> Option<bool> {
+    let mut engine = engine_of(alloc)?;
+    let _ = failed(alloc, &mut engine)?;
+    let (mut place, mut first) = ([0; 40], [0; 33]);
+    Some(
+        take(&mut engine, &mut first).0 == CallResult::NoRoom
+            && takes(&mut engine, &mut place, 34, 1)
+            && lines(&engine, 0, &mut place).0 == CallResult::Taken
+            && takes(&mut engine, &mut place, 19, 2)
+            && puts(&engine, &mut place, 2, 36, 3)
+            && takes(&mut engine, &mut place, 36, 3)
+            && takes(&mut engine, &mut place, 0, 3)
+            && engine.totals().history == 3,
     )
 }
 

@@ -17,6 +17,7 @@ enum Check {
     Handles,
     Recovery,
     Lines,
+    Taking,
     Refusals,
     Freezes,
     Parks,
@@ -25,10 +26,11 @@ enum Check {
 }
 
 /// All checks, with their names.
-const CHECKS: [(&str, Check); 8] = [
+const CHECKS: [(&str, Check); 9] = [
     ("handles_go_from_thread_to_thread", Check::Handles),
     ("recovers", Check::Recovery),
     ("lines_go_on", Check::Lines),
+    ("lines_are_taken_once", Check::Taking),
     ("refused", Check::Refusals),
     ("freezes_by_number", Check::Freezes),
     ("parks", Check::Parks),
@@ -43,6 +45,7 @@ impl Check {
             Check::Handles => checks::handles_go_from_thread_to_thread(alloc),
             Check::Recovery => checks::recovers(alloc),
             Check::Lines => checks::lines_go_on(alloc),
+            Check::Taking => checks::lines_are_taken_once(alloc),
             Check::Refusals => checks::refused(alloc),
             Check::Freezes => checks::freezes_by_number(alloc),
             Check::Parks => checks::parks(alloc),

@@ -6,8 +6,8 @@ abbrev pub invariant-loop-number : goal.invariant-loop-number
 invariant-loop-number l = record {
   room : l.put.written ≤ length l.place;
   next : l.put.next ≡ l.number;
-  within : IsWithin l.records.items l.fn.put.next l.number;
-  lines : AddsLines l.fn.records.items (take l.fn.put.written l.fn.place) l.fn.put.next (take l.put.written l.place) l.put.next;
+  within : IsWithin l.engine.history l.fn.put.next l.number;
+  lines : AddsLines l.fn.engine.history (take l.fn.put.written l.fn.place) l.fn.put.next (take l.put.written l.place) l.put.next;
   onward : l.fn.put.written ≤ l.put.written;
   begun : l.number ≡ l.fn.put.next → (l.put.written ≡ l.fn.put.written) × (l.place ≡ l.fn.place);
   behind : drop l.put.written l.place ≡ drop l.put.written l.fn.place;

@@ -8,12 +8,12 @@ use Rattle.host_embedding.proofs.engine_handle.EngineHandle.guest_freeze.Goals a
 
 pub returns-in-Ok : goal.returns-in-Ok
 returns-in-Ok c =
-    let recorded : Records c.self.inside.engine c.freeze_place.new.engine (Called (answers.Freeze c.number.result) (GuestFreeze c.args.place c.args.guest)) =
-    subst (λ n. Records c.self.inside.engine c.freeze_place.new.engine (Called (answers.Freeze n) (GuestFreeze c.args.place c.args.guest))) (sym c.number.ensures) c.in-Ok.ensures.taken in
+    let recorded : Records c.self.inside.engine c.freeze_place.new.self (Called (answers.Freeze c.number.result) (GuestFreeze c.args.place c.args.guest)) =
+    subst (λ n. Records c.self.inside.engine c.freeze_place.new.self (Called (answers.Freeze n) (GuestFreeze c.args.place c.args.guest))) (sym c.number.ensures) c.in-Ok.ensures.taken in
     record {
       recorded = rw (← c.self.view_is) (
         recorded,
-        λ done. is_fresh c.self.inside.engine c.freeze_place.new.engine c.self.inside.tokens.items c.args.place c.args.guest c.number.result c.self.invariant recorded,
+        λ done. is_fresh c.self.inside.engine c.freeze_place.new.self c.self.inside.tokens.items c.args.place c.args.guest c.number.result c.self.invariant recorded,
       );
       kept = λ other. absurd (other refl);
     }

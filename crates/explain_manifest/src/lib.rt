@@ -16,6 +16,7 @@ mod kinds;
 mod listing;
 mod places;
 mod program;
+mod reaching;
 mod refusing;
 mod steps;
 

@@ -1,9 +1,13 @@
 // Why a program is refused: where, which rule, by which values and by which path. It relies on `verifier` for the pass, which is made
 // once more before the eyes of a `explain_path::Log`, and on `listing` for how the program is written.
 
+ghost use Rattle.std.specs.Prelude.{◌<◌, IfSome};
+ghost use Rattle.bpf_insn.specs.declared.program.TheConstants.{MAX_SLOTS};
+
 use crate::causes::{put_side, put_values};
 use crate::codes::code_in;
 use crate::listing::Listing;
+use crate::reaching::reaches;
 use crate::{codes, excerpt, steps};
 use base::OrMemory;
 use bpf_insn::{Insn, Program};
@@ -15,6 +19,14 @@ use explain_path::{Log, path_to};
 use helpers::HelperLimits;
 use std::alloc::{AllocError, Global};
 use verifier::{Refusal, verify_before};
+
+/// What there is to say of a jump that closes a loop. It names the slot to which the jump leads.
+const LOOP: &str =
+    "  = here: a loop, since control may come from slot {} to this jump again\n  = to mend it: the policy language has no loops: write the turns out one after the other, or let each run take one turn and count the turns in a table's word (call 8)\n";
+
+/// The same of one that leads to what control only leaves forward.
+const NO_LOOP: &str =
+    "  = here: no loop, since control does not come from slot {} to this jump\n  = to mend it: lay the program out so that each jump leads forward: what begins at that slot can stand after this jump; tools/policy-from-c lays out so what a C compiler made\n";
 
 /// A program that is told of, with what is needed for that.
 #[derive(Drop)]
@@ -55,6 +67,11 @@ pub fn print(
         codes::put_rule(page, code);
     }
     match refusal {
+        Refusal::Shape(ShapeFault::TargetBackward(_)) => {
+            put_target(page, told, slot);
+            put_backward(page, told, slot);
+            return Ok(());
+        }
         Refusal::Shape(_) => put_target(page, told, slot),
         Refusal::Check(Cause::PathsDisagree, _) => put_sides(alloc, page, told, slot)?,
         Refusal::Check(cause, _) => put_check(alloc, page, told, cause)?,
@@ -102,23 +119,42 @@ fn put_place(page: &mut Page, told: &Told<'_>, slot: usize) {
     page.text("\n");
 }
 
+// Where the instruction of a slot leads, if it is a jump or a local call.
+fn target_of(program: &Program, slot: usize) -> Option<usize>
+    ensures { IfSome result (λ _. slot < MAX_SLOTS) }
+{
+    let insn = program.fetch(slot)?;
+    match Onward::of(slot, insn) {
+        Onward::Branches(_, to) | Onward::Enters(to, _) => Some(to),
+        Onward::Continues(to) if matches!(insn, Insn::Jump(_)) => Some(to),
+        Onward::Continues(_) | Onward::Leaves => None,
+    }
+}
+
 // Puts where an instruction leads.
 fn put_target(page: &mut Page, told: &Told<'_>, slot: usize) {
-    if slot >= bpf_insn::MAX_SLOTS {
+    let Some(to) = target_of(told.program, slot) else {
         return;
-    }
-    let Some(insn) = told.program.fetch(slot) else {
-        return;
-    };
-    let to = match Onward::of(slot, insn) {
-        Onward::Branches(_, to) | Onward::Enters(to, _) => to,
-        Onward::Continues(to) if matches!(insn, Insn::Jump(_)) => to,
-        Onward::Continues(_) | Onward::Leaves => return,
     };
     let last = told.program.len().saturating_sub(1);
     page.fill(
         "  = here: it leads to slot {}; the program has slots 0 to {}\n",
         &[to as u64, last as u64],
+    );
+}
+
+// Puts whether a jump that does not lead forward closes a loop, and what to do about it.
+fn put_backward(page: &mut Page, told: &Told<'_>, slot: usize) {
+    let Some(to) = target_of(told.program, slot) else {
+        return;
+    };
+    page.fill(
+        if reaches(told.program, to, slot) {
+            LOOP
+        } else {
+            NO_LOOP
+        },
+        &[to as u64],
     );
 }
 

@@ -1,0 +1,10 @@
+use Rattle.std.proofs.Common.{◌-◌}
+use Rattle.bpf_insn.specs.declared.program.TheConstants.{MAX_SLOTS}
+use Rattle.explain_manifest.proofs.Search.{IsSearch}
+use Rattle.explain_manifest.proofs.reaching.reaches.Given as goal
+
+abbrev pub invariant-loop-followed : goal.invariant-loop-followed
+invariant-loop-followed l = IsSearch l.program l.from l.places l.followed
+
+abbrev pub decreases-loop-followed : goal.decreases-loop-followed
+decreases-loop-followed l = MAX_SLOTS - l.followed

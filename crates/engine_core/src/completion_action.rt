@@ -100,7 +100,7 @@ pub(crate) fn recover(
     let program = config.program(queue);
     let recorded = Arc::try_clone(program)?;
     let handed = Arc::try_clone(program)?;
-    let kept = runs.place_for_machine()?;
+    let kept = runs.place_for_run()?;
     let mut machine = runs.place_for_machine()?;
     let next = runs.place_for_machine()?;
     let (ccb, token) = transport.fail(place, ccb, completion, runs.next_number());

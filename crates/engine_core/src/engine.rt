@@ -137,7 +137,8 @@ impl Engine {
 
     /// How many records of the history were handed on.
     pub fn taken(&self) -> u64
-        ensures { result ≡ self.now.taken }
+        ensures count { result ≡ self.now.taken }
+        ensures within { self.now.taken ≤ length self.now.history }
     {
         self.history.taken()
     }

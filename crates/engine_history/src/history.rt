@@ -58,7 +58,8 @@ impl EngineHistory {
 
     /// How many were handed on.
     pub fn taken(&self) -> u64
-        ensures { result ≡ self.now.taken }
+        ensures count { result ≡ self.now.taken }
+        ensures within { self.now.taken ≤ length self.now.records }
     {
         self.taken
     }

@@ -19,7 +19,7 @@ no_runs lengths = record { runs = record { list = []; greatest = 0; tables = map
 
 -- the tokens of a run, as its record has them
 abbrev pub tokens_in : RunRecord → List (Option Freeze)
-tokens_in it = it.tokens.items
+tokens_in it = it.tokens.value.items
 
 -- what is seen of these records, the greatest number that was given, and the tables
 abbrev pub seen : List RunRecord → ℕ → List (List ℕ) → RunsState

@@ -78,19 +78,16 @@ pub(crate) fn hold(tokens: &mut HeldTokens, token: FreezeToken) -> u32
     number
 }
 
-/// What a run that starts may give back: the freeze that was taken for it, or nothing; with the number that it is told,
-/// 0 where there is none.
-pub(crate) fn taken_at_start(token: Option<FreezeToken>) -> (u32, HeldTokens)
-    ensures number { result.0 ≡ told token }
-    ensures tokens { result.1.items ≡ tokens_of (option_to_list token) }
+/// What a run that starts may give back, in place of what stands there: the freeze that was taken for it, or nothing. It answers the
+/// number that the run is told, 0 where there is none.
+pub(crate) fn taken_at_start(tokens: &mut HeldTokens, token: Option<FreezeToken>) -> u32
+    ensures number { result ≡ told token }
+    ensures tokens { tokens.new.items ≡ tokens_of (option_to_list token) }
 {
-    let mut tokens = HeldTokens::new();
+    tokens.clear();
     match token {
-        Some(token) => {
-            let number = hold(&mut tokens, token);
-            (number, tokens)
-        }
-        None => (0, tokens),
+        Some(token) => hold(tokens, token),
+        None => 0,
     }
 }
 

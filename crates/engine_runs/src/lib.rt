@@ -4,9 +4,11 @@
 
 mod held_tokens;
 mod places;
+mod run_place;
 mod run_record;
 mod runs;
 mod started;
 
+pub use run_place::RunPlace;
 pub use runs::{MAX_RUNS, Runs};
 pub use started::Started;

@@ -16,8 +16,8 @@ pub(crate) struct RunRecord {
     pub(crate) queue: QueueId,
     pub(crate) controller: u32,
     pub(crate) program: Arc<Accepted>,
-    // apart, so that a record is moved as a few words
+    // apart, as the tokens are, so that a record is moved as a few words
     pub(crate) machine: Box<Machine>,
     pub(crate) out: bool,
-    pub(crate) tokens: HeldTokens,
+    pub(crate) tokens: Box<HeldTokens>,
 }

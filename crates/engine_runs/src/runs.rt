@@ -25,8 +25,9 @@ ghost use Rattle.engine_runs.specs.RunPlaces.{HasRunAt};
 ghost use Rattle.engine_runs.specs.RunsState.{no_runs, run_for, told, tokens_at, tokens_of};
 ghost use Rattle.engine_runs.specs.Tokens.{AreTokensWith};
 
-use crate::held_tokens::{hold, let_go, taken_at_start};
+use crate::held_tokens::{HeldTokens, hold, let_go, taken_at_start};
 use crate::places::place_of;
+use crate::run_place::RunPlace;
 use crate::run_record::RunRecord;
 use crate::started::Started;
 use bpf_accepted::Accepted;
@@ -45,7 +46,7 @@ use table_store::TableStore;
 /// How many runs can be live at a time.
 pub const MAX_RUNS: usize = 256;
 
-/// How many machines of runs that ended are kept for runs to come.
+/// How many places of runs that ended are kept for runs to come, of machines and of tokens each.
 const MAX_SPARE: usize = 64;
 
 /// The live runs with the tokens of the freezes that they hold, in the order of their numbers, the greatest number that was
@@ -57,6 +58,8 @@ pub struct Runs {
     tables: TableStore,
     // the places of machines of runs that ended; what stands in them means nothing
     spare: Vec<Box<Machine>>,
+    // so are those of their tokens
+    spare_tokens: Vec<Box<HeldTokens>>,
 }
 
 impl Model for Runs {
@@ -95,16 +98,16 @@ fn is_out_with(it: &RunRecord, program: &Accepted, is_its: bool, machine: &Machi
     it.out && (is_its || is_same_program(program, &it.program)) && machine.is_same(&it.machine)
 }
 
-// Keeps the place of a machine for a run to come, where there is room.
-fn keep_spare(spare: &mut Vec<Box<Machine>>, machine: Box<Machine>) {
+// Keeps a place for a run to come, where there is room.
+fn keep_spare<T: Drop>(spare: &mut Vec<Box<T>>, place: Box<T>) {
     if spare.len() < spare.capacity() {
-        spare.push_reserved(machine);
+        spare.push_reserved(place);
     }
 }
 
 impl Runs {
     /// No run, and tables of these lengths in words, all 0, with room for 256 live runs: no later call takes memory but
-    /// `place_for_machine`.
+    /// `place_for_run` and `place_for_machine`.
     pub fn with_room(alloc: Global, lengths: &[u16]) -> Result<Self, AllocError>
         ensures { IfOk result (λ it. it ≡ no_runs lengths.now) }
     {
@@ -113,6 +116,7 @@ impl Runs {
             greatest: 0,
             tables: TableStore::with_lengths(alloc, lengths)?,
             spare: Vec::with_capacity(alloc, MAX_SPARE)?,
+            spare_tokens: Vec::with_capacity(alloc, MAX_SPARE)?,
         })
     }
 
@@ -179,6 +183,19 @@ impl Runs {
         }
     }
 
+    /// Where a run that starts may be recorded: where one stood that ended, or a new place where none is kept. Where memory is refused
+    /// nothing changes.
+    pub fn place_for_run(&mut self) -> Result<RunPlace, AllocError>
+        ensures { self.new ≡ self.old }
+    {
+        let tokens = match self.spare_tokens.pop() {
+            Some(tokens) => tokens,
+            None => Box::new(*self.spare_tokens.allocator(), HeldTokens::new())?,
+        };
+        let machine = self.place_for_machine()?;
+        Ok(RunPlace { machine, tokens })
+    }
+
     /// Takes the place of a machine that is needed no more, for a run to come. At most 64 are kept.
     pub fn keep_place(&mut self, machine: Box<Machine>)
         ensures { self.new ≡ self.old }
@@ -196,7 +213,7 @@ impl Runs {
         controller: u32,
         program: Arc<Accepted>,
         token: Option<FreezeToken>,
-        place: Box<Machine>,
+        place: RunPlace,
         machine: &mut Machine,
     ) -> Started
         requires { (world : World) → run_meets_limit (record world { runs = self.old.runs }) ≡ false }
@@ -211,9 +228,12 @@ impl Runs {
         ensures found { run_of result.run self.new.runs.list ≡ Some (run_for result.run ccb.now controller (arc_value program).program machine.new) }
     {
         let number = self.greatest + 1;
-        let (freeze, tokens) = taken_at_start(token);
+        let RunPlace {
+            machine: mut recorded,
+            mut tokens,
+        } = place;
+        let freeze = taken_at_start(&mut tokens, token);
         machine.begin(&context(ccb), freeze);
-        let mut recorded = place;
         recorded.copy_from(machine);
         let record = RunRecord {
             number,
@@ -404,6 +424,12 @@ impl Runs {
             self.new ≡ record { runs = record self.old.runs { list = filter (λ other. not (other.number == it.number)) self.old.runs.list }; tokens = remove self.old.tokens place } }
     {
         let ended = self.records.remove(place);
-        keep_spare(&mut self.spare, ended.machine);
+        let RunRecord {
+            machine,
+            tokens,
+            ..
+        } = ended;
+        keep_spare(&mut self.spare, machine);
+        keep_spare(&mut self.spare_tokens, tokens);
     }
 }

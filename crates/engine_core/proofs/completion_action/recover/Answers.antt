@@ -70,11 +70,11 @@ holder_is transport place number (Some g) taken f e =
 
 pub next_number-requires : goal.next_number-requires
 next_number-requires c world =
-    ap (λ (runs : RunsState). run_meets_limit (record world { runs = runs.runs })) (c.place_for_machine-3.ensures ∙ (c.place_for_machine-2.ensures ∙ c.place_for_machine.ensures)) ∙ c.requires.room world
+    ap (λ (runs : RunsState). run_meets_limit (record world { runs = runs.runs })) (c.place_for_machine-2.ensures ∙ (c.place_for_machine.ensures ∙ c.place_for_run.ensures)) ∙ c.requires.room world
 
 pub start-started-requires : goal.start-started-requires
 start-started-requires c world =
-    ap (λ (runs : RunsState). run_meets_limit (record world { runs = runs.runs })) (c.place_for_machine-3.ensures ∙ (c.place_for_machine-2.ensures ∙ c.place_for_machine.ensures)) ∙ c.requires.room world
+    ap (λ (runs : RunsState). run_meets_limit (record world { runs = runs.runs })) (c.place_for_machine-2.ensures ∙ (c.place_for_machine.ensures ∙ c.place_for_run.ensures)) ∙ c.requires.room world
 
 pub fail-ccb-requires-clause-active : goal.fail-ccb-requires-clause-active
 fail-ccb-requires-clause-active c =
@@ -86,19 +86,19 @@ fail-ccb-requires-clause-there c =
     subst (λ (n : ℕ). IsPlaceOf n c.args.transport.now.live c.args.place) (sym number) c.requires.there
 
 run_is : (c : goal.After-new) → c.start-started.result.run ≡ c.args.runs.now.runs.greatest + 1
-run_is c = c.start-started.ensures.run ∙ ap (λ (runs : RunsState). runs.runs.greatest + 1) (c.place_for_machine-3.ensures ∙ (c.place_for_machine-2.ensures ∙ c.place_for_machine.ensures))
+run_is c = c.start-started.ensures.run ∙ ap (λ (runs : RunsState). runs.runs.greatest + 1) (c.place_for_machine-2.ensures ∙ (c.place_for_machine.ensures ∙ c.place_for_run.ensures))
 
 taken_is : (c : goal.After-new) → IsTaken c.args.transport.now (Device c.args.ccb.queue) (Run (c.args.runs.now.runs.greatest + 1)) c.fail-ccb.result.1
 taken_is c =
     subst (λ (n : ℕ). IsTaken c.args.transport.now (Device c.args.ccb.queue) (Run n) c.fail-ccb.result.1)
-    (c.next_number.ensures ∙ ap (λ (runs : RunsState). runs.runs.greatest + 1) (c.place_for_machine-3.ensures ∙ (c.place_for_machine-2.ensures ∙ c.place_for_machine.ensures))) c.fail-ccb.ensures.taken
+    (c.next_number.ensures ∙ ap (λ (runs : RunsState). runs.runs.greatest + 1) (c.place_for_machine-2.ensures ∙ (c.place_for_machine.ensures ∙ c.place_for_run.ensures))) c.fail-ccb.ensures.taken
 
 pub returns-clause-step : goal.returns-clause-step
 returns-clause-step c world =
     let at : World = record world { transport = c.args.transport.now; runs = c.args.runs.now.runs } in
     let t : Option Freeze = c.fail-ccb.result.1 in
     let ccb : Ccb = completed c.args.ccb c.args.completion.now (is_some t) in
-    let same : c.place_for_machine-3.new.self ≡ c.args.runs.now = c.place_for_machine-3.ensures ∙ (c.place_for_machine-2.ensures ∙ c.place_for_machine.ensures) in
+    let same : c.place_for_machine-2.new.self ≡ c.args.runs.now = c.place_for_machine-2.ensures ∙ (c.place_for_machine.ensures ∙ c.place_for_run.ensures) in
     let program : List Slot = (arc_value c.in_ok-recorded.recorded).program in
     let program_is : (queue_setup c.args.config.now c.args.ccb.queue.0).program ≡ program = sym (ap (λ (v : Verdict). v.program) c.in_ok-recorded.ensures ∙ c.program-program.ensures.program) in
     let machine_is : c.start-started.new.machine ≡ entry (context_of ccb) (told t) = c.start-started.ensures.machine ∙ ap (λ (b : Ccb). entry (context_of b) (told t)) c.fail-ccb.ensures.ccb in
@@ -125,7 +125,7 @@ returns-clause-out c world =
 pub returns-clause-tokens : goal.returns-clause-tokens
 returns-clause-tokens c =
     let t : Option Freeze = c.fail-ccb.result.1 in
-    let same : c.place_for_machine-3.new.self ≡ c.args.runs.now = c.place_for_machine-3.ensures ∙ (c.place_for_machine-2.ensures ∙ c.place_for_machine.ensures) in
+    let same : c.place_for_machine-2.new.self ≡ c.args.runs.now = c.place_for_machine-2.ensures ∙ (c.place_for_machine.ensures ∙ c.place_for_run.ensures) in
     let before : World = world_of c.args.config.now c.requires.kept.0 c.args.transport.now c.args.runs.now.runs in
     let it : LiveRun = run_for c.start-started.result.run c.fail-ccb.result.0 c.controller.result (arc_value c.in_ok-recorded.recorded).program c.start-started.new.machine in
     subst (λ (fs : List Freeze). HoldEntries fs c.start-started.new.self) (sym (ap (λ (m : Transport). m.freezes) c.fail-ccb.ensures.state))

@@ -10,7 +10,7 @@ use Rattle.engine_runs.proofs.Records.{key_of, run_at, record_removed}
 use Rattle.engine_runs.proofs.Kept.{kept_ended, seen_is}
 use Rattle.engine_runs.proofs.runs.Runs.end.Goals as goal
 
-here : (c : goal.After-array_drop-ended) (it : LiveRun) → HasRunAt (lives_of c.self.inside.records.values) c.args.place it → (c.args.place < length c.self.inside.records.values) × (live_of c.remove-ended.result ≡ it)
+here : (c : goal.After-drop-ended) (it : LiveRun) → HasRunAt (lives_of c.self.inside.records.values) c.args.place it → (c.args.place < length c.self.inside.records.values) × (live_of c.remove-ended.result ≡ it)
 here c it at = run_at c.self.inside.records.values c.args.place it c.remove-ended.result at c.remove-ended.ensures.value
 
 pub invariant_of-self : goal.invariant_of-self

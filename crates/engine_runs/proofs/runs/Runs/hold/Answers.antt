@@ -20,4 +20,5 @@ returns-clause-tokens c =
     rw (← c.self.view_is)
     (tokens_set c.self.inside.records.values c.self.inside.greatest c.self.inside.tables c.args.place c.index_mut.result.now _ _ at.0 c.index_mut.ensures.value refl
     (c.hold.ensures.tokens
-    ∙ ap (λ (ts : List (Option Freeze)). ts ++ Some c.args.token ∷ []) (seen_at tokens_in c.self.inside.records.values c.args.place c.index_mut.result.now [] at.0 c.index_mut.ensures.value)))
+    ∙ (ap (λ (ts : List (Option Freeze)). ts ++ Some c.args.token ∷ []) (ap (λ (ts : _). ts.items) c.deref_mut.ensures.value)
+    ∙ ap (λ (ts : List (Option Freeze)). ts ++ Some c.args.token ∷ []) (seen_at tokens_in c.self.inside.records.values c.args.place c.index_mut.result.now [] at.0 c.index_mut.ensures.value))))

@@ -1,4 +1,4 @@
-use Rattle.std.proofs.Common.{[], refl, sym, subst, ◌∙◌}
+use Rattle.std.proofs.Common.{[], ap, refl, sym, subst, ◌∙◌}
 use Rattle.world.specs.World.{LiveRun}
 use Rattle.engine_runs.specs.RunsState.{RunsState, tokens_in}
 use Rattle.engine_runs.specs.RunPlaces.{HasRunAt}
@@ -18,8 +18,8 @@ returns c =
     let run = subst (λ (s : RunsState). (it : LiveRun) × HasRunAt s.runs.list c.args.place it) (sym c.self.view_is) c.requires.run in
     let at = run_at c.self.inside.records.values c.args.place run.0 c.index_mut.result.now run.1 c.index_mut.ensures.value in
     rw (← c.self.view_is) (λ freezes it.
-    let its : AreTokensWith c.index_mut.result.now.tokens.items freezes c.args.freeze = record {
-      are = seen_at tokens_in c.self.inside.records.values c.args.place c.index_mut.result.now [] at.0 c.index_mut.ensures.value ∙ it.are;
+    let its : AreTokensWith c.deref_mut.result.now.items freezes c.args.freeze = record {
+      are = ap (λ (ts : _). ts.items) c.deref_mut.ensures.value ∙ (seen_at tokens_in c.self.inside.records.values c.args.place c.index_mut.result.now [] at.0 c.index_mut.ensures.value ∙ it.are);
       high = it.high;
       rising = it.rising;
       entry = it.entry;

@@ -28,9 +28,9 @@ pushed c = record {
   queue = c.args.ccb.now.queue;
   controller = c.args.controller;
   program = c.args.program;
-  machine = record c.args.place { value = c.copy_from.new.self };
+  machine = record c.args.place.machine { value = c.copy_from.new.self };
   out = true;
-  tokens = c.taken_at_start-freeze.result.1;
+  tokens = record c.args.place.tokens { value = c.taken_at_start-freeze.new.tokens };
 }
 
 pub push-requires-clause-room : goal.push-requires-clause-room

@@ -31,9 +31,9 @@ use Rattle.monitor.specs.declared.knowledge.Pair.{Pair}
 use Rattle.monitor.specs.LegalHistory.{LegalHistory, all_by, records}
 use Rattle.monitor.specs.Telling.{Agrees, CallerState, Joins, Looks, having_made}
 use Rattle.monitor.proofs.Histories.{itself, none_told, own_more, records_more}
-use Rattle.engine_lock.specs.Driving.{ComesToExit, Drives, GoesOn, IsBack, comes_on, is_not_out, not_advanced, stands}
+use Rattle.engine_lock.specs.Driving.{ComesToExit, Drives, DrivesOn, EngineDrives, GoesOn, IsBack, TellsBack, TellsDriven, TellsNone, comes_on, is_not_out, not_advanced, stands, tells_not_out}
 use Rattle.engine_lock.specs.Publishing.{beyond}
-use Rattle.engine_lock.specs.Sharing.{Answers, IsSince, Section}
+use Rattle.engine_lock.specs.Sharing.{Answers, IsSince, LockedState, Section}
 use Rattle.engine_lock.proofs.Histories.{beyond_is, is_beyond}
 
 -- ---- the engine
@@ -396,6 +396,85 @@ module _ (setup : Setup) (h : List Pair) (old : EngineState) (run : RunState) (b
     unchanged (Ok r0) ended admits came is none =
         absurd (omega (arith, none, longer_by ended.between new _ ended.last.recorded, no_shorter old ended.between (grown_on old run ended.between ended.at ended.before ended.went)))
     unchanged (Err fault) ended admits came is none = back_unchanged fault.why fault.run fault.r0 admits came is none
+
+  -- ---- all of it at once
+
+  -- what was published is told, however the run ended
+  tells_some : (why : AdvanceFault) (made : List Record) (after : CallerState) → 0 < length made → Joins setup h before made after → TellsBack setup h why made before after
+  tells_some why [] after some joins = absurd (omega (arith, some))
+  tells_some why (r ∷ rs) after some joins = joins
+
+  tells_joined : (result : Result ℕ DriveFault) (made : List Record) (after : CallerState) → 0 < length made → Joins setup h before made after → TellsDriven setup h result made before after
+  tells_joined (Ok r0) made after some joins = joins
+  tells_joined (Err fault) made after some joins = tells_some fault.why made after some joins
+
+  looks_after : (why : AdvanceFault) (after : CallerState) → tells_not_out why ≡ true → Looks setup h before after → TellsNone setup h why before after
+  looks_after NotOut after is looks = looks
+  looks_after OutOfMemory after is looks = absurd (let bad : false ≡ true = is in cc)
+
+  tells_looked : (result : Result ℕ DriveFault) (after : CallerState) → is_not_out result ≡ true → Looks setup h before after → TellsDriven setup h result [] before after
+  tells_looked (Ok r0) after is looks = absurd (let bad : false ≡ true = is in cc)
+  tells_looked (Err fault) after is looks = looks_after fault.why after is looks
+
+  stays_after : (why : AdvanceFault) → tells_not_out why ≡ false → TellsNone setup h why before before
+  stays_after NotOut is = absurd (let bad : true ≡ false = is in cc)
+  stays_after OutOfMemory is = refl
+
+  tells_unchanged : (result : Result ℕ DriveFault) (new : EngineState) → IfOk result (λ r0. RunsToExit old run r0 new) → is_not_out result ≡ false → length new.history ≤ length old.history → TellsDriven setup h result [] before before
+  tells_unchanged (Ok r0) new ended is none =
+      absurd (omega (arith, none, longer_by ended.between new _ ended.last.recorded, no_shorter old ended.between (grown_on old run ended.between ended.at ended.before ended.went)))
+  tells_unchanged (Err fault) new ended is none = stays_after fault.why is
+
+  -- what stands under the lock
+  abbrev locked : EngineState → List Pair → ℕ → LockedState
+  locked engine history given = record { engine = engine; history = history; given = given }
+
+  module _ (new : EngineState) (result : Result ℕ DriveFault) (e : EngineDrives old run result new) (was given : ℕ) where
+    more : Grown old new
+    more = grown old new run result e.ended e.back
+
+    -- all that is beyond what is known was published
+    pub published_once : (now : List Pair) (after : CallerState) → now ≡ h ++ all_by before.number (beyond h new.history) → length old.history < length new.history → Joins setup h before (beyond h new.history) after →
+        DrivesOn setup run result (locked old h was) (locked new now given) before after
+    published_once now after now_is some joins =
+        let many : 0 < length (beyond h new.history) = omega (arith, some, length_beyond h old new its more) in record {
+          is_run = lawful;
+          setup_is = same;
+          its = its;
+          engine = e;
+          made = beyond h new.history;
+          recorded = drive_beyond h old new its more ∙ ap (λ (rs : List Record). rs ++ beyond h new.history) its;
+          history = now_is;
+          mine = ap (λ (c : CallerState). c.mine) joins.after_is;
+          tells = tells_joined result (beyond h new.history) after many joins;
+        }
+
+    -- nothing was recorded
+    nothing_more : (now : List Pair) (after : CallerState) → now ≡ h → length new.history ≤ length old.history → after.mine ≡ before.mine → TellsDriven setup h result [] before after →
+        DrivesOn setup run result (locked old h was) (locked new now given) before after
+    nothing_more now after now_is none mine tells = record {
+      is_run = lawful;
+      setup_is = same;
+      its = its;
+      engine = e;
+      made = [];
+      recorded = no_more old new more none ∙ sym (append-nil old.history);
+      history = now_is ∙ sym (append-nil h);
+      mine = mine ∙ sym (append-nil before.mine);
+      tells = tells;
+    }
+
+    pub looked_once : (now : List Pair) (after : CallerState) → now ≡ h → length new.history ≤ length old.history → is_not_out result ≡ true → Looks setup h before after →
+        DrivesOn setup run result (locked old h was) (locked new now given) before after
+    looked_once now after now_is none is looks = nothing_more now after now_is none (ap (λ (c : CallerState). c.mine) looks.after_is) (tells_looked result after is looks)
+
+    pub unchanged_once : length new.history ≤ length old.history → is_not_out result ≡ false → DrivesOn setup run result (locked old h was) (locked new h given) before before
+    unchanged_once none is = nothing_more h before refl none refl (tells_unchanged result new e.ended is none)
+
+-- what is said of what the lock and the caller have inside is said of what contracts see of them
+pub seen_so : (setup : Setup) (run : RunState) (result : Result ℕ DriveFault) (inside seen now : LockedState) (part before after : CallerState) → inside ≡ seen → part ≡ before → DrivesOn setup run result inside now part after → DrivesOn setup run result seen now before after
+seen_so setup run result inside seen now part before after is its d =
+    subst (λ (l : LockedState). DrivesOn setup run result l now before after) is (subst (λ (b : CallerState). DrivesOn setup run result inside now b after) its d)
 
 -- ---- the lock's own knowledge
 

@@ -6,7 +6,7 @@ ghost use Rattle.engine_core.specs.EngineState.{IsRun};
 ghost use Rattle.engine_core.specs.Replies.{IsOfKnown};
 ghost use Rattle.monitor.specs.LegalHistory.{unshared};
 ghost use Rattle.monitor.specs.Telling.{new_caller};
-ghost use Rattle.engine_lock.specs.Driving.{Drives, is_not_out};
+ghost use Rattle.engine_lock.specs.Driving.{Drives, DrivesOn, is_not_out};
 ghost use Rattle.engine_lock.specs.Sharing.{Answers, Closes, IsNewCaller, IsNewWatch, Section, Tells, is_unfit, keeper_of};
 ghost use Rattle.engine_lock.specs.declared.fault.LockFault.TheVariants.{TooManyCallers};
 ghost use Rattle.engine_lock.specs.declared.object.TheConstants.{MAX_CALLERS};
@@ -133,7 +133,10 @@ impl<B: Object> Locked<B> {
         reply
     }
 
-    /// Drives a run to its exit, and publishes the records of its stops with their caller, all in one step.
+    /// Drives a run to its exit, as the engine drives it from what stands here. What the engine records joins the history at its end,
+    /// all of it as this caller's, and nothing else joins it; the caller has then seen the history with it. If nothing is recorded
+    /// the history stays as it is: after C4 the caller has seen it, and where memory was refused the caller is as it was. No caller
+    /// is given out. What the caller is told is also what the run's advances would tell it, one by one.
     pub(crate) fn drive<R: Wait>(
         &mut self,
         rt: &R,
@@ -141,7 +144,9 @@ impl<B: Object> Locked<B> {
         caller: &mut Caller<B>,
         run: Run,
     ) -> Result<u64, DriveFault>
-        ensures { Drives B.setup run result caller.old caller.new }
+        ensures drives { Drives B.setup run result caller.old caller.new }
+        ensures once { DrivesOn B.setup run result self.old self.new caller.old caller.new }
+        ensures given { self.new.given ≡ self.old.given }
     {
         let Locked {
             engine,
@@ -155,6 +160,7 @@ impl<B: Object> Locked<B> {
         let made = engine.totals().history - known;
         if made > 0 {
             book.add(&mut caller.calls, made);
+            // In one step at the cell, so that a watch sees all of these records or none. No clause here speaks of watches.
             publish_beyond(rt, monitor, keeper, &mut caller.part, engine);
         } else if is_not_out(&driven) {
             keeper.look(rt, monitor, &mut caller.part);

@@ -31,12 +31,15 @@ pub struct Opened {
     monitor: monitor::Opened,
     pub ghost parts: { calls.parts ≡ MAX_CALLERS },
     ghost its: { AreProgramsOf engine.setup programs.items },
+    ghost untaken: { engine.taken ≡ 0 },
 }
 
 impl Opened {
     /// The engine, with no caller given out. It takes memory for a handle on each queue's program, and for the
-    /// monitor; where that is refused the engine comes back.
+    /// monitor; where that is refused the engine comes back. It asks for one of which no record was handed on, since what is shared
+    /// keeps its whole history.
     pub fn new(alloc: Global, engine: Engine) -> Result<Self, (AllocError, Engine)>
+        requires untaken { engine.taken ≡ 0 }
         ensures opened { IfOk result (λ opened. opened.engine ≡ engine) }
         ensures back { IfErr result (λ fault. fault.1 ≡ engine) }
     {
@@ -59,7 +62,6 @@ impl Opened {
     pub fn named<B: Object>(self) -> Shared<B>
         requires setup { self.engine.setup ≡ B.setup }
         requires begun { self.engine.history ≡ B.begun }
-        requires untaken { self.engine.taken ≡ 0 }
         requires name { (self.calls.name ≡ B.name) × (self.calls.parts ≡ B.parts) }
         requires table { self.monitor ≡ B.table }
     {

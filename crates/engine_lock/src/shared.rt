@@ -4,7 +4,7 @@
 ghost use Rattle.std.specs.Prelude.{◌≡◌, ◌≤◌, [], IfOk, IfErr};
 ghost use Rattle.engine_config.specs.Configured.{AreProgramsOf};
 ghost use Rattle.monitor.specs.LegalHistory.{LegalHistory};
-ghost use Rattle.engine_lock.specs.Driving.{Drives};
+ghost use Rattle.engine_lock.specs.Driving.{Drives, DrivesOnce};
 ghost use Rattle.engine_lock.specs.Sharing.{IsNewCaller, IsNewWatch, Section};
 ghost use Rattle.engine_lock.specs.declared.fault.LockFault.TheVariants.{TooManyCallers};
 ghost use Rattle.engine_lock.specs.declared.object.TheConstants.{MAX_CALLERS};
@@ -102,18 +102,22 @@ impl<B: Object> Shared<B> {
         reply
     }
 
-    /// Drives a run to its exit in one section under the lock: R0 at its exit. Its records are those of its advances one by one, in
-    /// their order, and nobody sees some of them alone. Other callers wait for all that it executes, so it is for short runs.
+    /// Drives a run to its exit, as the engine drives it at some moment of the call: one section under the lock, and R0 at its exit.
+    /// Its records are those of its advances one by one, in their order. They join the history together, at its end, so that no
+    /// record of another caller stands between them, and the caller has seen the history with them. Other callers wait for all that
+    /// it executes, so it is for short runs.
     ///
     /// C4 exactly as for the run's advance: the caller has then seen a history in whose last world the run is not out, and the run
-    /// comes back as it was. If memory is refused the run comes back at the last of its stops that was recorded.
+    /// comes back as it was. If memory is refused the run comes back at the last of its stops that was recorded, and the records up
+    /// to there have joined the history together; if there are none the caller is as it was.
     pub fn drive<R: Wait>(
         &self,
         rt: &R,
         caller: &mut Caller<B>,
         run: Run,
     ) -> Result<u64, DriveFault>
-        ensures { Drives B.setup run result caller.old caller.new }
+        ensures drives { Drives B.setup run result caller.old caller.new }
+        ensures once { DrivesOnce B.setup run result caller.old caller.new }
     {
         let mut guard = self.lock.lock(rt);
         let locked = &mut *guard;

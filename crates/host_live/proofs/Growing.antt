@@ -1,11 +1,12 @@
 -- How an engine goes on whose records are printed as they come.
-use Rattle.std.proofs.Common.{◌≡◌, ◌∙◌, ℕ, ◌+◌, Bool, true, false, Option, Some, None, List, [], ◌∷◌, ◌++◌, length, refl, sym, ap, subst, append_assoc, append-nil, length-append, arith, inl, inr, ◌⊎◌}
+use Rattle.std.proofs.Common.{◌≡◌, ◌∙◌, ℕ, ◌+◌, Bool, true, false, Option, Some, List, [], ◌∷◌, ◌++◌, refl, sym, ap, subst, append_assoc, append-nil, length-append, arith, inl, inr}
 use Rattle.std.specs.Fmt.{option_append}
+use Rattle.std.proofs.KnownBytes.{Appends-nil}
 use Rattle.std.proofs.lemmas.Bool.{cases_Bool}
 use Rattle.world_calls.specs.declared.record.Record.{Record}
 use Rattle.world_calls.specs.declared.trace.Version.{Version}
 use Rattle.engine_core.specs.ByNumber.{NumberedState, IsBehind, RecordFollows}
-use Rattle.trace.specs.Growing.{Goes, GrowingState, IsFront, StopsIn}
+use Rattle.trace.specs.Growing.{Goes, IsFront, StopsIn}
 use Rattle.trace.specs.Sinks.{HasFailed}
 use Rattle.trace.specs.TraceText.{record_text, records_text}
 use Rattle.trace.proofs.Grown.{Fronts, goes_both, goes_none, stops_at, stops_on}
@@ -54,7 +55,7 @@ prints_both old mid new at between to failed some fails more others version (sta
 prints_both old mid new at between to failed some fails more others version (stayed a b same still) (stopped c d shown rest whole stops fault) = clash mid.has_failed c b
 prints_both old mid new at between to failed some fails more others version (stayed a b same still) (stayed c d again more_still) = stayed a d (again ∙ same) (more_still ∙ still)
 
-all_both : (old mid new : Printed) (at between to : Option (List ℕ)) (failed some fails : ℕ) (more others : List Record)
+pub all_both : (old mid new : Printed) (at between to : Option (List ℕ)) (failed some fails : ℕ) (more others : List Record)
     → PrintsAll old at failed more mid between some → PrintsAll mid between some others new to fails → PrintsAll old at failed (more ++ others) new to fails
 all_both old mid new at between to failed some fails more others first second = record {
   version = second.version ∙ first.version;
@@ -104,6 +105,19 @@ handed_stopped old new at to failed fails whole faulty version count fronts faul
   count = omega (arith, count);
   prints = stopped whole faulty [] [] refl (subst (λ (t : Option (List ℕ)). StopsIn t old.lines.waiting at to) (sym (no_records old.lines.version)) (stops_at [] old.lines.waiting at to fronts)) fault;
 }
+
+-- an outlet was told something, and took nothing
+pub all_same : (printed : Printed) (at to : Option (List ℕ)) (failed fails : ℕ) → to ≡ at → fails ≡ failed → PrintsAll printed at failed [] printed to fails
+all_same printed at to failed fails same none =
+    subst (λ (n : ℕ). PrintsAll printed at failed [] printed to n) (sym none) (subst (λ (t : Option (List ℕ)). PrintsAll printed at failed [] printed t failed) (sym same) (all_none printed at failed))
+
+-- or could not be told
+pub all_stopped : (old new : Printed) (at to : Option (List ℕ)) (failed fails : ℕ) → old.has_failed ≡ false → new.has_failed ≡ true → new.lines.version ≡ old.lines.version → new.count ≡ old.count
+    → to ≡ at → HasFailed failed fails → PrintsAll old at failed [] new to fails
+all_stopped old new at to failed fails whole faulty version count same fault =
+    let front : (more : List ℕ) → IsFront (old.lines.waiting ++ more) at to = λ more.
+    subst (λ (t : Option (List ℕ)). IsFront (old.lines.waiting ++ more) at t) (sym same) (record { handed = []; rest = old.lines.waiting ++ more; whole = refl; told = Appends-nil at }) in
+    handed_stopped old new at to failed fails whole faulty version count (λ more is. front more) fault
 
 -- ---- what the engine makes
 
@@ -175,3 +189,7 @@ none_failed old new at to failed fails whole grows = elim grows.by.printed.print
   | stopped a b shown rest all stops fault ↦ clash new.printed.has_failed whole b
   | stayed a b same still ↦ still
 ]
+
+-- it began elsewhere, as it says
+pub grows_from : (old first new : PrintedState) (at to : Option (List ℕ)) (failed fails : ℕ) → old ≡ first → Grows old at failed new to fails → Grows first at failed new to fails
+grows_from old first new at to failed fails same grows = subst (λ (e : PrintedState). Grows e at failed new to fails) same grows

@@ -1,5 +1,5 @@
 -- What lines ask for.
-use Rattle.std.proofs.Common.{◌≡◌, ◌∙◌, ◌==◌, ◌++◌, ℕ, true, false, cond, Option, Some, None, IfOk, IfSome, Result, Ok, Err, List, ap, bytes_eq, codes, drop, get_or, refl, sym, subst}
+use Rattle.std.proofs.Common.{◌≡◌, ◌≤◌, ◌<◌, ◌∙◌, ◌==◌, ◌++◌, ℕ, Bool, true, false, arith, cond, Option, Some, None, IfOk, IfSome, Result, Ok, Err, List, ap, bytes_eq, codes, drop, get_or, refl, sym}
 use Rattle.std.specs.Fmt.{option_append}
 use Rattle.trace_lines.specs.Calls.{call_of, values_of, word_of, word_text}
 use Rattle.trace_lines.specs.Lines.{line_text}
@@ -15,15 +15,15 @@ use Rattle.trace_lines.proofs.Tests.{joined, parts_of, same_bytes, same_text}
 use Rattle.ccb.specs.declared.place.Place.TheVariants.{Controller, Device}
 use Rattle.world_calls.specs.declared.call.Call.{Call as TheCall}
 use Rattle.world_calls.specs.declared.call.Call.TheVariants as calls
-use Rattle.host_live.specs.Requests.{call_text, drive_text, own_text, request_text, step_text}
+use Rattle.host_live.specs.Requests.{call_text, drive_text, own_text, request_text, step_text, told_text, named_text}
 use Rattle.host_live.specs.declared.request.Request.{Request}
-use Rattle.host_live.specs.declared.request.Request.TheVariants.{Call, Step, Drive, Drain, Totals, Ccbs}
+use Rattle.host_live.specs.declared.request.Request.TheVariants.{Call, Step, Drive, Drain, Totals, Ccbs, Quit, Help}
 
 -- ---- a line is of one kind
 
--- which by its letters: `totals`, `ccbs`, `step`, `drive`, `drain`, and all else
+-- which by its letters: `quit`, `help`, `totals`, `ccbs`, `step`, `drive`, `drain`, and all else
 kind_at : List ℕ → ℕ
-kind_at text = cond (get_or text 0 0 == 116) 4 (cond (get_or text 1 0 == 99) 5 (cond (get_or text 1 0 == 116) 1 (cond (get_or text 2 0 == 105) 2 (cond (get_or text 3 0 == 105) 3 0))))
+kind_at text = cond (get_or text 0 0 == 113) 6 (cond (get_or text 0 0 == 104) 7 (cond (get_or text 0 0 == 116) 4 (cond (get_or text 1 0 == 99) 5 (cond (get_or text 1 0 == 116) 1 (cond (get_or text 2 0 == 105) 2 (cond (get_or text 3 0 == 105) 3 0))))))
 
 kind_of : Request → ℕ
 kind_of (Call call) = 0
@@ -32,6 +32,8 @@ kind_of (Drive run) = 2
 kind_of Drain = 3
 kind_of Totals = 4
 kind_of Ccbs = 5
+kind_of Quit = 6
+kind_of Help = 7
 
 begins : (word : List ℕ) (fields : Option (List ℕ)) (line : List ℕ) → option_append (Some word) fields ≡ Some line → (rest : List ℕ) × (fields ≡ Some rest) × (line ≡ word ++ rest)
 begins word fields line e =
@@ -50,28 +52,34 @@ call_kind (calls.Clock reading) line e = ap kind_at (begins (word_text words.Clo
 call_kind (calls.Park run) line e = ap kind_at (begins (word_text words.Park) _ line e).2
 call_kind (calls.Resume run) line e = ap kind_at (begins (word_text words.Resume) _ line e).2
 
-kind_is : (request : Request) (line : List ℕ) → request_text request ≡ Some line → kind_at line ≡ kind_of request
+kind_is : (told : Bool) (request : Request) (line : List ℕ) → request_text told request ≡ Some line → kind_at line ≡ kind_of request
 unfolding kind_at kind_of
-kind_is (Call call) line e = call_kind call line e
-kind_is (Step run) line e = ap kind_at (begins (codes "step ") _ line e).2
-kind_is (Drive run) line e = ap kind_at (begins (codes "drive ") _ line e).2
-kind_is Drain line e = ap kind_at (sym (same_text (codes "drain") line e))
-kind_is Totals line e = ap kind_at (sym (same_text (codes "totals") line e))
-kind_is Ccbs line e = ap kind_at (sym (same_text (codes "ccbs") line e))
+kind_is told (Call call) line e = call_kind call line e
+kind_is told (Step run) line e = ap kind_at (begins (codes "step ") _ line e).2
+kind_is told (Drive run) line e = ap kind_at (begins (codes "drive ") _ line e).2
+kind_is told Drain line e = ap kind_at (sym (same_text (codes "drain") line e))
+kind_is told Totals line e = ap kind_at (sym (same_text (codes "totals") line e))
+kind_is told Ccbs line e = ap kind_at (sym (same_text (codes "ccbs") line e))
+kind_is true Quit line e = ap kind_at (sym (same_text (codes "quit") line e))
+kind_is false Quit line e = absurd cc
+kind_is true Help line e = ap kind_at (sym (same_text (codes "help") line e))
+kind_is false Help line e = absurd cc
 
-same_kind : (a b : Request) (line : List ℕ) → request_text a ≡ Some line → request_text b ≡ Some line → kind_of a ≡ kind_of b
-same_kind a b line e f = sym (kind_is a line e) ∙ kind_is b line f
+same_kind : (told : Bool) (a b : Request) (line : List ℕ) → request_text told a ≡ Some line → request_text told b ≡ Some line → kind_of a ≡ kind_of b
+same_kind told a b line e f = sym (kind_is told a line e) ∙ kind_is told b line f
 
 -- ---- a request that is no call
 
 drain_only : (line : List ℕ) → line ≡ codes "drain" → (request : Request) → own_text request ≡ Some line → ◌≡◌ {A = Option Request} (Some Drain) (Some request)
 unfolding kind_of
 drain_only line is (Call other) e = absurd cc
-drain_only line is (Step other) e = let kind : true ≡ false = ap (λ (n : ℕ). n == 3) (same_kind Drain (Step other) line (ap Some (sym is)) e) in absurd cc
-drain_only line is (Drive other) e = let kind : true ≡ false = ap (λ (n : ℕ). n == 3) (same_kind Drain (Drive other) line (ap Some (sym is)) e) in absurd cc
+drain_only line is (Step other) e = let kind : true ≡ false = ap (λ (n : ℕ). n == 3) (same_kind true Drain (Step other) line (ap Some (sym is)) e) in absurd cc
+drain_only line is (Drive other) e = let kind : true ≡ false = ap (λ (n : ℕ). n == 3) (same_kind true Drain (Drive other) line (ap Some (sym is)) e) in absurd cc
 drain_only line is Drain e = refl
-drain_only line is Totals e = let kind : true ≡ false = ap (λ (n : ℕ). n == 3) (same_kind Drain Totals line (ap Some (sym is)) e) in absurd cc
-drain_only line is Ccbs e = let kind : true ≡ false = ap (λ (n : ℕ). n == 3) (same_kind Drain Ccbs line (ap Some (sym is)) e) in absurd cc
+drain_only line is Totals e = let kind : true ≡ false = ap (λ (n : ℕ). n == 3) (same_kind true Drain Totals line (ap Some (sym is)) e) in absurd cc
+drain_only line is Ccbs e = let kind : true ≡ false = ap (λ (n : ℕ). n == 3) (same_kind true Drain Ccbs line (ap Some (sym is)) e) in absurd cc
+drain_only line is Quit e = absurd cc
+drain_only line is Help e = absurd cc
 
 pub drain_reads : (line : List ℕ) → bytes_eq line (codes "drain") ≡ true → Reads own_text line (Some Drain)
 drain_reads line test =
@@ -81,11 +89,13 @@ drain_reads line test =
 totals_only : (line : List ℕ) → line ≡ codes "totals" → (request : Request) → own_text request ≡ Some line → ◌≡◌ {A = Option Request} (Some Totals) (Some request)
 unfolding kind_of
 totals_only line is (Call other) e = absurd cc
-totals_only line is (Step other) e = let kind : true ≡ false = ap (λ (n : ℕ). n == 4) (same_kind Totals (Step other) line (ap Some (sym is)) e) in absurd cc
-totals_only line is (Drive other) e = let kind : true ≡ false = ap (λ (n : ℕ). n == 4) (same_kind Totals (Drive other) line (ap Some (sym is)) e) in absurd cc
-totals_only line is Drain e = let kind : true ≡ false = ap (λ (n : ℕ). n == 4) (same_kind Totals Drain line (ap Some (sym is)) e) in absurd cc
+totals_only line is (Step other) e = let kind : true ≡ false = ap (λ (n : ℕ). n == 4) (same_kind true Totals (Step other) line (ap Some (sym is)) e) in absurd cc
+totals_only line is (Drive other) e = let kind : true ≡ false = ap (λ (n : ℕ). n == 4) (same_kind true Totals (Drive other) line (ap Some (sym is)) e) in absurd cc
+totals_only line is Drain e = let kind : true ≡ false = ap (λ (n : ℕ). n == 4) (same_kind true Totals Drain line (ap Some (sym is)) e) in absurd cc
 totals_only line is Totals e = refl
-totals_only line is Ccbs e = let kind : true ≡ false = ap (λ (n : ℕ). n == 4) (same_kind Totals Ccbs line (ap Some (sym is)) e) in absurd cc
+totals_only line is Ccbs e = let kind : true ≡ false = ap (λ (n : ℕ). n == 4) (same_kind true Totals Ccbs line (ap Some (sym is)) e) in absurd cc
+totals_only line is Quit e = absurd cc
+totals_only line is Help e = absurd cc
 
 pub totals_reads : (line : List ℕ) → bytes_eq line (codes "totals") ≡ true → Reads own_text line (Some Totals)
 totals_reads line test =
@@ -95,11 +105,13 @@ totals_reads line test =
 ccbs_only : (line : List ℕ) → line ≡ codes "ccbs" → (request : Request) → own_text request ≡ Some line → ◌≡◌ {A = Option Request} (Some Ccbs) (Some request)
 unfolding kind_of
 ccbs_only line is (Call other) e = absurd cc
-ccbs_only line is (Step other) e = let kind : true ≡ false = ap (λ (n : ℕ). n == 5) (same_kind Ccbs (Step other) line (ap Some (sym is)) e) in absurd cc
-ccbs_only line is (Drive other) e = let kind : true ≡ false = ap (λ (n : ℕ). n == 5) (same_kind Ccbs (Drive other) line (ap Some (sym is)) e) in absurd cc
-ccbs_only line is Drain e = let kind : true ≡ false = ap (λ (n : ℕ). n == 5) (same_kind Ccbs Drain line (ap Some (sym is)) e) in absurd cc
-ccbs_only line is Totals e = let kind : true ≡ false = ap (λ (n : ℕ). n == 5) (same_kind Ccbs Totals line (ap Some (sym is)) e) in absurd cc
+ccbs_only line is (Step other) e = let kind : true ≡ false = ap (λ (n : ℕ). n == 5) (same_kind true Ccbs (Step other) line (ap Some (sym is)) e) in absurd cc
+ccbs_only line is (Drive other) e = let kind : true ≡ false = ap (λ (n : ℕ). n == 5) (same_kind true Ccbs (Drive other) line (ap Some (sym is)) e) in absurd cc
+ccbs_only line is Drain e = let kind : true ≡ false = ap (λ (n : ℕ). n == 5) (same_kind true Ccbs Drain line (ap Some (sym is)) e) in absurd cc
+ccbs_only line is Totals e = let kind : true ≡ false = ap (λ (n : ℕ). n == 5) (same_kind true Ccbs Totals line (ap Some (sym is)) e) in absurd cc
 ccbs_only line is Ccbs e = refl
+ccbs_only line is Quit e = absurd cc
+ccbs_only line is Help e = absurd cc
 
 pub ccbs_reads : (line : List ℕ) → bytes_eq line (codes "ccbs") ≡ true → Reads own_text line (Some Ccbs)
 ccbs_reads line test =
@@ -110,10 +122,12 @@ step_only : (line : List ℕ) (run : ℕ) → Reads step_text line (Some run) �
 unfolding kind_of
 step_only line run reads (Call other) e = absurd cc
 step_only line run reads (Step other) e = let same = reads.back other e in cc
-step_only line run reads (Drive other) e = let kind : true ≡ false = ap (λ (n : ℕ). n == 1) (same_kind (Step run) (Drive other) line reads.said e) in absurd cc
-step_only line run reads Drain e = let kind : true ≡ false = ap (λ (n : ℕ). n == 1) (same_kind (Step run) Drain line reads.said e) in absurd cc
-step_only line run reads Totals e = let kind : true ≡ false = ap (λ (n : ℕ). n == 1) (same_kind (Step run) Totals line reads.said e) in absurd cc
-step_only line run reads Ccbs e = let kind : true ≡ false = ap (λ (n : ℕ). n == 1) (same_kind (Step run) Ccbs line reads.said e) in absurd cc
+step_only line run reads (Drive other) e = let kind : true ≡ false = ap (λ (n : ℕ). n == 1) (same_kind true (Step run) (Drive other) line reads.said e) in absurd cc
+step_only line run reads Drain e = let kind : true ≡ false = ap (λ (n : ℕ). n == 1) (same_kind true (Step run) Drain line reads.said e) in absurd cc
+step_only line run reads Totals e = let kind : true ≡ false = ap (λ (n : ℕ). n == 1) (same_kind true (Step run) Totals line reads.said e) in absurd cc
+step_only line run reads Ccbs e = let kind : true ≡ false = ap (λ (n : ℕ). n == 1) (same_kind true (Step run) Ccbs line reads.said e) in absurd cc
+step_only line run reads Quit e = absurd cc
+step_only line run reads Help e = absurd cc
 
 pub step_reads : (line : List ℕ) (run : ℕ) → Reads step_text line (Some run) → Reads own_text line (Some (Step run))
 step_reads line run reads = record { said = reads.said; back = λ request e. step_only line run reads request e }
@@ -121,11 +135,13 @@ step_reads line run reads = record { said = reads.said; back = λ request e. ste
 drive_only : (line : List ℕ) (run : ℕ) → Reads drive_text line (Some run) → (request : Request) → own_text request ≡ Some line → ◌≡◌ {A = Option Request} (Some (Drive run)) (Some request)
 unfolding kind_of
 drive_only line run reads (Call other) e = absurd cc
-drive_only line run reads (Step other) e = let kind : true ≡ false = ap (λ (n : ℕ). n == 2) (same_kind (Drive run) (Step other) line reads.said e) in absurd cc
+drive_only line run reads (Step other) e = let kind : true ≡ false = ap (λ (n : ℕ). n == 2) (same_kind true (Drive run) (Step other) line reads.said e) in absurd cc
 drive_only line run reads (Drive other) e = let same = reads.back other e in cc
-drive_only line run reads Drain e = let kind : true ≡ false = ap (λ (n : ℕ). n == 2) (same_kind (Drive run) Drain line reads.said e) in absurd cc
-drive_only line run reads Totals e = let kind : true ≡ false = ap (λ (n : ℕ). n == 2) (same_kind (Drive run) Totals line reads.said e) in absurd cc
-drive_only line run reads Ccbs e = let kind : true ≡ false = ap (λ (n : ℕ). n == 2) (same_kind (Drive run) Ccbs line reads.said e) in absurd cc
+drive_only line run reads Drain e = let kind : true ≡ false = ap (λ (n : ℕ). n == 2) (same_kind true (Drive run) Drain line reads.said e) in absurd cc
+drive_only line run reads Totals e = let kind : true ≡ false = ap (λ (n : ℕ). n == 2) (same_kind true (Drive run) Totals line reads.said e) in absurd cc
+drive_only line run reads Ccbs e = let kind : true ≡ false = ap (λ (n : ℕ). n == 2) (same_kind true (Drive run) Ccbs line reads.said e) in absurd cc
+drive_only line run reads Quit e = absurd cc
+drive_only line run reads Help e = absurd cc
 
 pub drive_reads : (line : List ℕ) (run : ℕ) → Reads drive_text line (Some run) → Reads own_text line (Some (Drive run))
 drive_reads line run reads = record { said = reads.said; back = λ request e. drive_only line run reads request e }
@@ -143,9 +159,102 @@ none_own line no_drain no_totals no_ccbs step drive (Drive run) e = let same = d
 none_own line no_drain no_totals no_ccbs step drive Drain e = absurd (not_this (codes "drain") line no_drain refl e)
 none_own line no_drain no_totals no_ccbs step drive Totals e = absurd (not_this (codes "totals") line no_totals refl e)
 none_own line no_drain no_totals no_ccbs step drive Ccbs e = absurd (not_this (codes "ccbs") line no_ccbs refl e)
+none_own line no_drain no_totals no_ccbs step drive Quit e = absurd cc
+none_own line no_drain no_totals no_ccbs step drive Help e = absurd cc
 
 pub none_reads : (line : List ℕ) → bytes_eq line (codes "drain") ≡ false → bytes_eq line (codes "totals") ≡ false → bytes_eq line (codes "ccbs") ≡ false → Reads step_text line None → Reads drive_text line None → Reads own_text line None
 none_reads line no_drain no_totals no_ccbs step drive = record { said = tt; back = λ request e. none_own line no_drain no_totals no_ccbs step drive request e }
+
+-- ---- what is asked for only where lines are answered
+
+told_off : (line : List ℕ) (request : Request) → told_text false request ≡ Some line → ⊥
+told_off line (Call call) e = cc
+told_off line (Step run) e = cc
+told_off line (Drive run) e = cc
+told_off line Drain e = cc
+told_off line Totals e = cc
+told_off line Ccbs e = cc
+told_off line Quit e = cc
+told_off line Help e = cc
+
+-- ---- either
+
+own_low : (line : List ℕ) (request : Request) → own_text request ≡ Some line → kind_at line < 6
+unfolding kind_of
+own_low line (Call call) e = absurd cc
+own_low line (Step run) e = let kind : kind_at line ≡ 1 = kind_is true (Step run) line e in omega (arith, kind)
+own_low line (Drive run) e = let kind : kind_at line ≡ 2 = kind_is true (Drive run) line e in omega (arith, kind)
+own_low line Drain e = let kind : kind_at line ≡ 3 = kind_is true Drain line e in omega (arith, kind)
+own_low line Totals e = let kind : kind_at line ≡ 4 = kind_is true Totals line e in omega (arith, kind)
+own_low line Ccbs e = let kind : kind_at line ≡ 5 = kind_is true Ccbs line e in omega (arith, kind)
+own_low line Quit e = absurd cc
+own_low line Help e = absurd cc
+
+told_high : (told : Bool) (line : List ℕ) (request : Request) → told_text told request ≡ Some line → 6 ≤ kind_at line
+unfolding kind_of
+told_high false line request e = absurd (told_off line request e)
+told_high true line (Call call) e = absurd cc
+told_high true line (Step run) e = absurd cc
+told_high true line (Drive run) e = absurd cc
+told_high true line Drain e = absurd cc
+told_high true line Totals e = absurd cc
+told_high true line Ccbs e = absurd cc
+told_high true line Quit e = let kind : kind_at line ≡ 6 = kind_is true Quit line e in omega (arith, kind)
+told_high true line Help e = let kind : kind_at line ≡ 7 = kind_is true Help line e in omega (arith, kind)
+
+not_both : (told : Bool) (line : List ℕ) (one other : Request) → told_text told one ≡ Some line → own_text other ≡ Some line → ⊥
+not_both told line one other e f =
+    let high = told_high told line one e in
+    let low = own_low line other f in
+    omega (arith, high, low)
+
+told_said : (told : Bool) (line : List ℕ) (request : Request) → told_text told request ≡ Some line → named_text told request ≡ Some line
+told_said false line request e = absurd (told_off line request e)
+told_said true line (Call call) e = absurd cc
+told_said true line (Step run) e = absurd cc
+told_said true line (Drive run) e = absurd cc
+told_said true line Drain e = absurd cc
+told_said true line Totals e = absurd cc
+told_said true line Ccbs e = absurd cc
+told_said true line Quit e = e
+told_said true line Help e = e
+
+told_back : (told : Bool) (line : List ℕ) (one : Request) → Reads (told_text told) line (Some one) → (request : Request) → named_text told request ≡ Some line → ◌≡◌ {A = Option Request} (Some one) (Some request)
+told_back told line one reads (Call call) e = absurd (not_both told line one (Call call) reads.said e)
+told_back told line one reads (Step run) e = absurd (not_both told line one (Step run) reads.said e)
+told_back told line one reads (Drive run) e = absurd (not_both told line one (Drive run) reads.said e)
+told_back told line one reads Drain e = absurd (not_both told line one Drain reads.said e)
+told_back told line one reads Totals e = absurd (not_both told line one Totals reads.said e)
+told_back told line one reads Ccbs e = absurd (not_both told line one Ccbs reads.said e)
+told_back told line one reads Quit e = reads.back Quit e
+told_back told line one reads Help e = reads.back Help e
+
+pub told_is : (told : Bool) (line : List ℕ) (one : Request) → Reads (told_text told) line (Some one) → Reads (named_text told) line (Some one)
+told_is told line one reads = record { said = told_said told line one reads.said; back = λ request e. told_back told line one reads request e }
+
+plain_said : (told : Bool) (line : List ℕ) (read : Option Request) → IfSome read (λ request. own_text request ≡ Some line) → IfSome read (λ request. named_text told request ≡ Some line)
+plain_said told line None e = tt
+plain_said told line (Some (Call call)) e = absurd cc
+plain_said told line (Some (Step run)) e = e
+plain_said told line (Some (Drive run)) e = e
+plain_said told line (Some Drain) e = e
+plain_said told line (Some Totals) e = e
+plain_said told line (Some Ccbs) e = e
+plain_said told line (Some Quit) e = absurd cc
+plain_said told line (Some Help) e = absurd cc
+
+plain_back : (told : Bool) (line : List ℕ) (read : Option Request) → Reads (told_text told) line None → Reads own_text line read → (request : Request) → named_text told request ≡ Some line → read ≡ Some request
+plain_back told line read none own (Call call) e = absurd cc
+plain_back told line read none own (Step run) e = own.back (Step run) e
+plain_back told line read none own (Drive run) e = own.back (Drive run) e
+plain_back told line read none own Drain e = own.back Drain e
+plain_back told line read none own Totals e = own.back Totals e
+plain_back told line read none own Ccbs e = own.back Ccbs e
+plain_back told line read none own Quit e = let same = none.back Quit e in absurd cc
+plain_back told line read none own Help e = let same = none.back Help e in absurd cc
+
+pub plain_is : (told : Bool) (line : List ℕ) (read : Option Request) → Reads (told_text told) line None → Reads own_text line read → Reads (named_text told) line read
+plain_is told line read none own = record { said = plain_said told line read own.said; back = λ request e. plain_back told line read none own request e }
 
 -- ---- a call
 
@@ -183,55 +292,65 @@ calls_read line word held (Err fault) reads is = tt
 
 -- ---- what a line asks for
 
-own_no_call : (line : List ℕ) (request : Request) (call : TheCall) → own_text request ≡ Some line → call_text call ≡ Some line → ⊥
+word_said : (told : Bool) (line : List ℕ) (request : Request) → named_text told request ≡ Some line → request_text told request ≡ Some line
+word_said told line (Call call) e = absurd cc
+word_said told line (Step run) e = e
+word_said told line (Drive run) e = e
+word_said told line Drain e = e
+word_said told line Totals e = e
+word_said told line Ccbs e = e
+word_said told line Quit e = e
+word_said told line Help e = e
+
+word_no_call : (told : Bool) (line : List ℕ) (request : Request) (call : TheCall) → named_text told request ≡ Some line → call_text call ≡ Some line → ⊥
 unfolding kind_of
-own_no_call line (Call other) call e f = absurd cc
-own_no_call line (Step run) call e f = let kind : false ≡ true = ap (λ (n : ℕ). n == 0) (same_kind (Step run) (Call call) line e f) in absurd cc
-own_no_call line (Drive run) call e f = let kind : false ≡ true = ap (λ (n : ℕ). n == 0) (same_kind (Drive run) (Call call) line e f) in absurd cc
-own_no_call line Drain call e f = let kind : false ≡ true = ap (λ (n : ℕ). n == 0) (same_kind Drain (Call call) line e f) in absurd cc
-own_no_call line Totals call e f = let kind : false ≡ true = ap (λ (n : ℕ). n == 0) (same_kind Totals (Call call) line e f) in absurd cc
-own_no_call line Ccbs call e f = let kind : false ≡ true = ap (λ (n : ℕ). n == 0) (same_kind Ccbs (Call call) line e f) in absurd cc
+word_no_call told line (Call other) call e f = cc
+word_no_call told line (Step run) call e f = let kind : false ≡ true = ap (λ (n : ℕ). n == 0) (same_kind told (Step run) (Call call) line e f) in cc
+word_no_call told line (Drive run) call e f = let kind : false ≡ true = ap (λ (n : ℕ). n == 0) (same_kind told (Drive run) (Call call) line e f) in cc
+word_no_call told line Drain call e f = let kind : false ≡ true = ap (λ (n : ℕ). n == 0) (same_kind told Drain (Call call) line e f) in cc
+word_no_call told line Totals call e f = let kind : false ≡ true = ap (λ (n : ℕ). n == 0) (same_kind told Totals (Call call) line e f) in cc
+word_no_call told line Ccbs call e f = let kind : false ≡ true = ap (λ (n : ℕ). n == 0) (same_kind told Ccbs (Call call) line e f) in cc
+word_no_call told line Quit call e f = let kind : false ≡ true = ap (λ (n : ℕ). n == 0) (same_kind told Quit (Call call) line e f) in cc
+word_no_call told line Help call e f = let kind : false ≡ true = ap (λ (n : ℕ). n == 0) (same_kind told Help (Call call) line e f) in cc
 
-own_said : (line : List ℕ) (request : Request) → own_text request ≡ Some line → request_text request ≡ Some line
-own_said line (Call call) e = absurd cc
-own_said line (Step run) e = e
-own_said line (Drive run) e = e
-own_said line Drain e = e
-own_said line Totals e = e
-own_said line Ccbs e = e
+word_back : (told : Bool) (line : List ℕ) (one : Request) → Reads (named_text told) line (Some one) → (request : Request) → request_text told request ≡ Some line → ◌≡◌ {A = Option Request} (Some one) (Some request)
+word_back told line one reads (Call call) e = absurd (word_no_call told line one call reads.said e)
+word_back told line one reads (Step run) e = reads.back (Step run) e
+word_back told line one reads (Drive run) e = reads.back (Drive run) e
+word_back told line one reads Drain e = reads.back Drain e
+word_back told line one reads Totals e = reads.back Totals e
+word_back told line one reads Ccbs e = reads.back Ccbs e
+word_back told line one reads Quit e = reads.back Quit e
+word_back told line one reads Help e = reads.back Help e
 
-own_back : (line : List ℕ) (own : Request) → Reads own_text line (Some own) → (request : Request) → request_text request ≡ Some line → ◌≡◌ {A = Option Request} (Some own) (Some request)
-own_back line own reads (Call call) e = absurd (own_no_call line own call reads.said e)
-own_back line own reads (Step run) e = reads.back (Step run) e
-own_back line own reads (Drive run) e = reads.back (Drive run) e
-own_back line own reads Drain e = reads.back Drain e
-own_back line own reads Totals e = reads.back Totals e
-own_back line own reads Ccbs e = reads.back Ccbs e
+pub word_is : (told : Bool) (line : List ℕ) (one : Request) → Reads (named_text told) line (Some one) → Reads (request_text told) line (Some one)
+word_is told line one reads = record { said = word_said told line one reads.said; back = λ request e. word_back told line one reads request e }
 
-pub own_is : (line : List ℕ) (own : Request) → Reads own_text line (Some own) → Reads request_text line (Some own)
-own_is line own reads = record { said = own_said line own reads.said; back = λ request e. own_back line own reads request e }
+call_is_back : (told : Bool) (line : List ℕ) (call : TheCall) → Reads (named_text told) line None → Reads call_text line (Some call) → (request : Request) → request_text told request ≡ Some line → ◌≡◌ {A = Option Request} (Some (Call call)) (Some request)
+call_is_back told line call word reads (Call other) e = let same = reads.back other e in cc
+call_is_back told line call word reads (Step run) e = let same = word.back (Step run) e in absurd cc
+call_is_back told line call word reads (Drive run) e = let same = word.back (Drive run) e in absurd cc
+call_is_back told line call word reads Drain e = let same = word.back Drain e in absurd cc
+call_is_back told line call word reads Totals e = let same = word.back Totals e in absurd cc
+call_is_back told line call word reads Ccbs e = let same = word.back Ccbs e in absurd cc
+call_is_back told line call word reads Quit e = let same = word.back Quit e in absurd cc
+call_is_back told line call word reads Help e = let same = word.back Help e in absurd cc
 
-call_is_back : (line : List ℕ) (call : TheCall) → Reads own_text line None → Reads call_text line (Some call) → (request : Request) → request_text request ≡ Some line → ◌≡◌ {A = Option Request} (Some (Call call)) (Some request)
-call_is_back line call own reads (Call other) e = let same = reads.back other e in cc
-call_is_back line call own reads (Step run) e = let same = own.back (Step run) e in absurd cc
-call_is_back line call own reads (Drive run) e = let same = own.back (Drive run) e in absurd cc
-call_is_back line call own reads Drain e = let same = own.back Drain e in absurd cc
-call_is_back line call own reads Totals e = let same = own.back Totals e in absurd cc
-call_is_back line call own reads Ccbs e = let same = own.back Ccbs e in absurd cc
+pub call_is : (told : Bool) (line : List ℕ) (call : TheCall) → Reads (named_text told) line None → Reads call_text line (Some call) → Reads (request_text told) line (Some (Call call))
+call_is told line call word reads = record { said = reads.said; back = λ request e. call_is_back told line call word reads request e }
 
-pub call_is : (line : List ℕ) (call : TheCall) → Reads own_text line None → Reads call_text line (Some call) → Reads request_text line (Some (Call call))
-call_is line call own reads = record { said = reads.said; back = λ request e. call_is_back line call own reads request e }
+none_is_back : (told : Bool) (line : List ℕ) → Reads (named_text told) line None → Reads call_text line None → (request : Request) → request_text told request ≡ Some line → ◌≡◌ {A = Option Request} None (Some request)
+none_is_back told line word reads (Call other) e = let same = reads.back other e in absurd cc
+none_is_back told line word reads (Step run) e = word.back (Step run) e
+none_is_back told line word reads (Drive run) e = word.back (Drive run) e
+none_is_back told line word reads Drain e = word.back Drain e
+none_is_back told line word reads Totals e = word.back Totals e
+none_is_back told line word reads Ccbs e = word.back Ccbs e
+none_is_back told line word reads Quit e = word.back Quit e
+none_is_back told line word reads Help e = word.back Help e
 
-none_is_back : (line : List ℕ) → Reads own_text line None → Reads call_text line None → (request : Request) → request_text request ≡ Some line → ◌≡◌ {A = Option Request} None (Some request)
-none_is_back line own reads (Call other) e = let same = reads.back other e in absurd cc
-none_is_back line own reads (Step run) e = own.back (Step run) e
-none_is_back line own reads (Drive run) e = own.back (Drive run) e
-none_is_back line own reads Drain e = own.back Drain e
-none_is_back line own reads Totals e = own.back Totals e
-none_is_back line own reads Ccbs e = own.back Ccbs e
-
-pub none_is : (line : List ℕ) → Reads own_text line None → Reads call_text line None → Reads request_text line None
-none_is line own reads = record { said = tt; back = λ request e. none_is_back line own reads request e }
+pub none_is : (told : Bool) (line : List ℕ) → Reads (named_text told) line None → Reads call_text line None → Reads (request_text told) line None
+none_is told line word reads = record { said = tt; back = λ request e. none_is_back told line word reads request e }
 
 -- ---- a number behind a word
 

@@ -1,25 +1,28 @@
 -- What is out of the trace of an engine that was opened, or was not.
-use Rattle.std.proofs.Common.{◌≡◌, ◌∙◌, ℕ, Bool, true, false, Option, Some, Result, Ok, Err, List, [], ◌++◌, length, take, refl, sym, ap, subst, append-nil, inl, inr, ◌⊎◌, arith}
-use Rattle.std.specs.Prelude.{IfErr, OnErr}
+use Rattle.std.proofs.Common.{◌≡◌, ◌∙◌, ℕ, Bool, true, false, Option, Some, Result, Ok, Err, List, [], ◌++◌, length, take, refl, sym, ap, subst, append_assoc, append-nil, inl, inr, ◌⊎◌, arith}
+use Rattle.std.specs.Prelude.{IfErr, OnErr, OnOk}
 use Rattle.std.specs.Fmt.{option_append}
 use Rattle.std.specs.Io.KnownBytes.{Appends}
 use Rattle.std.proofs.KnownBytes.{Appends-nil}
 use Rattle.std.proofs.lemmas.List.{take_all, take_at}
+use Rattle.std.proofs.lemmas.List.Concat.{flat_map-append}
 use Rattle.world_calls.specs.declared.record.Record.{Record}
 use Rattle.world_calls.specs.declared.totals.Totals.{Totals}
 use Rattle.world_calls.specs.declared.trace.Version.{Version}
-use Rattle.engine_core.specs.ByNumber.{IsBehind, opened_numbered, sums_behind}
+use Rattle.engine_core.specs.ByNumber.{NumberedState, IsBehind, IsHistory, opened_numbered, sums_behind}
 use Rattle.trace.specs.Growing.{FailsBySink, Goes, IsFront, PrintsOn, StopsIn}
 use Rattle.trace.specs.Sinks.{HasFailed}
-use Rattle.trace.specs.TraceText.{header, lines_text, records_text, totals_text}
+use Rattle.trace.specs.TraceText.{header, records_text, totals_text}
 use Rattle.trace.proofs.Grown.{goes_both, stops_on}
 use Rattle.trace.proofs.Printing.{append_nothing, no_records}
 use Rattle.world.specs.World.{Setup, World, opening, version_of}
 use Rattle.world.specs.WorldRun.{WorldRun}
-use Rattle.world.specs.Flat.{flat}
+use Rattle.world.specs.Event.{Event, Reply}
+use Rattle.world.specs.Flat.{events_of, flat}
+use Rattle.world_laws.proofs.Leads.{leads_split}
 use Rattle.world.specs.TotalsOf.{TotalsOf, totals_in}
-use Rattle.host_live.specs.Growth.{Grows, GrowsBy, PrintedState, opened_printed, went, stopped, stayed}
-use Rattle.host_live.specs.Telling.{IsBegun, IsWrittenOut, Serves, front_text, text_of}
+use Rattle.host_live.specs.Growth.{Grows, PrintedState, opened_printed, resumed_printed, went, stopped, stayed}
+use Rattle.host_live.specs.Telling.{Continues, IsBegun, IsContinued, IsContinuedInPart, IsWrittenOut, Serves}
 
 -- ---- nothing was asked yet
 
@@ -131,6 +134,58 @@ module _ (setup : Setup) (engine : PrintedState) (base at : Option (List ℕ)) (
   serves_last (Ok done) totals to whole same prints stops = out_so totals to whole same prints
   serves_last (Err fault) totals to whole same prints stops = begun_last totals to whole same stops
 
+-- the outlet was told that nothing more comes, or could not be told
+pub settled_so : {T E : Type 0} (r : Result T E) (setup : Setup) (base at to : Option (List ℕ)) → to ≡ at → IsWrittenOut setup base at → Serves setup base r to
+settled_so (Ok done) setup base at to same out = subst (IsWrittenOut setup base) (sym same) out
+settled_so (Err fault) setup base at to same out = record {
+  records = out.records;
+  totals = out.totals;
+  sums = out.sums;
+  bytes = out.bytes;
+  is = inl out.is;
+  front = record { handed = out.bytes; rest = []; whole = sym (append-nil out.bytes); told = subst (λ (t : Option (List ℕ)). Appends base t out.bytes) (sym same) out.told };
+}
+
 pub fails_so : {T E : Type 0} (r : Result T E) (failed fails : ℕ) → FailsBySink failed r fails → IfErr r (λ _. HasFailed failed fails)
 fails_so (Ok done) failed fails it = tt
 fails_so (Err fault) failed fails it = it
+
+-- ---- an engine that stood behind a history went on, and its records went out as far as they did
+
+-- a front of a history is one
+shorter : (setup : Setup) (xs ys : List Record) → IsHistory setup (xs ++ ys) → IsHistory setup xs
+shorter setup xs ys history =
+    let parts = leads_split setup (opening setup) (flat xs) (flat ys) history.0 (subst (λ (es : List (Event × Reply)). WorldRun setup es history.0) (flat_map-append events_of xs ys) history.1) in
+    (parts.0, parts.1)
+
+module _ (start : NumberedState) (count : ℕ) (engine : PrintedState) (base at : Option (List ℕ)) (failed fails : ℕ) (grows : Grows (resumed_printed count start) base failed engine at fails) (records : List Record) (behind_start : IsBehind records start) where
+  abbrev its : Version
+  its = version_of start.setup
+
+  history_on : IsHistory start.setup (records ++ grows.more)
+  history_on =
+      let on = grows.by.follows records behind_start in
+      (on.world, subst (λ (s : Setup). WorldRun s (flat (records ++ grows.more)) on.world) grows.by.setup on.leads)
+
+  continued_in_part : IsContinuedInPart start.setup records base at
+  continued_in_part = elim grows.by.printed.prints [
+    | went a b goes none ↦
+        record { more = grows.more; history = history_on; bytes = goes.more; is = goes.is; front = record { handed = goes.handed; rest = engine.printed.lines.waiting; whole = goes.whole; told = goes.told } }
+    | stopped a b shown rest whole stops fault ↦
+        let longer : records ++ grows.more ≡ (records ++ shown) ++ rest = ap (λ (t : List Record). records ++ t) whole ∙ sym (append_assoc records shown rest) in
+        record { more = shown; history = shorter start.setup (records ++ shown) rest (subst (IsHistory start.setup) longer history_on); bytes = stops.more; is = stops.is; front = stops.front }
+    | stayed a b same still ↦ clash false refl a
+  ]
+
+  continued : engine.printed.lines.waiting ≡ [] → engine.printed.has_failed ≡ false → IsContinued start.setup records base at
+  continued all whole = elim grows.by.printed.prints [
+    | went a b goes none ↦
+        let handed : goes.more ≡ goes.handed = goes.whole ∙ (ap (λ (t : List ℕ). goes.handed ++ t) all ∙ append-nil goes.handed) in
+        record { more = grows.more; history = history_on; bytes = goes.more; is = goes.is; told = subst (Appends base at) (sym handed) goes.told }
+    | stopped a b shown rest faulty stops fault ↦ clash engine.printed.has_failed whole b
+    | stayed a b same still ↦ clash engine.printed.has_failed whole b
+  ]
+
+  pub continues_so : {T E : Type 0} (r : Result T E) → OnOk r (engine.printed.lines.waiting ≡ []) → OnOk r (engine.printed.has_failed ≡ false) → Continues start.setup records base r at
+  continues_so (Ok done) all whole = continued all whole
+  continues_so (Err fault) all whole = continued_in_part

@@ -1,5 +1,5 @@
 -- What a record finds: some history is behind the engine, so that it has a text.
-use Rattle.std.proofs.Common.{◌≡◌, ◌∙◌, List, [], ◌∷◌, ◌++◌, refl, sym, ap, subst}
+use Rattle.std.proofs.Common.{◌≡◌, ◌∙◌, ℕ, List, [], ◌∷◌, ◌++◌, refl, sym, ap, subst}
 use Rattle.world_calls.specs.declared.record.Record.{Record}
 use Rattle.world_calls.specs.declared.trace.Version.{Version}
 use Rattle.engine_core.specs.ByNumber.{NumberedState, IsBehind, RecordFollows, opened_numbered}
@@ -10,7 +10,7 @@ use Rattle.world.specs.Lawful.{IsLawful}
 use Rattle.world.specs.WorldRun.{WorldRun}
 use Rattle.world.specs.Flat.{flat}
 use Rattle.host_live.specs.declared.printed.Printed.{Printed}
-use Rattle.host_live.specs.Growth.{IsUnderway}
+use Rattle.host_live.specs.Growth.{IsUnderway, StandsBehind}
 
 last_has : (version : Version) (records : List Record) (told : Record) → AllHaveText version (records ++ told ∷ []) → HasText version told
 last_has version [] told all = all.0
@@ -46,4 +46,12 @@ underway_first setup engine printed lawful opened version = record {
   version = version ∙ ap (λ (e : NumberedState). version_of e.setup) (sym opened);
   records = [];
   behind = subst (IsBehind []) (sym opened) (record { world = opening setup; leads = refl; is = refl });
+}
+
+pub underway_resumed : (setup : Setup) (engine : NumberedState) (printed : Printed) (count : ℕ) → IsLawful setup → engine.setup ≡ setup → printed.lines.version ≡ version_of setup → StandsBehind count engine → IsUnderway engine printed
+underway_resumed setup engine printed count lawful same version stands = record {
+  lawful = subst IsLawful (sym same) lawful;
+  version = version ∙ ap version_of (sym same);
+  records = stands.records;
+  behind = stands.behind;
 }

@@ -1,5 +1,5 @@
 -- An engine whose records are printed as they come, and how that goes on.
-use Rattle.std.specs.Prelude.{◌≡◌, ◌+◌, ℕ, Bool, true, false, Option, Some, None, Result, Ok, Err, List, [], ◌∷◌, ◌++◌, length}
+use Rattle.std.specs.Prelude.{◌≡◌, ◌+◌, ℕ, true, false, Option, Some, None, Result, Ok, Err, List, [], ◌∷◌, ◌++◌, length}
 use Rattle.world_calls.specs.declared.call.Call.{Call}
 use Rattle.world_calls.specs.declared.call_answer.CallAnswer.{CallAnswer}
 use Rattle.world_calls.specs.declared.record.Record.{Record}
@@ -8,7 +8,7 @@ use Rattle.world_calls.specs.declared.trace.Version.{Version}
 use Rattle.world.specs.World.{Setup, version_of}
 use Rattle.world.specs.Lawful.{IsLawful}
 use Rattle.engine_core.specs.ByNumber.{NumberedState, IsAdvanceOf, IsBehind, opened_numbered}
-use Rattle.trace.specs.Growing.{Goes, GrowingState, StopsIn}
+use Rattle.trace.specs.Growing.{Goes, StopsIn}
 use Rattle.trace.specs.Sinks.{HasFailed}
 use Rattle.trace.specs.TraceText.{header, records_text}
 use Rattle.host_live.specs.declared.printed.Printed.{Printed}
@@ -24,9 +24,23 @@ pub record PrintedState : Type 0 where
 abbrev pub begun : Version → Printed
 begun version = record { lines = record { version = version; waiting = header version }; count = 0; has_failed = false }
 
+-- the lines of so many records went out before
+abbrev pub resumed : Version → ℕ → Printed
+resumed version count = record { lines = record { version = version; waiting = [] }; count = count; has_failed = false }
+
 -- nothing was asked
 abbrev pub opened_printed : Setup → PrintedState
 opened_printed setup = record { engine = opened_numbered setup; printed = begun (version_of setup) }
+
+-- nothing was asked since these many records
+abbrev pub resumed_printed : ℕ → NumberedState → PrintedState
+resumed_printed count engine = record { engine = engine; printed = resumed (version_of engine.setup) count }
+
+-- a history of so many records is behind the engine
+pub record StandsBehind (count : ℕ) (engine : NumberedState) : Type 0 where
+  pub records : List Record
+  pub behind : IsBehind records engine
+  pub counted : count ≡ length records
 
 -- some history is behind the engine, and the trace is of the version of such histories
 pub record IsUnderway (engine : NumberedState) (printed : Printed) : Type 0 where

@@ -1,12 +1,12 @@
 -- How a request is spelled: as the line of a call, or by a word of its own.
-use Rattle.std.specs.Prelude.{ℕ, Option, Some, None, List, codes}
+use Rattle.std.specs.Prelude.{ℕ, Bool, true, Option, Some, None, List, codes}
 use Rattle.std.specs.Fmt.{option_append}
 use Rattle.trace_lines.specs.Calls.{values_of, word_of}
 use Rattle.trace_lines.specs.Lines.{line_text}
 use Rattle.trace_lines.specs.Texts.{number_text}
 use Rattle.world_calls.specs.declared.call.Call.{Call as TheCall}
 use Rattle.host_live.specs.declared.request.Request.{Request}
-use Rattle.host_live.specs.declared.request.Request.TheVariants.{Call, Step, Drive, Drain, Totals, Ccbs}
+use Rattle.host_live.specs.declared.request.Request.TheVariants.{Call, Step, Drive, Drain, Totals, Ccbs, Quit, Help}
 
 abbrev pub call_text : TheCall → Option (List ℕ)
 call_text call = line_text (word_of call) (values_of call)
@@ -17,7 +17,7 @@ step_text run = option_append (Some (codes "step ")) (number_text run)
 abbrev pub drive_text : ℕ → Option (List ℕ)
 drive_text run = option_append (Some (codes "drive ")) (number_text run)
 
--- what is asked for that is no call
+-- what is asked for that is no call, whether lines are answered or not
 abbrev pub own_text : Request → Option (List ℕ)
 own_text (Call call) = None
 own_text (Step run) = step_text run
@@ -25,7 +25,21 @@ own_text (Drive run) = drive_text run
 own_text Drain = Some (codes "drain")
 own_text Totals = Some (codes "totals")
 own_text Ccbs = Some (codes "ccbs")
+own_text Quit = None
+own_text Help = None
 
-abbrev pub request_text : Request → Option (List ℕ)
-request_text (Call call) = call_text call
-request_text request = own_text request
+-- what is asked for only where lines are answered
+abbrev pub told_text : Bool → Request → Option (List ℕ)
+told_text true Quit = Some (codes "quit")
+told_text true Help = Some (codes "help")
+told_text told request = None
+
+-- what is asked for by a word of its own
+abbrev pub named_text : Bool → Request → Option (List ℕ)
+named_text told Quit = told_text told Quit
+named_text told Help = told_text told Help
+named_text told request = own_text request
+
+abbrev pub request_text : Bool → Request → Option (List ℕ)
+request_text told (Call call) = call_text call
+request_text told request = named_text told request

@@ -1,10 +1,11 @@
 -- What of the trace of a live engine is out.
-use Rattle.std.specs.Prelude.{◌≡◌, ◌⊎◌, ℕ, Option, Some, List, Result, Ok, Err, take}
+use Rattle.std.specs.Prelude.{◌≡◌, ◌⊎◌, ◌++◌, ℕ, Option, Some, List, Result, Ok, Err, take}
 use Rattle.std.specs.Fmt.{option_append}
 use Rattle.std.specs.Io.KnownBytes.{Appends}
 use Rattle.world_calls.specs.declared.record.Record.{Record}
 use Rattle.world_calls.specs.declared.totals.Totals.{Totals}
 use Rattle.world_calls.specs.declared.trace.Version.{Version}
+use Rattle.engine_core.specs.ByNumber.{IsHistory}
 use Rattle.trace.specs.Growing.{IsFront}
 use Rattle.trace.specs.TraceText.{header, lines_text, records_text}
 use Rattle.world.specs.World.{Setup, version_of}
@@ -41,3 +42,24 @@ pub record IsBegun (setup : Setup) (base at : Option (List ℕ)) : Type 0 where
 abbrev pub Serves : {T E : Type 0} → Setup → Option (List ℕ) → Result T E → Option (List ℕ) → Type 0
 Serves setup base (Ok done) at = IsWrittenOut setup base at
 Serves setup base (Err fault) at = IsBegun setup base at
+
+-- What went out is the lines of records with which a history of an engine of this setup goes on after these ones.
+pub record IsContinued (setup : Setup) (records : List Record) (base at : Option (List ℕ)) : Type 0 where
+  pub more : List Record
+  pub history : IsHistory setup (records ++ more)
+  pub bytes : List ℕ
+  pub is : records_text (version_of setup) more ≡ Some bytes
+  pub told : Appends base at bytes
+
+-- What went out is a front of such lines.
+pub record IsContinuedInPart (setup : Setup) (records : List Record) (base at : Option (List ℕ)) : Type 0 where
+  pub more : List Record
+  pub history : IsHistory setup (records ++ more)
+  pub bytes : List ℕ
+  pub is : records_text (version_of setup) more ≡ Some bytes
+  pub front : IsFront bytes base at
+
+-- what is said of one that stood behind these records, and served to the end of its input, or stopped before
+abbrev pub Continues : {T E : Type 0} → Setup → List Record → Option (List ℕ) → Result T E → Option (List ℕ) → Type 0
+Continues setup records base (Ok done) at = IsContinued setup records base at
+Continues setup records base (Err fault) at = IsContinuedInPart setup records base at

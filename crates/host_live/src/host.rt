@@ -3,6 +3,7 @@
 ghost use Rattle.std.specs.Prelude.{◌≡◌};
 ghost use Rattle.host_live.specs.Growth.{Grows};
 
+use crate::manner::Manner;
 use crate::printed_engine::{Advanced, PrintedEngine};
 use crate::reports::{LineFault, Reports};
 use crate::request::{Request, request_of};
@@ -19,6 +20,39 @@ pub(crate) enum HostFault {
     InternalError,
 }
 
+/// What became of a line.
+#[derive(Clone, Copy)]
+pub(crate) enum Served {
+    /// It is skipped, since it says nothing.
+    Skipped,
+    /// It was carried out.
+    Done,
+    /// It was carried out, and is the last one.
+    Quit,
+    /// It was not carried out.
+    Refused(LineFault),
+}
+
+impl Served {
+    /// Whether it is skipped.
+    pub(crate) fn is_skipped(&self) -> bool {
+        matches!(self, Served::Skipped)
+    }
+
+    /// Whether it is the last line.
+    pub(crate) fn is_last(&self) -> bool {
+        matches!(self, Served::Quit)
+    }
+
+    /// Why it was not carried out.
+    pub(crate) fn fault(&self) -> Option<LineFault> {
+        match self {
+            Served::Refused(fault) => Some(*fault),
+            Served::Skipped | Served::Done | Served::Quit => None,
+        }
+    }
+}
+
 /// The greatest clock reading, in milliseconds, that an engine takes.
 const LAST_READING: u64 = 1 << 62;
 
@@ -27,8 +61,7 @@ const LAST_READING: u64 = 1 << 62;
 pub(crate) struct Host<'a> {
     alloc: Global,
     pub(crate) engine: PrintedEngine<'a>,
-    // Whether a run stays out until it is asked to go on; else it is driven to its end as soon as it starts.
-    is_stepped: bool,
+    manner: Manner,
     // the reading that is taken before the engine is asked next
     pending: Option<u64>,
     // The clock read more than an engine takes: it was told so once, and time stands still.
@@ -40,19 +73,19 @@ fn is_of_steps(request: &Request) -> bool {
     match request {
         Request::Call(call) => matches!(call, Call::Park { .. } | Call::Resume { .. }),
         Request::Step(_) | Request::Drive(_) => true,
-        Request::Drain | Request::Totals | Request::Ccbs => false,
+        Request::Drain | Request::Totals | Request::Ccbs | Request::Quit | Request::Help => false,
     }
 }
 
 impl<'a> Host<'a> {
-    /// The host of an engine that was just opened.
-    pub(crate) fn new(alloc: Global, engine: PrintedEngine<'a>, is_stepped: bool) -> Self
+    /// The host of an engine of which no line asked anything yet.
+    pub(crate) fn new(alloc: Global, engine: PrintedEngine<'a>, manner: Manner) -> Self
         ensures { result.engine ≡ engine.entry }
     {
         Host {
             alloc,
             engine,
-            is_stepped,
+            manner,
             pending: None,
             is_over: false,
         }
@@ -60,7 +93,7 @@ impl<'a> Host<'a> {
 
     /// Carries the line of that number out, which stands without its line feed; none is one that cannot be a line. A clock reading that
     /// is given is taken first, but before a line that is not carried out only if a timer is due. Such a line is reported, and that is no
-    /// fault.
+    /// fault. It returns what became of the line.
     pub(crate) fn serve_line<N: Reports, S: Sink>(
         &mut self,
         line: Option<&str>,
@@ -68,15 +101,15 @@ impl<'a> Host<'a> {
         now: Option<u64>,
         reports: &mut N,
         out: &mut S,
-    ) -> Result<(), HostFault>
+    ) -> Result<Served, HostFault>
         ensures { Grows self.old.engine (S.bytes out.old) (S.failures out.old) self.new.engine (S.bytes out.new) (S.failures out.new) }
     {
         let asked = match line {
             Some(line) => {
                 if is_skipped(line) {
-                    return Ok(());
+                    return Ok(Served::Skipped);
                 }
-                request_of(self.alloc, line)
+                request_of(self.alloc, line, self.manner.is_told)
             }
             None => Ok(None),
         };
@@ -93,7 +126,7 @@ impl<'a> Host<'a> {
         number: usize,
         reports: &mut N,
         out: &mut S,
-    ) -> Result<(), HostFault>
+    ) -> Result<Served, HostFault>
         ensures { Grows self.old.engine (S.bytes out.old) (S.failures out.old) self.new.engine (S.bytes out.new) (S.failures out.new) }
     {
         match asked {
@@ -112,18 +145,15 @@ impl<'a> Host<'a> {
         number: usize,
         reports: &mut N,
         out: &mut S,
-    ) -> Result<(), HostFault>
+    ) -> Result<Served, HostFault>
         ensures { Grows self.old.engine (S.bytes out.old) (S.failures out.old) self.new.engine (S.bytes out.new) (S.failures out.new) }
     {
         self.read_due(out)?;
-        match self.carry_out(request, reports, out) {
-            Ok(Some(fault)) => {
-                reports.refused(fault, number);
-                Ok(())
-            }
-            Ok(None) => Ok(()),
-            Err(fault) => Err(fault),
+        let served = self.carry_out(request, reports, out)?;
+        if let Served::Refused(fault) = served {
+            reports.refused(fault, number);
         }
+        Ok(served)
     }
 
     // Takes the reading that is pending, if a timer is due then.
@@ -176,40 +206,42 @@ impl<'a> Host<'a> {
         Ok(())
     }
 
-    // Carries a request out, or returns why it is not carried out.
+    // Carries a request out, if it is one here.
     fn carry_out<N: Reports, S: Sink>(
         &mut self,
         request: Option<Request>,
         reports: &mut N,
         out: &mut S,
-    ) -> Result<Option<LineFault>, HostFault>
+    ) -> Result<Served, HostFault>
         ensures { Grows self.old.engine (S.bytes out.old) (S.failures out.old) self.new.engine (S.bytes out.new) (S.failures out.new) }
     {
         let Some(request) = request else {
-            return Ok(Some(LineFault::Form));
+            return Ok(Served::Refused(LineFault::Form));
         };
-        if !self.is_stepped && is_of_steps(&request) {
-            return Ok(Some(LineFault::Form));
+        if !self.manner.is_stepped && is_of_steps(&request) {
+            return Ok(Served::Refused(LineFault::Form));
         }
         match request {
             Request::Call(call) => self.call(call, out),
             Request::Step(run) => self.step(run, out),
             Request::Drive(run) => self.drive(run, out),
-            Request::Drain => {
+            request => {
                 self.read_pending(out)?;
-                Ok(None)
-            }
-            Request::Totals => {
-                self.read_pending(out)?;
-                reports.sums(self.engine.totals());
-                Ok(None)
-            }
-            Request::Ccbs => {
-                self.read_pending(out)?;
-                self.tell_ccbs(reports);
-                Ok(None)
+                Ok(self.tell(&request, reports))
             }
         }
+    }
+
+    // Tells what is asked for that makes no record.
+    fn tell<N: Reports>(&self, request: &Request, reports: &mut N) -> Served {
+        match request {
+            Request::Totals => reports.sums(self.engine.totals()),
+            Request::Ccbs => self.tell_ccbs(reports),
+            Request::Help => reports.help(),
+            Request::Quit => return Served::Quit,
+            Request::Call(_) | Request::Step(_) | Request::Drive(_) | Request::Drain => {}
+        }
+        Served::Done
     }
 
     // Tells of each live CCB, by rising number.
@@ -223,16 +255,16 @@ impl<'a> Host<'a> {
     }
 
     // Carries a call out. A run that it starts is driven to its end, unless runs stay out.
-    fn call<S: Sink>(&mut self, call: Call, out: &mut S) -> Result<Option<LineFault>, HostFault>
+    fn call<S: Sink>(&mut self, call: Call, out: &mut S) -> Result<Served, HostFault>
         ensures { Grows self.old.engine (S.bytes out.old) (S.failures out.old) self.new.engine (S.bytes out.new) (S.failures out.new) }
     {
         if !self.is_held(&call) {
-            return Ok(Some(LineFault::NotHeld));
+            return Ok(Served::Refused(LineFault::NotHeld));
         }
         self.read_pending(out)?;
         match self.answered(call, out)? {
-            CallAnswer::Started { run, .. } if !self.is_stepped => self.drive(run, out),
-            _ => Ok(None),
+            CallAnswer::Started { run, .. } if !self.manner.is_stepped => self.drive(run, out),
+            _ => Ok(Served::Done),
         }
     }
 
@@ -246,27 +278,27 @@ impl<'a> Host<'a> {
     }
 
     // Drives a run that is out to its next stop.
-    fn step<S: Sink>(&mut self, run: u32, out: &mut S) -> Result<Option<LineFault>, HostFault>
+    fn step<S: Sink>(&mut self, run: u32, out: &mut S) -> Result<Served, HostFault>
         ensures { Grows self.old.engine (S.bytes out.old) (S.failures out.old) self.new.engine (S.bytes out.new) (S.failures out.new) }
     {
         match self.advance(run, out)? {
-            Advanced::NotOut => Ok(Some(LineFault::NotHeld)),
-            Advanced::Goes | Advanced::Ended => Ok(None),
+            Advanced::NotOut => Ok(Served::Refused(LineFault::NotHeld)),
+            Advanced::Goes | Advanced::Ended => Ok(Served::Done),
         }
     }
 
     // Drives a run that is out to its end.
-    fn drive<S: Sink>(&mut self, run: u32, out: &mut S) -> Result<Option<LineFault>, HostFault>
+    fn drive<S: Sink>(&mut self, run: u32, out: &mut S) -> Result<Served, HostFault>
         ensures { Grows self.old.engine (S.bytes out.old) (S.failures out.old) self.new.engine (S.bytes out.new) (S.failures out.new) }
     {
         for _ in 0..u64::MAX {
             match self.advance(run, out)? {
-                Advanced::NotOut => return Ok(Some(LineFault::NotHeld)),
+                Advanced::NotOut => return Ok(Served::Refused(LineFault::NotHeld)),
                 Advanced::Goes => {}
                 Advanced::Ended => break,
             }
         }
-        Ok(None)
+        Ok(Served::Done)
     }
 
     /// Drives the runs that are out to their ends, in the order of their numbers.
@@ -303,7 +335,7 @@ impl<'a> Host<'a> {
         let Host {
             alloc: _,
             engine,
-            is_stepped: _,
+            manner: _,
             pending: _,
             is_over: _,
         } = self;

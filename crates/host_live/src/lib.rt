@@ -7,6 +7,8 @@ mod draft;
 mod host;
 mod input;
 mod lines;
+mod manner;
+mod outlet;
 mod printed;
 mod printed_engine;
 mod reports;
@@ -14,6 +16,8 @@ mod request;
 mod serving;
 
 pub use input::{Came, Input};
+pub use manner::Manner;
+pub use outlet::Outlet;
 pub use reports::{LineFault, Reports};
 pub use request::{Request, request_of};
-pub use serving::{LiveFault, serve};
+pub use serving::{LiveFault, serve, serve_on};

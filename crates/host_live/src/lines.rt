@@ -45,13 +45,19 @@ impl Lines {
         }
     }
 
-    /// Whether the next line is there, so that `next` does not wait.
-    pub(crate) fn is_there<I: Input>(&self, input: &I) -> bool {
-        let taken = self.taken;
-        match input.bytes().get(taken..) {
-            Some(rest) => rest.contains(&b'\n'),
-            None => false,
+    /// Takes the next line, if it is there. Whether it is.
+    pub(crate) fn take_next<I: Input>(&mut self, input: &I) -> bool
+        ensures { self.new.is_ended ≡ self.old.is_ended }
+    {
+        if self.is_whole {
+            self.draft.clear();
+            self.is_whole = false;
         }
+        let is_there = self.take(input);
+        if is_there {
+            self.number = self.number.saturating_add(1);
+        }
+        is_there
     }
 
     /// The line that came, if it is of the form of a line: of 1,024 bytes at most, in UTF-8, without NUL, and with its line feed.
@@ -68,22 +74,15 @@ impl Lines {
         self.number
     }
 
-    /// Waits for the next line, and not longer than until the clock reads `until`, if there is one.
-    pub(crate) fn next<I: Input>(&mut self, input: &mut I, until: Option<u64>) -> Next
+    /// Waits for the next line, which is not there yet, and not longer than until the clock reads `until`, if there is one.
+    pub(crate) fn wait_next<I: Input>(&mut self, input: &mut I, until: Option<u64>) -> Next
         requires ended { IsTrue self.old.is_ended → IsTrue (I.has_ended input.old) }
         ensures failed { result ≡ Failed → IsTrue (I.has_failed input.new) }
         ensures still { result ≢ Failed → I.has_failed input.new ≡ I.has_failed input.old }
         ensures ended { IsTrue self.new.is_ended → IsTrue (I.has_ended input.new) }
         ensures end { result ≡ End → IsTrue (I.has_ended input.new) }
     {
-        if self.is_whole {
-            self.draft.clear();
-            self.is_whole = false;
-        }
         for _ in 0..u64::MAX {
-            if self.take(input) {
-                break;
-            }
             if self.is_ended {
                 return Next::End;
             }
@@ -97,6 +96,9 @@ impl Lines {
                         break;
                     }
                 }
+            }
+            if self.take(input) {
+                break;
             }
         }
         self.number = self.number.saturating_add(1);

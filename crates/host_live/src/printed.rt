@@ -1,9 +1,11 @@
 // A trace that goes out as its records come, of which none is kept. It relies on `trace` for the lines.
 
-ghost use Rattle.std.specs.Prelude.{◌≡◌, ◌-◌, ◌<◌, ◌^◌, ◌∷◌, [], false, true, IfErr, OnOk};
+ghost use Rattle.std.specs.Prelude.{◌≡◌, ◌-◌, ◌<◌, ◌^◌, ◌∷◌, [], None, false, true, IfErr, OnOk};
 ghost use Rattle.trace.specs.HasText.{HasText};
-ghost use Rattle.host_live.specs.Growth.{PrintsAll, begun};
+ghost use Rattle.host_live.specs.Growth.{PrintsAll, begun, resumed};
 
+use crate::outlet::Outlet;
+use crate::reports::LineFault;
 use trace::{Growing, Sink, WriteFailed};
 use world_calls::{Record, Version};
 
@@ -28,6 +30,17 @@ impl Printed {
         }
     }
 
+    /// A trace of so many records, which went out before. Nothing waits.
+    pub(crate) fn resumed(version: Version, count: u64) -> Self
+        ensures { result ≡ resumed version count }
+    {
+        Printed {
+            lines: without_header(version),
+            count,
+            has_failed: false,
+        }
+    }
+
     /// Counts a record, and prints its line.
     pub(crate) fn print<S: Sink>(&mut self, entry: &Record, out: &mut S)
         requires spelled { HasText self.old.lines.version entry.now }
@@ -44,9 +57,38 @@ impl Printed {
         }
     }
 
-    /// Hands on what waits. It reports a write that fails, or failed before.
-    pub(crate) fn hand_on<S: Sink>(&mut self, out: &mut S) -> Result<(), WriteFailed>
+    /// Hands on what waits, and says that nothing more comes for now. It reports a write that fails, or failed before.
+    pub(crate) fn settle<S: Outlet>(&mut self, out: &mut S) -> Result<(), WriteFailed>
         ensures printed { PrintsAll self.old (S.bytes out.old) (S.failures out.old) [] self.new (S.bytes out.new) (S.failures out.new) }
+        ensures all { OnOk result (self.new.lines.waiting ≡ []) }
+        ensures whole { OnOk result (self.new.has_failed ≡ false) }
+        ensures failed { IfErr result (λ _. self.new.has_failed ≡ true) }
+    {
+        self.hand_on(out)?;
+        self.tell_settled(out)
+    }
+
+    /// Hands on what waits, and then answers the line of that number. It reports a write that fails, or failed before.
+    pub(crate) fn answer<S: Outlet>(
+        &mut self,
+        line: usize,
+        fault: Option<LineFault>,
+        out: &mut S,
+    ) -> Result<(), WriteFailed>
+        ensures printed { PrintsAll self.old (S.bytes out.old) (S.failures out.old) [] self.new (S.bytes out.new) (S.failures out.new) }
+        ensures whole { OnOk result (self.new.has_failed ≡ false) }
+        ensures failed { IfErr result (λ _. self.new.has_failed ≡ true) }
+    {
+        match self.hand_on(out) {
+            Ok(()) => self.tell_answer(line, fault, out),
+            Err(failed) => Err(failed),
+        }
+    }
+
+    // Hands on what waits. It reports a write that fails, or failed before.
+    fn hand_on<S: Sink>(&mut self, out: &mut S) -> Result<(), WriteFailed>
+        ensures printed { PrintsAll self.old (S.bytes out.old) (S.failures out.old) [] self.new (S.bytes out.new) (S.failures out.new) }
+        ensures all { OnOk result (self.new.lines.waiting ≡ []) }
         ensures whole { OnOk result (self.new.has_failed ≡ false) }
         ensures failed { IfErr result (λ _. self.new.has_failed ≡ true) }
     {
@@ -54,6 +96,47 @@ impl Printed {
             return Err(WriteFailed);
         }
         match self.lines.hand_on(out) {
+            Ok(()) => Ok(()),
+            Err(failed) => {
+                self.has_failed = true;
+                Err(failed)
+            }
+        }
+    }
+
+    // Says that nothing more comes for now. It reports a write that fails.
+    fn tell_settled<S: Outlet>(&mut self, out: &mut S) -> Result<(), WriteFailed>
+        requires all { self.old.lines.waiting ≡ [] }
+        requires still { self.old.has_failed ≡ false }
+        ensures printed { PrintsAll self.old (S.bytes out.old) (S.failures out.old) [] self.new (S.bytes out.new) (S.failures out.new) }
+        ensures all { self.new.lines.waiting ≡ [] }
+        ensures whole { OnOk result (self.new.has_failed ≡ false) }
+        ensures failed { IfErr result (λ _. self.new.has_failed ≡ true) }
+    {
+        match out.settle() {
+            Ok(()) => Ok(()),
+            Err(failed) => {
+                self.has_failed = true;
+                Err(failed)
+            }
+        }
+    }
+
+    // Answers the line of that number. It reports a write that fails.
+    fn tell_answer<S: Outlet>(
+        &mut self,
+        line: usize,
+        fault: Option<LineFault>,
+        out: &mut S,
+    ) -> Result<(), WriteFailed>
+        // Nothing that the line led to still waits: the outlet took it.
+        requires all { self.old.lines.waiting ≡ [] }
+        requires still { self.old.has_failed ≡ false }
+        ensures printed { PrintsAll self.old (S.bytes out.old) (S.failures out.old) [] self.new (S.bytes out.new) (S.failures out.new) }
+        ensures whole { OnOk result (self.new.has_failed ≡ false) }
+        ensures failed { IfErr result (λ _. self.new.has_failed ≡ true) }
+    {
+        match out.answered(line, fault) {
             Ok(()) => Ok(()),
             Err(failed) => {
                 self.has_failed = true;
@@ -73,4 +156,29 @@ impl Printed {
             Ok(())
         }
     }
+}
+
+// Takes all bytes, and keeps none.
+#[derive(Drop)]
+struct Nowhere;
+
+impl Sink for Nowhere {
+    ghost bytes = { λ _. None };
+
+    ghost failures = { λ _. 0 };
+
+    ghost origin = { λ _. 0 };
+
+    fn write(&mut self, text: &[u8]) -> Result<usize, WriteFailed> {
+        Ok(text.len())
+    }
+}
+
+// The lines of a trace of which the first one went out before.
+fn without_header(version: Version) -> Growing
+    ensures { result ≡ record { version = version; waiting = [] } }
+{
+    let mut lines = Growing::of(version);
+    let _ = lines.hand_on(&mut Nowhere);
+    lines
 }

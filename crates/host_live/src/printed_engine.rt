@@ -10,10 +10,12 @@ ghost use Rattle.engine_transport.specs.Freezing.{IsNextDue};
 ghost use Rattle.trace.specs.Sinks.{HasFailed};
 ghost use Rattle.world.specs.World.{Setup};
 ghost use Rattle.world_calls.specs.declared.record.Record.{Record as TheRecord};
-ghost use Rattle.host_live.specs.Growth.{GrowsBy, Grows, IsMadeBy, opened_printed, record_of_call};
+ghost use Rattle.host_live.specs.Growth.{GrowsBy, Grows, IsMadeBy, StandsBehind, opened_printed, record_of_call, resumed_printed};
 ghost use Rattle.host_live.specs.Telling.{Serves};
 
+use crate::outlet::Outlet;
 use crate::printed::Printed;
+use crate::reports::LineFault;
 use engine_core::{Config, LiveCcb, NumberedEngine};
 use std::alloc::{AllocError, Global};
 use std::marker::Model;
@@ -64,6 +66,18 @@ impl<'a> PrintedEngine<'a> {
         let engine = NumberedEngine::open(alloc, config)?;
         let printed = Printed::of(Version::of(config.helpers()));
         Ok(PrintedEngine { engine, printed })
+    }
+
+    /// An engine of this configuration that stands behind a history of so many records, of which the trace went out before. Nothing waits.
+    pub(crate) fn resumed(config: &Config, engine: NumberedEngine<'a>, count: u64) -> Self
+        requires same { engine.setup ≡ config.now }
+        requires behind { StandsBehind count engine }
+        ensures { result ≡ resumed_printed count engine.entry }
+    {
+        // It is called for what it says of the configuration.
+        let _ = config.queues();
+        let printed = Printed::resumed(Version::of(config.helpers()), count);
+        PrintedEngine { engine, printed }
     }
 
     /// Carries a call out, or refuses it, and prints its record: the answer. `None`, which changes nothing, if the call is no event here.
@@ -158,21 +172,40 @@ impl<'a> PrintedEngine<'a> {
         self.engine.totals(self.printed.count)
     }
 
-    /// Hands on what waits, if nothing more comes for now. It reports a write that failed.
-    pub(crate) fn tell<S: Sink>(&mut self, out: &mut S, is_last: bool) -> Result<(), WriteFailed>
+    /// Hands on what waits, and says that nothing more comes for now. It reports a write that fails, or failed before.
+    pub(crate) fn settle<S: Outlet>(&mut self, out: &mut S) -> Result<(), WriteFailed>
+        ensures printed { GrowsBy [] self.old (S.bytes out.old) (S.failures out.old) self.new (S.bytes out.new) (S.failures out.new) }
+        ensures all { OnOk result (self.new.printed.lines.waiting ≡ []) }
+        ensures whole { OnOk result (self.new.printed.has_failed ≡ false) }
+        ensures failed { IfErr result (λ _. self.new.printed.has_failed ≡ true) }
+    {
+        self.printed.settle(out)
+    }
+
+    /// Hands on what waits, and then answers the line of that number. It reports a write that fails, or failed before.
+    pub(crate) fn answer<S: Outlet>(
+        &mut self,
+        line: usize,
+        fault: Option<LineFault>,
+        out: &mut S,
+    ) -> Result<(), WriteFailed>
         ensures printed { GrowsBy [] self.old (S.bytes out.old) (S.failures out.old) self.new (S.bytes out.new) (S.failures out.new) }
         ensures whole { OnOk result (self.new.printed.has_failed ≡ false) }
         ensures failed { IfErr result (λ _. self.new.printed.has_failed ≡ true) }
     {
-        if is_last {
-            self.printed.hand_on(out)
-        } else {
-            self.printed.is_whole()
-        }
+        self.printed.answer(line, fault, out)
     }
 
-    /// Prints the last line, and hands all on. It reports a write that fails, or failed before.
-    pub(crate) fn end<S: Sink>(self, out: &mut S) -> Result<(), WriteFailed>
+    /// Reports a write that failed.
+    pub(crate) fn is_whole(&self) -> Result<(), WriteFailed>
+        ensures whole { OnOk result (self.now.printed.has_failed ≡ false) }
+        ensures failed { IfErr result (λ _. self.now.printed.has_failed ≡ true) }
+    {
+        self.printed.is_whole()
+    }
+
+    /// Prints the last line, hands all on, and says that nothing more comes. It reports a write that fails, or failed before.
+    pub(crate) fn end<S: Outlet>(self, out: &mut S) -> Result<(), WriteFailed>
         ensures told { (setup : Setup) (base : Option (List ℕ)) (failed : ℕ) → Grows (opened_printed setup) base failed self.entry (S.bytes out.old) (S.failures out.old) → Serves setup base result (S.bytes out.new) }
         ensures failed { (setup : Setup) (base : Option (List ℕ)) (failed : ℕ) → Grows (opened_printed setup) base failed self.entry (S.bytes out.old) (S.failures out.old) → IfErr result (λ _. HasFailed failed (S.failures out.new)) }
     {
@@ -186,6 +219,9 @@ impl<'a> PrintedEngine<'a> {
         if has_failed {
             return Err(WriteFailed);
         }
-        lines.end(totals, out)
+        match lines.end(totals, out) {
+            Ok(()) => out.settle(),
+            Err(failed) => Err(failed),
+        }
     }
 }

@@ -1,4 +1,4 @@
-// Who is told of lines that are not carried out, of sums, and of CCBs. It relies on `world_calls` for sums, and on `engine_core` for
+// Who is told of lines that are not carried out, of sums, of CCBs, and of requests. It relies on `world_calls` for sums, and on `engine_core` for
 // CCBs.
 
 use engine_core::LiveCcb;
@@ -23,4 +23,7 @@ pub trait Reports {
 
     /// A live CCB of the engine's.
     fn ccb(&mut self, live: &LiveCcb);
+
+    /// The list of the requests is asked for.
+    fn help(&mut self);
 }

@@ -3,7 +3,7 @@
 ghost use Rattle.std.specs.Prelude.{◌≡◌, ◌++◌, ℕ, IfOk, List, MatchOption};
 ghost use Rattle.trace_lines.specs.Texts.{number_text};
 ghost use Rattle.trace_lines.specs.Written.{Reads};
-ghost use Rattle.host_live.specs.Requests.{call_text, drive_text, own_text, request_text, step_text};
+ghost use Rattle.host_live.specs.Requests.{call_text, drive_text, own_text, request_text, step_text, told_text, named_text};
 
 use std::alloc::{AllocError, Global};
 use trace_lines::{call_of, long_number, read_line};
@@ -24,13 +24,19 @@ pub enum Request {
     Totals,
     /// `ccbs`: the live CCBs are told.
     Ccbs,
+    /// `quit`: the input ends here. Only where lines are answered.
+    Quit,
+    /// `help`: the list of the requests is told. Only where lines are answered.
+    Help,
 }
 
-/// What a line asks for, which stands without its line feed. None where no request is spelled so. It takes memory for sense bytes alone.
-pub fn request_of(alloc: Global, line: &str) -> Result<Option<Request>, AllocError>
-    ensures { IfOk result (Reads request_text line.now) }
+/// What a line asks for, which stands without its line feed, where lines are answered or not. None where no request is spelled so. It takes
+/// memory for sense bytes alone.
+pub fn request_of(alloc: Global, line: &str, is_told: bool) -> Result<Option<Request>, AllocError>
+    // `quit` and `help` are read only where lines are answered.
+    ensures { IfOk result (Reads (request_text is_told) line.now) }
 {
-    match own_request(line) {
+    match named_request(line, is_told) {
         Some(request) => Ok(Some(request)),
         None => match call_in(alloc, line) {
             Ok(Some(call)) => Ok(Some(Request::Call(call))),
@@ -51,6 +57,32 @@ fn call_in(alloc: Global, line: &str) -> Result<Option<Call>, AllocError>
 }
 
 // What a line asks for that is none of a call.
+fn named_request(line: &str, is_told: bool) -> Option<Request>
+    ensures { Reads (named_text is_told) line.now result }
+{
+    match told_request(line, is_told) {
+        Some(request) => Some(request),
+        None => own_request(line),
+    }
+}
+
+// What a line asks for only where lines are answered.
+fn told_request(line: &str, is_told: bool) -> Option<Request>
+    ensures { Reads (told_text is_told) line.now result }
+{
+    if !is_told {
+        return None;
+    }
+    if line == "quit" {
+        return Some(Request::Quit);
+    }
+    if line == "help" {
+        return Some(Request::Help);
+    }
+    None
+}
+
+// What a line asks for that is none of a call, whether lines are answered or not.
 fn own_request(line: &str) -> Option<Request>
     ensures { Reads own_text line.now result }
 {

@@ -1,19 +1,25 @@
-// A live engine from its opening to the end of its input. It relies on `host` for what lines ask, on `lines` for lines, and on
+// A live engine from its opening, or from where it stands, to the end of its input. It relies on `host` for what lines ask, on `lines` for lines, and on
 // `printed_engine` for what goes out.
 
-ghost use Rattle.std.specs.Prelude.{◌≡◌, ◌≢◌, ℕ, Option, List, Err, IfErr, IfOk, IsTrue, OnOk, false, true};
+ghost use Rattle.std.specs.Prelude.{◌≡◌, ◌≢◌, ℕ, [], Option, List, Ok, Err, IfErr, IfOk, IsTrue, OnOk, false, true};
+ghost use Rattle.engine_core.specs.ByNumber.{IsBehind, NumberedState};
 ghost use Rattle.trace.specs.Sinks.{HasFailed};
 ghost use Rattle.world.specs.World.{Setup};
-ghost use Rattle.host_live.specs.Growth.{Grows, opened_printed};
-ghost use Rattle.host_live.specs.Telling.{IsBegun, Serves};
+ghost use Rattle.world_calls.specs.declared.record.Record.{Record as TheRecord};
+ghost use Rattle.host_live.specs.Growth.{Grows, StandsBehind, opened_printed, resumed_printed};
+ghost use Rattle.host_live.specs.Telling.{Continues, Serves};
+ghost use Rattle.host_live.specs.declared.lines.Next.TheVariants.{End, Failed};
+ghost use Rattle.host_live.specs.declared.serving.Turn.TheVariants.{End as AtEnd};
 ghost use Rattle.host_live.specs.declared.serving.LiveFault.TheVariants.{Unread, Unwritten};
 
-use crate::host::{Host, HostFault};
+use crate::host::{Host, HostFault, Served};
 use crate::input::Input;
 use crate::lines::{Lines, Next};
+use crate::manner::Manner;
+use crate::outlet::Outlet;
 use crate::printed_engine::PrintedEngine;
 use crate::reports::Reports;
-use engine_core::Config;
+use engine_core::{Config, NumberedEngine};
 use std::alloc::Global;
 use trace::{Sink, WriteFailed};
 
@@ -48,15 +54,26 @@ impl From<HostFault> for LiveFault {
     }
 }
 
+/// What came, and what it led to.
+#[derive(Clone, Copy)]
+enum Turn {
+    /// A line.
+    Line(Served),
+    /// A timer was due.
+    Timer,
+    /// The input is at its end.
+    End,
+}
+
 /// Carries out what the lines of an input ask of an engine of this configuration, each as it comes, until the input ends; then the runs that
 /// are out are driven to their ends, unless they are parked. What goes out is the engine's trace: its first line at once, the lines of what a
 /// line led to before the next one is waited for, and the last line at the end. No record is kept. Lines that are not carried out are reported. Where the input
 /// has a clock, it is read before each line that is carried out, and whenever a timer is due. Where it reads more than an engine takes, that
-/// is recorded once, and time stands still.
-pub fn serve<I: Input, S: Sink, N: Reports>(
+/// is recorded once, and time stands still. Where lines are answered, each is once the outlet took what it led to, and `quit` ends the input.
+pub fn serve<I: Input, S: Outlet, N: Reports>(
     alloc: Global,
     config: &Config,
-    is_stepped: bool,
+    manner: Manner,
     input: &mut I,
     out: &mut S,
     reports: &mut N,
@@ -66,22 +83,50 @@ pub fn serve<I: Input, S: Sink, N: Reports>(
     ensures unread { result ≡ Err Unread → IsTrue (I.has_failed input.new) }
     // The end of the input is no read that failed.
     ensures still { OnOk result (I.has_failed input.new ≡ I.has_failed input.old) }
-    // All of it was read.
-    ensures ended { OnOk result (IsTrue (I.has_ended input.new)) }
+    // All of it was read. Only where lines are answered one of them may end it.
+    ensures ended { manner.is_told ≡ false → OnOk result (IsTrue (I.has_ended input.new)) }
     ensures unwritten { result ≡ Err Unwritten → HasFailed (S.failures out.old) (S.failures out.new) }
 {
     match PrintedEngine::open(alloc, config) {
         Ok(engine) => {
-            let host = Host::new(alloc, engine, is_stepped);
-            serve_all(host, input, out, reports)
+            let host = Host::new(alloc, engine, manner);
+            serve_all(host, manner, input, out, reports)
         }
         Err(_) => Err(LiveFault::OutOfMemory),
     }
 }
 
+/// The same for an engine of this configuration that stands behind a history of so many records, of which the trace went out before: neither
+/// its first line goes out nor its last one. Unless runs stay out, those that are out are driven to their ends before a line is read. At the
+/// end of the input none is driven.
+pub fn serve_on<I: Input, S: Outlet, N: Reports>(
+    alloc: Global,
+    config: &Config,
+    engine: NumberedEngine<'_>,
+    count: u64,
+    manner: Manner,
+    input: &mut I,
+    out: &mut S,
+    reports: &mut N,
+) -> Result<(), LiveFault>
+    requires same { engine.setup ≡ config.now }
+    requires behind { StandsBehind count engine }
+    // All that went out continues the trace of each history that the engine stood behind; where it stopped, it is a front of what does.
+    ensures told { (records : List TheRecord) → IsBehind records engine.entry → Continues config.now records (S.bytes out.old) result (S.bytes out.new) }
+    ensures unread { result ≡ Err Unread → IsTrue (I.has_failed input.new) }
+    ensures still { OnOk result (I.has_failed input.new ≡ I.has_failed input.old) }
+    ensures ended { manner.is_told ≡ false → OnOk result (IsTrue (I.has_ended input.new)) }
+    ensures unwritten { result ≡ Err Unwritten → HasFailed (S.failures out.old) (S.failures out.new) }
+{
+    let engine = PrintedEngine::resumed(config, engine, count);
+    let mut host = Host::new(alloc, engine, manner);
+    serve_resumed(&mut host, manner, input, out, reports)
+}
+
 // Serves the lines up to the input's end, and drives the runs that are out then.
-fn serve_all<I: Input, S: Sink, N: Reports>(
+fn serve_all<I: Input, S: Outlet, N: Reports>(
     mut host: Host<'_>,
+    manner: Manner,
     input: &mut I,
     out: &mut S,
     reports: &mut N,
@@ -89,18 +134,19 @@ fn serve_all<I: Input, S: Sink, N: Reports>(
     ensures told { (setup : Setup) (base : Option (List ℕ)) (failed : ℕ) → Grows (opened_printed setup) base failed host.entry.engine (S.bytes out.old) (S.failures out.old) → Serves setup base result (S.bytes out.new) }
     ensures unread { result ≡ Err Unread → IsTrue (I.has_failed input.new) }
     ensures still { OnOk result (I.has_failed input.new ≡ I.has_failed input.old) }
-    ensures ended { OnOk result (IsTrue (I.has_ended input.new)) }
+    ensures ended { manner.is_told ≡ false → OnOk result (IsTrue (I.has_ended input.new)) }
     ensures unwritten { (setup : Setup) (base : Option (List ℕ)) (failed : ℕ) → Grows (opened_printed setup) base failed host.entry.engine (S.bytes out.old) (S.failures out.old) → result ≡ Err Unwritten → HasFailed failed (S.failures out.new) }
 {
-    match serve_input(&mut host, input, out, reports) {
+    match serve_input(&mut host, manner, input, out, reports) {
         Ok(()) => end(host, out),
         Err(fault) => Err(fault),
     }
 }
 
 // Serves the lines up to the input's end, and drives the runs that are out then. What waits at the end is not handed on yet.
-fn serve_input<I: Input, S: Sink, N: Reports>(
+fn serve_input<I: Input, S: Outlet, N: Reports>(
     host: &mut Host<'_>,
+    manner: Manner,
     input: &mut I,
     out: &mut S,
     reports: &mut N,
@@ -108,11 +154,58 @@ fn serve_input<I: Input, S: Sink, N: Reports>(
     ensures grown { Grows host.old.engine (S.bytes out.old) (S.failures out.old) host.new.engine (S.bytes out.new) (S.failures out.new) }
     ensures unread { result ≡ Err Unread → IsTrue (I.has_failed input.new) }
     ensures still { OnOk result (I.has_failed input.new ≡ I.has_failed input.old) }
-    ensures ended { OnOk result (IsTrue (I.has_ended input.new)) }
+    ensures ended { manner.is_told ≡ false → OnOk result (IsTrue (I.has_ended input.new)) }
     ensures unwritten { result ≡ Err Unwritten → host.new.engine.printed.has_failed ≡ true }
 {
     let mut lines = Lines::of(input);
-    serve_lines(host, input, &mut lines, out, reports)?;
+    serve_lines(host, manner, input, &mut lines, out, reports)?;
+    drive_all(host, out)
+}
+
+// Drives the runs that are out, unless runs stay out, and serves the lines up to the input's end. All is handed on then.
+fn serve_resumed<I: Input, S: Outlet, N: Reports>(
+    host: &mut Host<'_>,
+    manner: Manner,
+    input: &mut I,
+    out: &mut S,
+    reports: &mut N,
+) -> Result<(), LiveFault>
+    ensures grown { Grows host.old.engine (S.bytes out.old) (S.failures out.old) host.new.engine (S.bytes out.new) (S.failures out.new) }
+    ensures unread { result ≡ Err Unread → IsTrue (I.has_failed input.new) }
+    ensures still { OnOk result (I.has_failed input.new ≡ I.has_failed input.old) }
+    ensures ended { manner.is_told ≡ false → OnOk result (IsTrue (I.has_ended input.new)) }
+    ensures unwritten { result ≡ Err Unwritten → host.new.engine.printed.has_failed ≡ true }
+    ensures all { OnOk result (host.new.engine.printed.lines.waiting ≡ []) }
+    ensures whole { OnOk result (host.new.engine.printed.has_failed ≡ false) }
+{
+    drive_first(host, manner, out)?;
+    let mut lines = Lines::of(input);
+    serve_lines(host, manner, input, &mut lines, out, reports)?;
+    match host.engine.settle(out) {
+        Ok(()) => Ok(()),
+        Err(failed) => Err(LiveFault::from(failed)),
+    }
+}
+
+// Drives the runs that are out to their ends, unless runs stay out.
+fn drive_first<S: Outlet>(host: &mut Host<'_>, manner: Manner, out: &mut S) -> Result<(), LiveFault>
+    ensures grown { Grows host.old.engine (S.bytes out.old) (S.failures out.old) host.new.engine (S.bytes out.new) (S.failures out.new) }
+    ensures unread { result ≢ Err Unread }
+    ensures unwritten { result ≡ Err Unwritten → host.new.engine.printed.has_failed ≡ true }
+{
+    if manner.is_stepped {
+        Ok(())
+    } else {
+        drive_all(host, out)
+    }
+}
+
+// Drives the runs that are out to their ends.
+fn drive_all<S: Outlet>(host: &mut Host<'_>, out: &mut S) -> Result<(), LiveFault>
+    ensures grown { Grows host.old.engine (S.bytes out.old) (S.failures out.old) host.new.engine (S.bytes out.new) (S.failures out.new) }
+    ensures unread { result ≢ Err Unread }
+    ensures unwritten { result ≡ Err Unwritten → host.new.engine.printed.has_failed ≡ true }
+{
     match host.drive_all(out) {
         Ok(()) => Ok(()),
         Err(fault) => Err(stop(host, out, LiveFault::from(fault))),
@@ -120,8 +213,9 @@ fn serve_input<I: Input, S: Sink, N: Reports>(
 }
 
 // Serves the lines up to the input's end.
-fn serve_lines<I: Input, S: Sink, N: Reports>(
+fn serve_lines<I: Input, S: Outlet, N: Reports>(
     host: &mut Host<'_>,
+    manner: Manner,
     input: &mut I,
     lines: &mut Lines,
     out: &mut S,
@@ -131,20 +225,21 @@ fn serve_lines<I: Input, S: Sink, N: Reports>(
     ensures grown { Grows host.old.engine (S.bytes out.old) (S.failures out.old) host.new.engine (S.bytes out.new) (S.failures out.new) }
     ensures unread { result ≡ Err Unread → IsTrue (I.has_failed input.new) }
     ensures still { OnOk result (I.has_failed input.new ≡ I.has_failed input.old) }
-    ensures ended { OnOk result (IsTrue (I.has_ended input.new)) }
+    ensures ended { manner.is_told ≡ false → OnOk result (IsTrue (I.has_ended input.new)) }
     ensures unwritten { result ≡ Err Unwritten → host.new.engine.printed.has_failed ≡ true }
 {
     for _ in 0..u64::MAX {
-        if !serve_next(host, input, lines, out, reports)? {
+        if !serve_next(host, manner, input, lines, out, reports)? {
             return Ok(());
         }
     }
     Err(LiveFault::InternalError)
 }
 
-// Tells what is not told yet, and serves what comes next. Whether more may come.
-fn serve_next<I: Input, S: Sink, N: Reports>(
+// Serves what comes next, and answers it, if it is a line. Whether more may come.
+fn serve_next<I: Input, S: Outlet, N: Reports>(
     host: &mut Host<'_>,
+    manner: Manner,
     input: &mut I,
     lines: &mut Lines,
     out: &mut S,
@@ -155,61 +250,142 @@ fn serve_next<I: Input, S: Sink, N: Reports>(
     ensures unread { result ≡ Err Unread → IsTrue (I.has_failed input.new) }
     ensures still { OnOk result (I.has_failed input.new ≡ I.has_failed input.old) }
     ensures going { IsTrue lines.new.is_ended → IsTrue (I.has_ended input.new) }
-    ensures ended { IfOk result (λ is_more. is_more ≡ false → IsTrue (I.has_ended input.new)) }
+    ensures ended { manner.is_told ≡ false → IfOk result (λ is_more. is_more ≡ false → IsTrue (I.has_ended input.new)) }
     ensures unwritten { result ≡ Err Unwritten → host.new.engine.printed.has_failed ≡ true }
 {
-    host.engine.tell(out, !lines.is_there(input))?;
-    match serve_what_comes(host, input, lines, out, reports) {
-        Ok(is_more) => Ok(is_more),
+    let next = take_next(host, input, lines, out)?;
+    match carry_out(host, next, input, lines, out, reports) {
+        Ok(turn) => answer(host, manner, lines.number(), turn, out),
         Err(fault) => Err(stop(host, out, fault)),
     }
 }
 
-// Waits for a line, or for the next timer, and carries out what it asks. Whether more may come.
-fn serve_what_comes<I: Input, S: Sink, N: Reports>(
+// Takes the next line, if it is there. Otherwise all goes out, and it waits for that line, or for the next timer.
+fn take_next<I: Input, S: Outlet>(
     host: &mut Host<'_>,
     input: &mut I,
     lines: &mut Lines,
     out: &mut S,
-    reports: &mut N,
-) -> Result<bool, LiveFault>
+) -> Result<Next, LiveFault>
     requires begun { IsTrue lines.old.is_ended → IsTrue (I.has_ended input.old) }
     ensures grown { Grows host.old.engine (S.bytes out.old) (S.failures out.old) host.new.engine (S.bytes out.new) (S.failures out.new) }
-    ensures unread { result ≡ Err Unread → IsTrue (I.has_failed input.new) }
-    ensures still { OnOk result (I.has_failed input.new ≡ I.has_failed input.old) }
+    ensures failed { result ≡ Ok Failed → IsTrue (I.has_failed input.new) }
+    ensures still { result ≢ Ok Failed → I.has_failed input.new ≡ I.has_failed input.old }
     ensures going { IsTrue lines.new.is_ended → IsTrue (I.has_ended input.new) }
-    ensures ended { IfOk result (λ is_more. is_more ≡ false → IsTrue (I.has_ended input.new)) }
+    ensures end { result ≡ Ok End → IsTrue (I.has_ended input.new) }
+    ensures unread { result ≢ Err Unread }
+    ensures unwritten { result ≡ Err Unwritten → host.new.engine.printed.has_failed ≡ true }
+{
+    if lines.take_next(input) {
+        return match host.engine.is_whole() {
+            Ok(()) => Ok(Next::Line),
+            Err(failed) => Err(LiveFault::from(failed)),
+        };
+    }
+    match host.engine.settle(out) {
+        Ok(()) => Ok(wait_next(host, input, lines)),
+        Err(failed) => Err(LiveFault::from(failed)),
+    }
+}
+
+// Waits for the next line, or for the next timer. Nothing waits to go out meanwhile.
+fn wait_next<I: Input>(host: &Host<'_>, input: &mut I, lines: &mut Lines) -> Next
+    requires all { host.now.engine.printed.lines.waiting ≡ [] }
+    requires begun { IsTrue lines.old.is_ended → IsTrue (I.has_ended input.old) }
+    ensures failed { result ≡ Failed → IsTrue (I.has_failed input.new) }
+    ensures still { result ≢ Failed → I.has_failed input.new ≡ I.has_failed input.old }
+    ensures going { IsTrue lines.new.is_ended → IsTrue (I.has_ended input.new) }
+    ensures end { result ≡ End → IsTrue (I.has_ended input.new) }
+{
+    lines.wait_next(input, host.next_due())
+}
+
+// Carries out what the line asks that came, or takes the reading at which a timer is due.
+fn carry_out<I: Input, S: Sink, N: Reports>(
+    host: &mut Host<'_>,
+    next: Next,
+    input: &I,
+    lines: &Lines,
+    out: &mut S,
+    reports: &mut N,
+) -> Result<Turn, LiveFault>
+    ensures grown { Grows host.old.engine (S.bytes out.old) (S.failures out.old) host.new.engine (S.bytes out.new) (S.failures out.new) }
+    ensures unread { result ≡ Err Unread → next ≡ Failed }
+    ensures read { OnOk result (next ≢ Failed) }
+    ensures ended { result ≡ Ok AtEnd → next ≡ End }
     ensures written { result ≢ Err Unwritten }
 {
-    match lines.next(input, host.next_due()) {
+    match next {
         Next::Line => {
-            host.serve_line(lines.line(), lines.number(), input.now(), reports, out)?;
-            Ok(true)
+            let served = host.serve_line(lines.line(), lines.number(), input.now(), reports, out)?;
+            Ok(Turn::Line(served))
         }
         Next::Due(reading) => {
             host.read_clock(reading, out)?;
-            Ok(true)
+            Ok(Turn::Timer)
         }
-        Next::End => Ok(false),
+        Next::End => Ok(Turn::End),
         Next::Failed => Err(LiveFault::Unread),
     }
 }
 
+// Answers the line of that number, if it is a line that came. Whether more may come.
+fn answer<S: Outlet>(
+    host: &mut Host<'_>,
+    manner: Manner,
+    line: usize,
+    turn: Turn,
+    out: &mut S,
+) -> Result<bool, LiveFault>
+    ensures grown { Grows host.old.engine (S.bytes out.old) (S.failures out.old) host.new.engine (S.bytes out.new) (S.failures out.new) }
+    ensures unread { result ≢ Err Unread }
+    ensures ended { manner.is_told ≡ false → IfOk result (λ is_more. is_more ≡ false → turn ≡ AtEnd) }
+    ensures unwritten { result ≡ Err Unwritten → host.new.engine.printed.has_failed ≡ true }
+{
+    match turn {
+        Turn::Line(served) => answer_line(host, manner, line, served, out),
+        Turn::Timer => Ok(true),
+        Turn::End => Ok(false),
+    }
+}
+
+// Answers the line of that number, if lines are answered, and it is not skipped. Whether more may come.
+fn answer_line<S: Outlet>(
+    host: &mut Host<'_>,
+    manner: Manner,
+    line: usize,
+    served: Served,
+    out: &mut S,
+) -> Result<bool, LiveFault>
+    ensures grown { Grows host.old.engine (S.bytes out.old) (S.failures out.old) host.new.engine (S.bytes out.new) (S.failures out.new) }
+    ensures unread { result ≢ Err Unread }
+    ensures more { manner.is_told ≡ false → IfOk result (λ is_more. is_more ≡ true) }
+    ensures unwritten { result ≡ Err Unwritten → host.new.engine.printed.has_failed ≡ true }
+{
+    if !manner.is_told || served.is_skipped() {
+        return Ok(true);
+    }
+    match host.engine.answer(line, served.fault(), out) {
+        Ok(()) => Ok(!served.is_last()),
+        Err(failed) => Err(LiveFault::from(failed)),
+    }
+}
+
 // Hands all on where the engine stops for that fault, or for the one that this meets.
-fn stop<S: Sink>(host: &mut Host<'_>, out: &mut S, fault: LiveFault) -> LiveFault
+fn stop<S: Outlet>(host: &mut Host<'_>, out: &mut S, fault: LiveFault) -> LiveFault
     requires written { fault ≢ Unwritten }
     ensures grown { Grows host.old.engine (S.bytes out.old) (S.failures out.old) host.new.engine (S.bytes out.new) (S.failures out.new) }
     ensures unread { result ≡ Unread → fault ≡ Unread }
     ensures unwritten { result ≡ Unwritten → host.new.engine.printed.has_failed ≡ true }
 {
-    match host.engine.tell(out, true) {
+    match host.engine.settle(out) {
         Ok(()) => fault,
         Err(failed) => LiveFault::from(failed),
     }
 }
 
 // Prints the last line.
-fn end<S: Sink>(host: Host<'_>, out: &mut S) -> Result<(), LiveFault>
+fn end<S: Outlet>(host: Host<'_>, out: &mut S) -> Result<(), LiveFault>
     ensures told { (setup : Setup) (base : Option (List ℕ)) (failed : ℕ) → Grows (opened_printed setup) base failed host.entry.engine (S.bytes out.old) (S.failures out.old) → Serves setup base result (S.bytes out.new) }
     ensures failed { IfErr result (λ fault. fault ≡ Unwritten) }
     ensures unwritten { (setup : Setup) (base : Option (List ℕ)) (failed : ℕ) → Grows (opened_printed setup) base failed host.entry.engine (S.bytes out.old) (S.failures out.old) → IfErr result (λ _. HasFailed failed (S.failures out.new)) }

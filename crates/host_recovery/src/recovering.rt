@@ -50,8 +50,8 @@ pub(crate) enum Going {
     Ended,
 }
 
-/// Recovers an engine of this configuration from the text that a crash left of its trace. Bytes behind the last line feed are cut off, if they
-/// can be the beginning of a line. X1 if no version's first line stands in front; else X2 with the first line that is not of the form; else X3
+/// Recovers an engine of this configuration from the text that a crash left of its trace. Bytes after the last line feed are cut off, if there
+/// are no more of them than a line can have, and each is one that a line can have. X1 if no version's first line stands in front; else X2 with the first line that is not of the form; else X3
 /// with the first that does not follow, the first line's if the version is another. The memory that it takes does not grow with the text.
 pub fn recover<'a, S: Source>(
     alloc: Global,

@@ -72,7 +72,6 @@ fn run_on<B: Object + Send + Sync, N: Notices + Sync, R: Threads + Wait + Sync>(
     requires few { (1 ≤ workers) × (workers ≤ MAX_WORKERS) }
     requires setup { opened.engine.setup ≡ B.setup }
     requires begun { opened.engine.history ≡ B.begun }
-    requires untaken { opened.engine.taken ≡ 0 }
     requires name { (opened.calls.name ≡ B.name) × (opened.calls.parts ≡ B.parts) }
     requires table { opened.monitor ≡ B.table }
     ensures trace { IfOk result (λ trace. IsTraceOf B.setup trace.version trace.records.items trace.totals) }

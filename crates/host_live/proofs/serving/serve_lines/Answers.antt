@@ -1,4 +1,4 @@
-use Rattle.std.proofs.Common.{◌∙◌, refl, rules}
+use Rattle.std.proofs.Common.{refl, rules}
 use Rattle.host_live.proofs.Growing.{grows_both, grows_none}
 use Rattle.host_live.proofs.serving.serve_lines.Goals as goal
 

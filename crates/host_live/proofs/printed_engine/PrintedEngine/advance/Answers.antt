@@ -1,8 +1,8 @@
-use Rattle.std.proofs.Common.{◌∷◌, [], Option, Some, refl, subst}
+use Rattle.std.proofs.Common.{◌∷◌, [], Option, refl, subst}
 use Rattle.world_calls.specs.declared.record.Record.{Record}
 use Rattle.engine_core.specs.ByNumber.{Advances}
 use Rattle.host_live.proofs.Growing.{by_none, by_one, by_still}
-use Rattle.host_live.proofs.Underway.{told_has, underway_on}
+use Rattle.host_live.proofs.Underway.{told_has}
 use Rattle.host_live.proofs.printed_engine.PrintedEngine.advance.Goals as goal
 
 pub print-requires-clause-spelled : goal.print-requires-clause-spelled

@@ -1,5 +1,5 @@
 use Rattle.host_live.proofs.Growing.{grows_none}
-use Rattle.host_live.proofs.serving.serve_what_comes.Goals as goal
+use Rattle.host_live.proofs.serving.carry_out.Goals as goal
 
 pub returns-in-End-clause-grown : goal.returns-in-End-clause-grown
 returns-in-End-clause-grown g c = grows_none _ _ _

@@ -1,7 +1,7 @@
 -- no read failed as yet
 use Rattle.std.proofs.Common.{◌≡◌}
 use Rattle.std.specs.Prelude.{IsTrue}
-use Rattle.host_live.proofs.lines.Lines.next.Given as goal
+use Rattle.host_live.proofs.lines.Lines.wait_next.Given as goal
 
 abbrev pub invariant-loop : goal.invariant-loop
 invariant-loop g l = record {

@@ -1,0 +1,10 @@
+// In which manner lines are served. It relies on nothing.
+
+/// In which manner lines are served.
+#[derive(Clone, Copy, Debug, PartialEq, Eq)]
+pub struct Manner {
+    /// Runs stay out until they are asked to go on. Otherwise each is driven to its end as soon as it starts.
+    pub is_stepped: bool,
+    /// Each line is answered: the outlet is told what became of it. Only then `quit` and `help` are requests.
+    pub is_told: bool,
+}

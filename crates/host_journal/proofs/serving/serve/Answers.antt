@@ -1,0 +1,13 @@
+use Rattle.std.proofs.Common.{◌≡◌, ap, refl, sym, subst, List, ℕ}
+use Rattle.host_live.specs.Telling.{Continues}
+use Rattle.host_journal.specs.Disks.{kept_so_far}
+use Rattle.host_journal.specs.Journals.{InOrder}
+use Rattle.host_journal.specs.Starts.{first_line}
+use Rattle.host_journal.proofs.Served.{continues_none, unserved}
+use Rattle.host_journal.proofs.serving.serve.Goals as goal
+
+pub returns-in-Err-clause-told : goal.returns-in-Err-clause-told
+returns-in-Err-clause-told g c = λ records behind. continues_none c.args.begun.now.config c.args.engine records (kept_so_far (g.D.Disk.steps c.args.disk)) c.requires.same behind
+
+pub returns-in-Err-clause-order : goal.returns-in-Err-clause-order
+returns-in-Err-clause-order g c = unserved c.args.is_synced (first_line c.args.begun.now) (g.D.Disk.steps c.args.disk) _

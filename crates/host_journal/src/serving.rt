@@ -1,0 +1,168 @@
+// An engine of a journal that is served: what it prints is appended to the segment before it goes out. It relies on `host_live` for what lines
+// ask, and on `journaled` for what goes out.
+
+ghost use Rattle.std.specs.Prelude.{◌≡◌, List, Err, IfOk, IsOk, IsTrue, OnOk, false};
+ghost use Rattle.base.specs.declared.or_memory.OrMemory.TheVariants.{Fault};
+ghost use Rattle.world_calls.specs.declared.record.Record.{Record as TheRecord};
+ghost use Rattle.world.specs.World.{version_of};
+ghost use Rattle.trace.specs.TraceText.{header};
+ghost use Rattle.engine_core.specs.ByNumber.{IsBehind};
+ghost use Rattle.host_live.specs.Growth.{StandsBehind};
+ghost use Rattle.host_live.specs.Telling.{Continues};
+ghost use Rattle.host_live.specs.declared.serving.LiveFault.TheVariants.{Unread as InputUnread};
+ghost use Rattle.host_journal.specs.Disks.{kept_so_far};
+ghost use Rattle.host_journal.specs.Journals.{InOrder};
+ghost use Rattle.host_journal.specs.Order.{EndsALine};
+ghost use Rattle.host_journal.specs.Starts.{first_line};
+ghost use Rattle.host_journal.specs.declared.fault.JournalFault.TheVariants.{Unread};
+
+use crate::beginning::Begun;
+use crate::disk::Disk;
+use crate::fault::{JournalError, JournalFault, JournalFile};
+use crate::journaled::{Journaled, ROOM};
+use crate::lost::Lost;
+use crate::order::Order;
+use base::OrMemory;
+use engine_core::{Config, NumberedEngine};
+use host_live::{Input, LiveFault, Manner, Reports, serve_on};
+use std::alloc::{AllocError, Global};
+use std::marker::Brand;
+use trace::{WriteFailed, header};
+use world_calls::Version;
+
+/// Serves an engine of this journal that stands behind a history of so many records, whose segment is open. The lines of what a line of the input
+/// leads to are appended to the segment before they go out, and with `is_synced` they are synced before. If the start made the segment, its first line goes
+/// out first. Neither is the last line of a trace made, nor does it go out: the next start recovers the engine. Once the segment or standard
+/// output cannot be written, nothing goes out any more, and the fault says which it was.
+pub fn serve<D: Disk, I: Input, N: Reports>(
+    alloc: Global,
+    disk: D,
+    begun: &Begun<'_>,
+    engine: NumberedEngine<'_>,
+    count: u64,
+    manner: Manner,
+    is_synced: bool,
+    input: &mut I,
+    reports: &mut N,
+) -> (D, Result<(), JournalError>)
+    requires same { engine.setup ≡ begun.now.config }
+    requires behind { StandsBehind count engine }
+    // No byte goes out that is not in the segment, synced if that is asked for, but for answers between lines; at the end all is out.
+    ensures order { InOrder is_synced (first_line begun.now) (D.steps disk) (D.steps result.0) result.1 }
+    // What was appended continues the history behind the engine.
+    ensures told { (records : List TheRecord) → IsBehind records engine.entry → Continues begun.now.config records (kept_so_far (D.steps disk)) result.1 (kept_so_far (D.steps result.0)) }
+    ensures unread { result.1 ≡ Err (Fault Unread) → IsTrue (I.has_failed input.new) }
+    ensures still { OnOk result.1 (I.has_failed input.new ≡ I.has_failed input.old) }
+    ensures ended { manner.is_told ≡ false → OnOk result.1 (IsTrue (I.has_ended input.new)) }
+{
+    match first_waiting(alloc, begun) {
+        Ok(pending) => serve_ordered::<Brand, D, I, N>(
+            alloc, disk, pending, begun, engine, count, manner, is_synced, input, reports,
+        ),
+        Err(AllocError) => (disk, Err(OrMemory::OutOfMemory)),
+    }
+}
+
+// What waits to go out at first: the first line of a segment that the start made, or nothing.
+fn first_waiting(alloc: Global, begun: &Begun<'_>) -> Result<Vec<u8>, AllocError>
+    ensures first { IfOk result (λ pending. pending.items ≡ first_line begun.now) }
+    ensures line { EndsALine (first_line begun.now) }
+{
+    match begun.manifest {
+        Some(_) => header_waiting(alloc, begun),
+        None => Vec::with_capacity(alloc, ROOM),
+    }
+}
+
+// The first line of a segment of this configuration.
+fn header_waiting(alloc: Global, begun: &Begun<'_>) -> Result<Vec<u8>, AllocError>
+    ensures first { IfOk result (λ pending. pending.items ≡ header (version_of begun.now.config)) }
+{
+    let mut pending = Vec::with_capacity(alloc, ROOM)?;
+    let first = header(Version::of(begun.config.helpers()));
+    pending.extend_from_slice(first.as_bytes())?;
+    Ok(pending)
+}
+
+// Serves the engine in this order of writes.
+fn serve_ordered<O: Order, D: Disk, I: Input, N: Reports>(
+    alloc: Global,
+    disk: D,
+    pending: Vec<u8>,
+    begun: &Begun<'_>,
+    engine: NumberedEngine<'_>,
+    count: u64,
+    manner: Manner,
+    is_synced: bool,
+    input: &mut I,
+    reports: &mut N,
+) -> (D, Result<(), JournalError>)
+    requires before { O.before ≡ D.steps disk }
+    requires first { O.first ≡ pending.items }
+    requires line { EndsALine O.first }
+    requires synced { O.is_synced ≡ is_synced }
+    requires same { engine.setup ≡ begun.now.config }
+    requires behind { StandsBehind count engine }
+    ensures order { InOrder O.is_synced O.first O.before (D.steps result.0) result.1 }
+    ensures told { (records : List TheRecord) → IsBehind records engine.entry → Continues begun.now.config records (kept_so_far (D.steps disk)) result.1 (kept_so_far (D.steps result.0)) }
+    ensures unread { result.1 ≡ Err (Fault Unread) → IsTrue (I.has_failed input.new) }
+    ensures still { OnOk result.1 (I.has_failed input.new ≡ I.has_failed input.old) }
+    ensures ended { manner.is_told ≡ false → OnOk result.1 (IsTrue (I.has_ended input.new)) }
+{
+    let mut out: Journaled<D, O> = Journaled::of(disk, pending, is_synced);
+    let served = serve_on(
+        alloc,
+        &begun.config,
+        engine,
+        count,
+        manner,
+        input,
+        &mut out,
+        reports,
+    );
+    let flushed = out.flush();
+    let (disk, lost) = out.into_parts();
+    (disk, verdict(begun.number, served, flushed, lost))
+}
+
+// How it ended: which write failed, if one did, or else what the engine was stopped by.
+fn verdict(
+    number: u64,
+    served: Result<(), LiveFault>,
+    flushed: Result<(), WriteFailed>,
+    lost: Option<Lost>,
+) -> Result<(), JournalError>
+    ensures done { OnOk result (IsOk served × IsOk flushed) }
+    ensures unread { result ≡ Err (Fault Unread) → served ≡ Err InputUnread }
+{
+    match lost {
+        Some(Lost::Segment) => Err(OrMemory::Fault(JournalFault::File(JournalFile::Segment(
+            number,
+        )))),
+        Some(Lost::Output) => Err(OrMemory::Fault(JournalFault::Unwritten)),
+        Some(Lost::OutOfMemory) => Err(OrMemory::OutOfMemory),
+        Some(Lost::InternalError) => Err(OrMemory::Fault(JournalFault::InternalError)),
+        None => unlost(served, flushed),
+    }
+}
+
+// How it ended, if no write failed.
+fn unlost(
+    served: Result<(), LiveFault>,
+    flushed: Result<(), WriteFailed>,
+) -> Result<(), JournalError>
+    ensures done { OnOk result (IsOk served × IsOk flushed) }
+    ensures unread { result ≡ Err (Fault Unread) → served ≡ Err InputUnread }
+{
+    match served {
+        Ok(()) => match flushed {
+            Ok(()) => Ok(()),
+            Err(WriteFailed) => Err(OrMemory::Fault(JournalFault::InternalError)),
+        },
+        Err(LiveFault::OutOfMemory) => Err(OrMemory::OutOfMemory),
+        Err(LiveFault::Unread) => Err(OrMemory::Fault(JournalFault::Unread)),
+        Err(LiveFault::Unwritten | LiveFault::InternalError) => {
+            Err(OrMemory::Fault(JournalFault::InternalError))
+        }
+    }
+}

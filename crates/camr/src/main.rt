@@ -5,13 +5,16 @@
 ghost use Rattle.std.specs.Prelude.{◌≡◌, ◌<◌, ◌^◌, length, IfOk};
 ghost use Rattle.cli_line.specs.Files.{input_paths};
 
-use cli_commands::{Fault, WriterSink, carry, report_usage, serve};
+use cli_commands::{
+    AnsweringSink, Fault, WriterSink, audit_journal, carry, report_usage, serve, serve_journal,
+};
 use cli_io::{
-    Clocked, Disk, Feeder, MOST_MANIFEST, MOST_PROGRAM, MOST_SCENARIO, MOST_TEXT, MOST_TRACE,
-    Patient, Reading, Relay, Relayer, Telling, read_file, replace, words,
+    Clocked, Disk, Feeder, JournalDisk, MOST_MANIFEST, MOST_PROGRAM, MOST_SCENARIO, MOST_TEXT,
+    MOST_TRACE, Patient, Reading, Relay, Relayer, Telling, read_file, replace, words,
 };
 use cli_line::{Manner, Plan, Watch, not_utf8, plan};
 use host_live::Input;
+use std::alloc::Global;
 use std::fs::File;
 use std::io::{BufWriter, IsTerminal, Stderr, Write};
 use std::process::ExitCode;
@@ -68,7 +71,16 @@ fn status<
             Ok(inputs) => match &plan {
                 Plan::Live(manner, manifest) => {
                     let manifest = (manifest.as_str(), inputs[0].as_slice());
-                    serve_line_by_line(rt, *manner, manifest, err, begin)
+                    serve_line_by_line(rt, *manner, Service::Alone(manifest), err, begin)
+                }
+                Plan::Journal(manner, is_synced, folder, _) => {
+                    let manifest = first_input(&plan, &inputs);
+                    let service = Service::Journal(folder.as_str(), *is_synced, manifest);
+                    serve_line_by_line(rt, *manner, service, err, begin)
+                }
+                Plan::Audit(folder) => {
+                    let mut disk = JournalDisk::new(rt, folder.as_str(), Silence);
+                    audit_journal(rt.alloc(), &mut disk, folder.as_str(), out, err)
                 }
                 _ => {
                     let is_on = tells(&plan, &told);
@@ -78,6 +90,38 @@ fn status<
             Err(fault) => fault.report(err),
         },
         Err(fault) => report_usage(&fault, out, err),
+    }
+}
+
+/// What a live engine is asked of: that of a manifest, a path and its bytes; or that of a journal, whose folder that is, which may be
+/// synced, with the manifest if one is given.
+#[derive(Clone, Copy)]
+enum Service<'a> {
+    Alone((&'a str, &'a [u8])),
+    Journal(&'a str, bool, Option<(&'a str, &'a [u8])>),
+}
+
+/// A writer for what is never written: an audit puts nothing on standard output by itself.
+#[derive(Drop)]
+struct Silence;
+
+impl Write for Silence {
+    fn write(&mut self, buf: &[u8]) -> io::Result<usize> {
+        Ok(buf.len())
+    }
+
+    fn flush(&mut self) -> io::Result<()> {
+        Ok(())
+    }
+}
+
+// The plan's first file, a path and its bytes, if one is read.
+fn first_input<'a>(plan: &'a Plan, inputs: &'a [Vec<u8>]) -> Option<(&'a str, &'a [u8])>
+    requires { length inputs.now ≡ length (input_paths plan.now) }
+{
+    match inputs.first() {
+        Some(bytes) => Some((plan.input(0), bytes.as_slice())),
+        None => None,
     }
 }
 
@@ -104,18 +148,18 @@ fn carry_out<
     }
 }
 
-// Serves what standard input asks of the engine of a manifest, a path and its bytes. What goes out is not kept for a whole buffer.
+// Serves what standard input asks of a live engine. What goes out is not kept for a whole buffer.
 // Where there is a clock, another thread reads, and another one tells what is no part of the trace: timers wait for neither.
 fn serve_line_by_line<
-    R: Runtime + AllocGlobal + Wait,
+    R: Runtime + Files<File = File> + AllocGlobal + Wait,
     E: Write,
     B: FnOnce(Feeder, Relayer) -> bool,
->(rt: &R, manner: Manner, manifest: (&str, &[u8]), err: &mut E, begin: B) -> u8
+>(rt: &R, manner: Manner, service: Service<'_>, err: &mut E, begin: B) -> u8
     requires { (feeder : _) (relayer : _) → B.pre begin feeder relayer }
 {
     if !manner.is_clocked {
         return match Reading::of(rt.alloc(), Patient::new(rt, rt.reader())) {
-            Ok(mut input) => serve_input(rt, manner, manifest, &mut input, err),
+            Ok(mut input) => serve_input(rt, manner, service, &mut input, err),
             Err(_) => Fault::OutOfMemory.report(err),
         };
     }
@@ -128,29 +172,58 @@ fn serve_line_by_line<
     if !begin(feeder, relayer) {
         return Fault::OutOfMemory.report(err);
     }
-    let status = serve_input(rt, manner, manifest, &mut input, &mut relay);
+    let status = serve_input(rt, manner, service, &mut input, &mut relay);
     relay.end();
     status
 }
 
 // Serves what this input asks.
-fn serve_input<R: Runtime + AllocGlobal, I: Input, E: Write>(
+fn serve_input<R: Runtime + Files<File = File> + AllocGlobal, I: Input, E: Write>(
     rt: &R,
     manner: Manner,
-    manifest: (&str, &[u8]),
+    service: Service<'_>,
     input: &mut I,
     err: &mut E,
 ) -> u8 {
+    let alloc = rt.alloc();
     let mut out = Patient::new(rt, io::writer(rt));
-    let mut out = WriterSink::new(&mut out);
-    serve(
-        rt.alloc(),
-        manifest,
-        manner.is_stepped,
-        input,
-        &mut out,
-        err,
-    )
+    let served = host_live::Manner {
+        is_stepped: manner.is_stepped,
+        is_told: manner.is_told,
+    };
+    match service {
+        Service::Alone(manifest) if manner.is_told => {
+            serve_answering(alloc, manifest, served, input, out, err)
+        }
+        Service::Alone(manifest) => {
+            let mut out = WriterSink::new(&mut out);
+            serve(alloc, manifest, served, input, &mut out, err)
+        }
+        Service::Journal(folder, is_synced, manifest) => {
+            let disk = JournalDisk::new(rt, folder, out);
+            let (_disk, status) = serve_journal(
+                alloc, disk, folder, manifest, served, is_synced, input, err,
+            );
+            status
+        }
+    }
+}
+
+// Serves what this input asks, and answers each line. What goes out is kept until nothing more comes.
+fn serve_answering<I: Input, W: Write + Drop, E: Write>(
+    alloc: Global,
+    manifest: (&str, &[u8]),
+    manner: host_live::Manner,
+    input: &mut I,
+    out: W,
+    err: &mut E,
+) -> u8 {
+    let Ok(mut out) = BufWriter::new(alloc, out) else {
+        return Fault::OutOfMemory.report(err);
+    };
+    let mut sink = AnsweringSink::new(&mut out);
+    let status = serve(alloc, manifest, manner, input, &mut sink, err);
+    if out.flush().is_ok() { status } else { 2 }
 }
 
 // Whether somebody is told how far the work is: of a run when its line says so, of a replay if standard error is a terminal.
@@ -163,7 +236,9 @@ fn tells(plan: &Plan, err: &Stderr) -> bool {
         | Plan::Migrate(..)
         | Plan::Dis(_)
         | Plan::Check(_)
-        | Plan::Live(..) => false,
+        | Plan::Live(..)
+        | Plan::Journal(..)
+        | Plan::Audit(_) => false,
     }
 }
 
@@ -194,9 +269,13 @@ fn most_bytes(plan: &Plan, place: usize) -> u64
         Plan::Dis(_) => MOST_PROGRAM,
         Plan::Run(..) if place > 0 => MOST_SCENARIO,
         Plan::Replay(..) if place > 0 => MOST_TRACE,
-        Plan::Migrate(..) | Plan::Check(_) | Plan::Run(..) | Plan::Live(..) | Plan::Replay(..) => {
-            MOST_MANIFEST
-        }
+        Plan::Migrate(..)
+        | Plan::Check(_)
+        | Plan::Run(..)
+        | Plan::Live(..)
+        | Plan::Journal(..)
+        | Plan::Audit(_)
+        | Plan::Replay(..) => MOST_MANIFEST,
     }
 }
 

@@ -26,7 +26,7 @@ use Rattle.trace.specs.declared.fault.TraceFault.{TraceFault}
 use Rattle.world.specs.World.{Setup, version_of}
 use Rattle.world.specs.TotalsOf.{TotalsOf}
 use Rattle.cli_line.specs.declared.plans.Plan.{Plan}
-use Rattle.cli_line.specs.declared.plans.Plan.TheVariants.{Asm, Dis, Check, Migrate, Run, Live, Replay}
+use Rattle.cli_line.specs.declared.plans.Plan.TheVariants.{Asm, Dis, Check, Migrate, Run, Live, Journal, Audit, Replay}
 
 -- the bytes are the text of a program, spell one, or are a manifest
 abbrev pub IsText : List ℕ → Type 0
@@ -63,6 +63,8 @@ IsAsAsked (Check manifest) bytes = IsManifest bytes
 IsAsAsked (Migrate manifest migrated) bytes = IsMigratable bytes
 IsAsAsked (Run workers watch manifest scenario) bytes = IsManifest bytes
 IsAsAsked (Live manner manifest) bytes = IsManifest bytes
+IsAsAsked (Journal manner is_synced folder manifest) bytes = ⊥
+IsAsAsked (Audit folder) bytes = ⊥
 IsAsAsked (Replay manifest trace) bytes = IsManifest bytes
 
 -- it has a fault; where a scenario or a trace is read too, the fault may be there
@@ -73,6 +75,8 @@ IsFaulty (Check manifest) bytes = IsFaultyManifest bytes
 IsFaulty (Migrate manifest migrated) bytes = IsFaultyMigration bytes
 IsFaulty (Run workers watch manifest scenario) bytes = Unit {0}
 IsFaulty (Live manner manifest) bytes = IsFaultyManifest bytes
+IsFaulty (Journal manner is_synced folder manifest) bytes = ⊥
+IsFaulty (Audit folder) bytes = ⊥
 IsFaulty (Replay manifest trace) bytes = Unit {0}
 
 -- The one text is a manifest, and the other the trace of a history of an engine of its setup, of that engine's version, whose last line
@@ -144,6 +148,8 @@ IsOutput (Check manifest) input old new = Unit {0}
 IsOutput (Migrate manifest migrated) input old new = PutsOut (IsMigrated input) old new
 IsOutput (Run workers watch manifest scenario) input old new = PutsOut (IsTraceUnder input) old new
 IsOutput (Live manner manifest) input old new = PutsOut (IsIdleUnder input) old new
+IsOutput (Journal manner is_synced folder manifest) input old new = ⊥
+IsOutput (Audit folder) input old new = ⊥
 IsOutput (Replay manifest trace) input old new = PutsOut (λ output. output ≡ codes "accepted" ++ 10 ∷ []) old new
 
 -- of a run: the trace of its scenario on an engine of its manifest

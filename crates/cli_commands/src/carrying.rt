@@ -32,7 +32,8 @@ use world_calls::{Notices, Trace};
 /// Carries a plan out over the bytes of its input files, in the order of the line, and answers the status:
 /// 0 done; 1 refused; 2 for a file that is to be text and is not UTF-8, for want of memory, or where a writer fails. What is to
 /// go out is written on `out`, and one line for a fault on `err`; if a file is refused, nothing goes out. Where `out` fails for want
-/// of memory that line is written too; some may be out then. How far a run or a replay is, is told where that is wanted.
+/// of memory that line is written too; some may be out then. How far a run or a replay is, is told where that is wanted. The plans of a
+/// journal are not carried out here: `serve_journal` and `audit_journal` do that.
 pub fn carry<N: Notices + Sync, R: Threads + Wait + Sync, W: Write, E: Write>(
     rt: &R,
     alloc: Global,
@@ -90,7 +91,16 @@ pub fn carry<N: Notices + Sync, R: Threads + Wait + Sync, W: Write, E: Write>(
             let manifest = (manifest.as_str(), inputs[0].as_slice());
             print_migrated(alloc, manifest, out, err)
         }
+        Plan::Journal(..) => report_no_disk(err),
+        Plan::Audit(_) => report_no_disk(err),
     }
+}
+
+// A journal needs a disk, so its plans are carried out by functions of their own.
+fn report_no_disk<E: Write>(err: &mut E) -> u8
+    ensures { result ≡ 2 }
+{
+    Fault::InternalError.report(err)
 }
 
 // Puts out the bytes of the program that a text says, a path and its bytes, and answers the status.

@@ -1,9 +1,13 @@
-// A writer as a sink. It relies on `trace` for what a sink is.
+// A writer as a sink. It relies on `trace` for what a sink is, on `host_live` for what a live engine asks of one, and on `host_journal` for
+// how an answer is spelled.
 
-ghost use Rattle.std.specs.Prelude.{◌≡◌, ◌≤◌, length};
+ghost use Rattle.std.specs.Prelude.{◌≡◌, ◌≤◌, length, MatchResult};
 ghost use Rattle.cli_commands.specs.Writing.{Writes};
+ghost use Rattle.trace.specs.Growing.{FailsBySink};
 ghost use Rattle.trace.specs.Sinks.{HasFailed};
 
+use host_journal::answer_to;
+use host_live::{LineFault, Outlet};
 use std::io;
 use std::io::{ErrorKind, Write};
 use trace::{Sink, WriteFailed};
@@ -53,6 +57,74 @@ impl<W: Write> Sink for WriterSink<'_, W> {
                 Err(WriteFailed)
             }
         }
+    }
+}
+
+// The trace goes out as it is taken, and no line is answered.
+impl<W: Write> Outlet for WriterSink<'_, W> {
+    fn answered(&mut self, _line: usize, _fault: Option<LineFault>) -> Result<(), WriteFailed> {
+        Ok(())
+    }
+
+    fn settle(&mut self) -> Result<(), WriteFailed> {
+        Ok(())
+    }
+}
+
+/// A writer to which the answers to lines go too, between the lines of the trace. So what is on it is no trace, and contracts do not see its
+/// bytes. What is taken may be held back by the writer until nothing more comes for now.
+#[derive(Drop)]
+pub struct AnsweringSink<'a, W: Write> {
+    sink: WriterSink<'a, W>,
+}
+
+impl<'a, W: Write> AnsweringSink<'a, W> {
+    /// The writer, which did not fail yet.
+    pub fn new(out: &'a mut W) -> Self {
+        AnsweringSink {
+            sink: WriterSink::new(out),
+        }
+    }
+
+    // What the writer was asked for was done, or is one failure more.
+    fn counted(&mut self, written: io::Result<()>) -> Result<(), WriteFailed>
+        ensures failures { FailsBySink self.old.sink.failures result self.new.sink.failures }
+        ensures same { self.new.sink.out.ghost_name ≡ self.old.sink.out.ghost_name }
+    {
+        match written {
+            Ok(()) => Ok(()),
+            Err(error) => {
+                self.sink.failures = one_more(self.sink.failures);
+                self.sink.last = error;
+                Err(WriteFailed)
+            }
+        }
+    }
+}
+
+impl<W: Write> Sink for AnsweringSink<'_, W> {
+    ghost use Rattle.std.specs.Prelude.{None};
+
+    ghost bytes = { λ _. None };
+
+    ghost failures = { λ answering. answering.sink.failures };
+
+    ghost origin = { λ answering. answering.sink.out.ghost_name };
+
+    fn write(&mut self, text: &[u8]) -> Result<usize, WriteFailed> {
+        self.sink.write(text)
+    }
+}
+
+impl<W: Write> Outlet for AnsweringSink<'_, W> {
+    fn answered(&mut self, line: usize, fault: Option<LineFault>) -> Result<(), WriteFailed> {
+        let written = self.sink.out.write_all(answer_to(line, fault).as_slice());
+        self.counted(written)
+    }
+
+    fn settle(&mut self) -> Result<(), WriteFailed> {
+        let written = self.sink.out.flush();
+        self.counted(written)
     }
 }
 

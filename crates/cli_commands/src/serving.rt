@@ -1,7 +1,7 @@
 // A manifest's engine that is asked over a pipe. It relies on `host_live` for what its lines ask and what goes out, and on `manifest` for the
 // engine's configuration.
 
-ghost use Rattle.std.specs.Prelude.{◌≡◌, ◌≢◌, ◌≤◌, IfErr, IfOk, IsErrAnd, IsTrue, IsUtf8};
+ghost use Rattle.std.specs.Prelude.{◌≡◌, ◌≢◌, ◌≤◌, false, IfErr, IfOk, IsErrAnd, IsTrue, IsUtf8};
 ghost use Rattle.std.specs.Io.KnownBytes.{Keeps};
 ghost use Rattle.host_live.specs.Telling.{IsBegun, IsWrittenOut};
 ghost use Rattle.manifest.specs.Meaning.{Means};
@@ -12,23 +12,22 @@ use crate::fault::Fault;
 use crate::files::text;
 use engine_config::Config;
 use engine_core::{CcbState, LiveCcb};
-use host_live::{Input, LineFault, LiveFault, Reports};
+use host_live::{Input, LineFault, LiveFault, Manner, Outlet, Reports};
 use manifest::Manifest;
 use std::alloc::Global;
 use std::io::Write;
-use trace::Sink;
 use world_calls::{Notice, Totals};
 
 /// How the input is called where it cannot be read.
-const INPUT: &str = "standard input";
+pub(crate) const INPUT: &str = "standard input";
 
 /// Carries out what the lines of an input ask of an engine of a manifest, a path and its bytes, until the input ends, and answers the status:
 /// 0 at its end; 1 where the manifest is refused, before anything goes out; 2 for want of memory, or where the input or a sink fails. The
 /// engine's trace goes out line by line. A line that is not carried out is told on `err`, and changes nothing.
-pub fn serve<I: Input, S: Sink, E: Write>(
+pub fn serve<I: Input, S: Outlet, E: Write>(
     alloc: Global,
     manifest: (&str, &[u8]),
-    is_stepped: bool,
+    manner: Manner,
     input: &mut I,
     out: &mut S,
     err: &mut E,
@@ -38,16 +37,16 @@ pub fn serve<I: Input, S: Sink, E: Write>(
     ensures done { result ≡ 0 → IsManifest manifest.entry.1.now }
     // All that went out is a trace that a replay over the manifest accepts.
     ensures accepted { result ≡ 0 → IsServed manifest.entry.1.now (S.bytes out.old) (S.bytes out.new) }
-    // It is at its end only if no read failed, and all of the input was read.
+    // It is at its end only if no read failed, and all of the input was read, or where lines are answered one of them ended it.
     ensures read { result ≡ 0 → I.has_failed input.new ≡ I.has_failed input.old }
-    ensures ended { result ≡ 0 → IsTrue (I.has_ended input.new) }
+    ensures ended { manner.is_told ≡ false → result ≡ 0 → IsTrue (I.has_ended input.new) }
     // Where it stopped, it is a front of one.
     ensures stopped { result ≡ 2 → IsStopped manifest.entry.1.now (S.bytes out.old) (S.bytes out.new) }
     ensures refused { result ≡ 1 → IsFaultyManifest manifest.entry.1.now }
     ensures nothing { result ≡ 1 → Keeps (S.bytes out.old) (S.bytes out.new) }
 {
     match read(alloc, manifest) {
-        Ok(manifest) => serve_on(alloc, manifest.config, is_stepped, input, out, err),
+        Ok(manifest) => serve_on(alloc, manifest.config, manner, input, out, err),
         Err(fault) => fault.report(err),
     }
 }
@@ -62,10 +61,10 @@ fn read<'a>(alloc: Global, file: (&'a str, &[u8])) -> Result<Manifest, Fault<'a>
 }
 
 // The same of an engine of this configuration.
-fn serve_on<I: Input, S: Sink, E: Write>(
+fn serve_on<I: Input, S: Outlet, E: Write>(
     alloc: Global,
     config: Config,
-    is_stepped: bool,
+    manner: Manner,
     input: &mut I,
     out: &mut S,
     err: &mut E,
@@ -73,11 +72,11 @@ fn serve_on<I: Input, S: Sink, E: Write>(
     ensures status { (result ≢ 1) × (result ≤ 2) }
     ensures whole { result ≡ 0 → IsWrittenOut config (S.bytes out.old) (S.bytes out.new) }
     ensures read { result ≡ 0 → I.has_failed input.new ≡ I.has_failed input.old }
-    ensures ended { result ≡ 0 → IsTrue (I.has_ended input.new) }
+    ensures ended { manner.is_told ≡ false → result ≡ 0 → IsTrue (I.has_ended input.new) }
     ensures begun { result ≡ 2 → IsBegun config (S.bytes out.old) (S.bytes out.new) }
 {
     let mut telling = Telling { err: &mut *err };
-    match host_live::serve(alloc, &config, is_stepped, input, out, &mut telling) {
+    match host_live::serve(alloc, &config, manner, input, out, &mut telling) {
         Ok(()) => 0,
         Err(fault) => report(fault, err),
     }
@@ -95,10 +94,30 @@ fn report<E: Write>(fault: LiveFault, err: &mut E) -> u8
     }
 }
 
-// A writer that is told what is no part of the trace.
+/// The requests, a line each.
+const REQUESTS: [&str; 16] = [
+    "submit Q PRIORITY RETRIES",
+    "dispatch Q",
+    "complete C STATUS SCSI SENSE",
+    "gfreeze Q G",
+    "cfreeze C G",
+    "grelease F",
+    "clock T",
+    "park R",
+    "resume R",
+    "step R",
+    "drive R",
+    "drain",
+    "totals",
+    "ccbs",
+    "help",
+    "quit",
+];
+
+/// A writer that is told what is no part of the trace.
 #[derive(Drop)]
-struct Telling<'a, E: Write> {
-    err: &'a mut E,
+pub(crate) struct Telling<'a, E: Write> {
+    pub(crate) err: &'a mut E,
 }
 
 impl<E: Write> Reports for Telling<'_, E> {
@@ -126,5 +145,11 @@ impl<E: Write> Reports for Telling<'_, E> {
             "camr: ccb {} queue {} {state}",
             ccb.number.0, ccb.queue.0
         );
+    }
+
+    fn help(&mut self) {
+        for request in REQUESTS {
+            let _ = writeln!(self.err, "camr: {request}");
+        }
     }
 }

@@ -7,6 +7,7 @@ mod disk;
 mod feed;
 mod folder;
 mod inputs;
+mod journal_disk;
 mod line;
 mod patient;
 mod reading;
@@ -22,6 +23,7 @@ pub use folder::{Folder, Look, Rights};
 pub use inputs::{
     MOST_MANIFEST, MOST_PROGRAM, MOST_SCENARIO, MOST_TEXT, MOST_TRACE, read_all, read_file,
 };
+pub use journal_disk::JournalDisk;
 pub use line::words;
 pub use patient::Patient;
 pub use reading::Reading;

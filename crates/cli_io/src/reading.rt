@@ -1,6 +1,8 @@
 // Standard input as a live engine reads it. It relies on `host_live` for
 // what an input is.
 
+ghost use Rattle.std.specs.Prelude.{◌≤◌, IfOk, length};
+
 use host_live::{Came, Input};
 use std::alloc::{AllocError, Global};
 use std::io;
@@ -64,7 +66,9 @@ impl<R: Read + Drop> Input for Reading<R> {
 }
 
 /// Reads some bytes, and tells how many; none at the end. A read that is interrupted is tried again.
-pub(crate) fn read_some<R: Read>(reader: &mut R, bytes: &mut [u8]) -> io::Result<usize> {
+pub(crate) fn read_some<R: Read>(reader: &mut R, bytes: &mut [u8]) -> io::Result<usize>
+    ensures { IfOk result (λ len. len ≤ length bytes.new) }
+{
     for _ in 0..u64::MAX {
         match reader.read(bytes) {
             Ok(len) => return Ok(len),

@@ -1,23 +1,23 @@
 -- What `clap` makes of the lines that ask for something other than a run: it refuses nothing of them, and finds what they ask for.
-use Rattle.std.proofs.Common.{◌≡◌, ◌∙◌, List, [], ◌∷◌, Option, None, Some, true, false, ap, codes, map, refl, subst}
+use Rattle.std.proofs.Common.{◌≡◌, ◌∙◌, List, [], ◌∷◌, Option, None, Some, true, false, ap, codes, map, refl, subst, sym}
 use Rattle.std.specs.Prelude.{MatchBool, unwrap_or}
 use Rattle.std.specs.Str.{bytes_eq}
 use Rattle.clap.specs.Words.{Row, Shape, Text, subcommand_of}
-use Rattle.clap.specs.Walk.{Held, Walk, arg_by_id, finished, idle, nothing_held, option, option_word, walked, walked_from}
+use Rattle.clap.specs.Walk.{Held, Walk, arg_by_id, finished, idle, nothing_held, option, option_word, settled, walked, walked_from}
 use Rattle.clap.specs.Faults.{defaults_fault}
-use Rattle.clap.specs.Kinds.{Kinds}
+use Rattle.clap.specs.Kinds.{Kinds, or_else}
 use Rattle.cli_line.specs.FileLines.{ArePlain, Asked, IsAsked, line_of}
-use Rattle.cli_line.specs.FileLines.Asked.{Asm, Dis, Check, Migrate, Live, Replay}
+use Rattle.cli_line.specs.FileLines.Asked.{Asm, Dis, Check, Migrate, Live, Resume, Journal, Audit, Replay}
 use Rattle.cli_line.specs.FoundPlan.{HasFound, MakesNoRun, PlansFound, Suffices}
 use Rattle.cli_line.specs.RunCommand.{camr_command}
-use Rattle.cli_line.specs.RunLine.{spelled_out}
+use Rattle.cli_line.specs.RunLine.{IsPlain, spelled_out}
 use Rattle.cli_line.proofs.AskedRows.{MeetsAsked, asked_in, found_asked}
 use Rattle.cli_line.proofs.Clear.{IsClear}
 use Rattle.cli_line.proofs.CommandWords.{IsWordOf, command_enters, command_fault, shape_of}
 use Rattle.cli_line.proofs.PlainWords.{turn_value, walk_at, walked_value}
 use Rattle.cli_line.proofs.Planned.{apart}
 use Rattle.cli_line.proofs.SpelledOut.{plain_out}
-use Rattle.cli_line.proofs.Traces.{Trace, end_fault, start, trace_both, trace_last, trace_more, traced_fault, traced_rows}
+use Rattle.cli_line.proofs.Traces.{Trace, end_fault, start, trace_both, trace_last, trace_more, trace_nil, traced_fault, traced_rows}
 
 -- the word that such a line begins with
 abbrev word_of : Asked → Text
@@ -26,6 +26,9 @@ word_of (Dis program) = codes "dis"
 word_of (Check manifest) = codes "check"
 word_of (Migrate manifest migrated) = codes "migrate"
 word_of (Live is_clocked is_stepped manifest) = codes "live"
+word_of (Resume folder) = codes "live"
+word_of (Journal folder manifest) = codes "live"
+word_of (Audit folder) = codes "audit"
 word_of (Replay manifest trace) = codes "replay"
 
 abbrev shape : Asked → Shape
@@ -38,6 +41,9 @@ is_word (Dis program) = record { stops = refl; faultless = refl; found = refl; n
 is_word (Check manifest) = record { stops = refl; faultless = refl; found = refl; named = refl }
 is_word (Migrate manifest migrated) = record { stops = refl; faultless = refl; found = refl; named = refl }
 is_word (Live is_clocked is_stepped manifest) = record { stops = refl; faultless = refl; found = refl; named = refl }
+is_word (Resume folder) = record { stops = refl; faultless = refl; found = refl; named = refl }
+is_word (Journal folder manifest) = record { stops = refl; faultless = refl; found = refl; named = refl }
+is_word (Audit folder) = record { stops = refl; faultless = refl; found = refl; named = refl }
 is_word (Replay manifest trace) = record { stops = refl; faultless = refl; found = refl; named = refl }
 
 -- a line is clear, by its trace
@@ -78,6 +84,29 @@ step_walked : (h : Held) → walked live_shape.rules [] (walk_at h idle 1) (code
 unfolding walked
 step_walked h = refl
 
+-- a flag that is found as another word is not given
+not_synced : {o : Option Text} → o ≡ Some (codes "false") → o ≡ Some (codes "true") → ⊥
+not_synced {o = o} found given = apart (codes "false") (codes "true") refl (ap (λ (x : Option Text). unwrap_or x []) (sym found ∙ given))
+
+-- `--journal` and its folder
+abbrev asks_journal : Held
+asks_journal = record (settled live_shape.rules nothing_held) { pending = Some (codes "journal", []) }
+
+abbrev journal_walk : Text → Walk
+journal_walk folder = let pair = option_word (arg_by_id live_shape.rules (codes "journal")) (codes "journal") folder asks_journal in walk_at pair.0 pair.1 1
+
+journal_walked : walked live_shape.rules [] start (codes "--journal") ≡ walk_at asks_journal (option (codes "journal")) 1
+unfolding walked
+journal_walked = refl
+
+trace_journal : (folder : Text) (rest : List Text) (g : Kinds) (end : Walk) → IsPlain folder → Trace live_shape (journal_walk folder) rest g end
+    → Trace live_shape start (codes "--journal" ∷ folder ∷ rest) (or_else [] g) end
+trace_journal folder rest g end plain more =
+    trace_more start (walk_at asks_journal (option (codes "journal")) 1) end (codes "--journal") (folder ∷ rest) [] g journal_walked refl
+    (trace_more (walk_at asks_journal (option (codes "journal")) 1) (journal_walk folder) end folder rest [] g
+    (walked_value live_shape.rules asks_journal (codes "journal") 1 folder plain)
+    (turn_value live_shape asks_journal (codes "journal") 1 folder plain) more)
+
 -- ---- the lines
 
 pub asked_clear : (asked : Asked) → ArePlain asked → IsClear PlansFound (line_of asked) (IsAsked asked)
@@ -98,16 +127,25 @@ asked_clear (Live true true manifest) plain = clear (Live true true manifest) _ 
     (trace_more start (walk_at clocked idle 1) _ (codes "--clock") _ [] _ clock_walked refl
     (trace_more (walk_at clocked idle 1) (walk_at (stepped clocked) idle 1) _ (codes "--step") _ [] _ (step_walked clocked) refl
     (trace_last (stepped clocked) 1 manifest plain)))
-    refl refl ((manifest, refl), tt) refl (λ i. codes "live" ∷ codes "--clock" ∷ codes "--step" ∷ plain_out manifest plain i ∷ [])
+    refl refl (not_synced refl, ((manifest, refl), tt)) refl (λ i. codes "live" ∷ codes "--clock" ∷ codes "--step" ∷ plain_out manifest plain i ∷ [])
 asked_clear (Live true false manifest) plain = clear (Live true false manifest) _ _ _
     (trace_more start (walk_at clocked idle 1) _ (codes "--clock") _ [] _ clock_walked refl (trace_last clocked 1 manifest plain))
-    refl refl ((manifest, refl), tt) refl (λ i. codes "live" ∷ codes "--clock" ∷ plain_out manifest plain i ∷ [])
+    refl refl (not_synced refl, ((manifest, refl), tt)) refl (λ i. codes "live" ∷ codes "--clock" ∷ plain_out manifest plain i ∷ [])
 asked_clear (Live false true manifest) plain = clear (Live false true manifest) _ _ _
     (trace_more start (walk_at (stepped nothing_held) idle 1) _ (codes "--step") _ [] _ (step_walked nothing_held) refl (trace_last (stepped nothing_held) 1 manifest plain))
-    refl refl ((manifest, refl), tt) refl (λ i. codes "live" ∷ codes "--step" ∷ plain_out manifest plain i ∷ [])
+    refl refl (not_synced refl, ((manifest, refl), tt)) refl (λ i. codes "live" ∷ codes "--step" ∷ plain_out manifest plain i ∷ [])
 asked_clear (Live false false manifest) plain = clear (Live false false manifest) _ _ _
     (trace_last nothing_held 1 manifest plain)
-    refl refl ((manifest, refl), tt) refl (λ i. codes "live" ∷ plain_out manifest plain i ∷ [])
+    refl refl (not_synced refl, ((manifest, refl), tt)) refl (λ i. codes "live" ∷ plain_out manifest plain i ∷ [])
+asked_clear (Resume folder) plain = clear (Resume folder) _ _ _
+    (trace_journal folder [] _ _ plain (trace_nil (journal_walk folder)))
+    refl refl tt refl (λ i. codes "live" ∷ codes "--journal" ∷ plain_out folder plain i ∷ [])
+asked_clear (Journal folder manifest) plain = clear (Journal folder manifest) _ _ _
+    (trace_journal folder (manifest ∷ []) _ _ plain.0 (trace_last (journal_walk folder).held 1 manifest plain.1))
+    refl refl tt refl (λ i. codes "live" ∷ codes "--journal" ∷ plain_out folder plain.0 i ∷ plain_out manifest plain.1 i ∷ [])
+asked_clear (Audit folder) plain = clear (Audit folder) _ _ _
+    (trace_last nothing_held 1 folder plain)
+    refl refl ((folder, refl), tt) refl (λ i. codes "audit" ∷ plain_out folder plain i ∷ [])
 asked_clear (Replay manifest trace) plain = clear (Replay manifest trace) _ _ _
     (trace_both nothing_held manifest trace refl plain.0 plain.1)
     refl refl ((manifest, refl), ((trace, refl), tt)) refl (λ i. codes "replay" ∷ plain_out manifest plain.0 i ∷ plain_out trace plain.1 i ∷ [])

@@ -1,12 +1,13 @@
 -- What the rows behind a word ask for, and that the plan which was found behind it is that.
-use Rattle.std.proofs.Common.{◌≡◌, Bool, true, false, List, [], Option, None, Some, codes, refl, sym, subst, ap}
-use Rattle.std.specs.Prelude.{MatchBool, if◌then◌else◌, string_bytes, unwrap_or}
+use Rattle.std.proofs.Common.{Global, ◌≡◌, Bool, true, false, List, [], Option, None, Some, codes, refl, sym, subst, ap}
+use Rattle.std.specs.Prelude.{MatchBool, String, ◌||◌, if◌then◌else◌, option_map, string_bytes, unwrap_or}
 use Rattle.std.specs.Str.{bytes_eq}
 use Rattle.std.proofs.lemmas.Slice.Eq.{bytes_eq-Decides}
 use Rattle.clap.specs.Words.{Row, Text, first_of}
 use Rattle.cli_line.specs.FileLines.{Asked, IsAsked}
-use Rattle.cli_line.specs.FileLines.Asked.{Asm, Dis, Check, Migrate, Live, Replay}
+use Rattle.cli_line.specs.FileLines.Asked.{Asm, Dis, Check, Migrate, Live, Resume, Journal, Audit, Replay}
 use Rattle.cli_line.specs.FoundPlan.{HasFoundBehind}
+use Rattle.cli_line.specs.declared.plans.Manner.{Manner}
 use Rattle.cli_line.specs.declared.plans.Plan.{Plan}
 use Rattle.cli_line.specs.declared.plans.Plan.TheVariants as plans
 
@@ -18,6 +19,21 @@ abbrev pub is_told : Option Text → Bool
 is_told None = false
 is_told (Some word) = bytes_eq word (codes "true")
 
+-- what is asked for with a journal, if no flag is given
+abbrev pub kept_in : Bool → Text → Option Text → Option Asked
+kept_in true folder manifest = None
+kept_in false folder None = Some (Resume folder)
+kept_in false folder (Some manifest) = Some (Journal folder manifest)
+
+-- a flag is given of those that say how lines are carried out and kept
+abbrev pub is_flagged : List Row → Bool
+is_flagged rows = is_told (first_of (codes "clock") rows) || (is_told (first_of (codes "step") rows) || (is_told (first_of (codes "ack") rows) || is_told (first_of (codes "sync") rows)))
+
+-- what is asked for behind `live`, if no other flag is given
+abbrev pub live_in : List Row → Option Text → Option Text → Option Asked
+live_in rows None manifest = if is_told (first_of (codes "ack") rows) then None else Some (Live (is_told (first_of (codes "clock") rows)) (is_told (first_of (codes "step") rows)) (unwrap_or manifest []))
+live_in rows (Some folder) manifest = kept_in (is_flagged rows) folder manifest
+
 -- what is asked for
 abbrev pub asked_in : Text → List Row → Option Asked
 asked_in name rows =
@@ -26,9 +42,10 @@ asked_in name rows =
     else (if bytes_eq name (codes "check") then Some (Check (word_at (codes "MANIFEST") rows))
     else (if bytes_eq name (codes "migrate") then Some (Migrate (word_at (codes "IN") rows) (word_at (codes "OUT") rows))
     else (if bytes_eq name (codes "live")
-    then Some (Live (is_told (first_of (codes "clock") rows)) (is_told (first_of (codes "step") rows)) (word_at (codes "MANIFEST") rows))
+    then live_in rows (first_of (codes "journal") rows) (first_of (codes "MANIFEST") rows)
+    else (if bytes_eq name (codes "audit") then Some (Audit (word_at (codes "DIR") rows))
     else (if bytes_eq name (codes "replay") then Some (Replay (word_at (codes "MANIFEST") rows) (word_at (codes "TRACE") rows))
-    else None)))))
+    else None))))))
 
 -- the plan is that, if anything is asked for
 abbrev pub MeetsAsked : Option Asked → Plan → Type 0
@@ -47,6 +64,28 @@ told_as (Some word) false differs = go (bytes_eq word (codes "true")) refl
     go false is = sym is
     go true is = absurd (differs (ap Some ((bytes_eq-Decides word (codes "true")).0 is)))
 
+-- what was found without a journal is what is asked for
+alone_asked : (rows : List Row) (manner : Manner) (a : String Global) (manifest : Option Text) (told : Bool) → manifest ≡ Some (string_bytes a)
+    → manner.is_clocked ≡ is_told (first_of (codes "clock") rows) → manner.is_stepped ≡ is_told (first_of (codes "step") rows) → manner.is_told ≡ told
+    → MeetsAsked (if told then None else Some (Live (is_told (first_of (codes "clock") rows)) (is_told (first_of (codes "step") rows)) (unwrap_or manifest []))) (plans.Live manner a)
+alone_asked rows manner a manifest true found clock step ack = tt
+alone_asked rows manner a manifest false found clock step ack = (clock, step, ack, ap (λ (o : Option Text). unwrap_or o []) (sym found))
+
+-- so is what was found with one
+kept_asked : (rows : List Row) (manner : Manner) (is_synced : Bool) (a : String Global) (b : Option (String Global)) (manifest : Option Text) (c s t y : Bool) → manifest ≡ option_map string_bytes b
+    → manner.is_clocked ≡ c → manner.is_stepped ≡ s → manner.is_told ≡ t → is_synced ≡ y
+    → MeetsAsked (kept_in (c || (s || (t || y))) (string_bytes a) manifest) (plans.Journal manner is_synced a b)
+kept_asked rows manner is_synced a b None true s t y found clock step ack sync = tt
+kept_asked rows manner is_synced a b None false true t y found clock step ack sync = tt
+kept_asked rows manner is_synced a b None false false true y found clock step ack sync = tt
+kept_asked rows manner is_synced a b None false false false true found clock step ack sync = tt
+kept_asked rows manner is_synced a b None false false false false found clock step ack sync = ((clock, step, ack, sync), refl, sym found)
+kept_asked rows manner is_synced a b (Some manifest) true s t y found clock step ack sync = tt
+kept_asked rows manner is_synced a b (Some manifest) false true t y found clock step ack sync = tt
+kept_asked rows manner is_synced a b (Some manifest) false false true y found clock step ack sync = tt
+kept_asked rows manner is_synced a b (Some manifest) false false false true found clock step ack sync = tt
+kept_asked rows manner is_synced a b (Some manifest) false false false false found clock step ack sync = ((clock, step, ack, sync), refl, sym found)
+
 module _ (name : Text) (rows : List Row) where
   -- the plan is behind that word
   by_word : (other : Text) (plan : Plan) → name ≡ other → MeetsAsked (asked_in other rows) plan → MeetsAsked (asked_in name rows) plan
@@ -59,9 +98,13 @@ module _ (name : Text) (rows : List Row) where
   found_asked (plans.Migrate a b) found = by_word (codes "migrate") (plans.Migrate a b) found.0 (found_word (codes "IN") rows _ found.1, found_word (codes "OUT") rows _ found.2)
   found_asked (plans.Dis a) found = by_word (codes "dis") (plans.Dis a) found.0 (found_word (codes "FILE") rows _ found.1)
   found_asked (plans.Check a) found = by_word (codes "check") (plans.Check a) found.0 (found_word (codes "MANIFEST") rows _ found.1)
-  found_asked (plans.Live manner a) found = by_word (codes "live") (plans.Live manner a) found.0 (
-    told_as (first_of (codes "clock") rows) manner.is_clocked found.2,
-    told_as (first_of (codes "step") rows) manner.is_stepped found.3,
-    found_word (codes "MANIFEST") rows _ found.1,
-  )
+  found_asked (plans.Live manner a) found = by_word (codes "live") (plans.Live manner a) found.0
+      (subst (λ (o : Option Text). MeetsAsked (live_in rows o (first_of (codes "MANIFEST") rows)) (plans.Live manner a)) (sym found.3)
+      (alone_asked rows manner a (first_of (codes "MANIFEST") rows) (is_told (first_of (codes "ack") rows)) found.1
+      (told_as (first_of (codes "clock") rows) manner.is_clocked found.2.0) (told_as (first_of (codes "step") rows) manner.is_stepped found.2.1) (told_as (first_of (codes "ack") rows) manner.is_told found.2.2)))
+  found_asked (plans.Journal manner is_synced a b) found = by_word (codes "live") (plans.Journal manner is_synced a b) found.0
+      (subst (λ (o : Option Text). MeetsAsked (live_in rows o (first_of (codes "MANIFEST") rows)) (plans.Journal manner is_synced a b)) (sym found.1)
+      (kept_asked rows manner is_synced a b (first_of (codes "MANIFEST") rows) (is_told (first_of (codes "clock") rows)) (is_told (first_of (codes "step") rows)) (is_told (first_of (codes "ack") rows)) (is_told (first_of (codes "sync") rows)) found.2
+      (told_as (first_of (codes "clock") rows) manner.is_clocked found.3.0) (told_as (first_of (codes "step") rows) manner.is_stepped found.3.1) (told_as (first_of (codes "ack") rows) manner.is_told found.3.2) (told_as (first_of (codes "sync") rows) is_synced found.4)))
+  found_asked (plans.Audit a) found = by_word (codes "audit") (plans.Audit a) found.0 (found_word (codes "DIR") rows _ found.1)
   found_asked (plans.Replay a b) found = by_word (codes "replay") (plans.Replay a b) found.0 (found_word (codes "MANIFEST") rows _ found.1, found_word (codes "TRACE") rows _ found.2)

@@ -4,6 +4,7 @@ pub mod Traces
 pub mod Readings
 pub mod Numbers
 pub mod Given
+pub mod PlannedLive
 pub mod Planned
 pub mod PlanLines
 pub mod Clear

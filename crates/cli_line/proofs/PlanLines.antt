@@ -10,7 +10,7 @@ use Rattle.cli_line.specs.RunCommand.{camr_command}
 use Rattle.cli_line.specs.RunLine.{IsPlain, IsRun, RunLine, SpellsNoLawfulNumber}
 use Rattle.cli_line.specs.declared.plans.Plan.{Plan}
 use Rattle.cli_line.specs.declared.plans.Watch.TheVariants.{Never}
-use Rattle.cli_line.specs.declared.plans.Plan.TheVariants.{Asm, Migrate, Dis, Check, Run, Live, Replay}
+use Rattle.cli_line.specs.declared.plans.Plan.TheVariants.{Asm, Migrate, Dis, Check, Run, Live, Journal, Audit, Replay}
 use Rattle.cli_line.proofs.Numbers.{refused_number}
 use Rattle.cli_line.proofs.Planned.{apart}
 use Rattle.cli_line.proofs.Readings.{line_reading, one_to_sixteen}
@@ -33,6 +33,8 @@ module _ (words : List Text) (number manifest scenario : Text) (line : RunLine w
       run_found (Dis program) rows found = absurd (apart (codes "run") (codes "dis") refl found.0)
       run_found (Check path) rows found = absurd (apart (codes "run") (codes "check") refl found.0)
       run_found (Live manner manifest) rows found = absurd (apart (codes "run") (codes "live") refl found.0)
+      run_found (Journal manner is_synced folder manifest) rows found = absurd (apart (codes "run") (codes "live") refl found.0)
+      run_found (Audit folder) rows found = absurd (apart (codes "run") (codes "audit") refl found.0)
       run_found (Replay manifest trace) rows found = absurd (apart (codes "run") (codes "replay") refl found.0)
 
       go : (plan : Plan) (rows : List Row) → HasFoundIn rows plan → first_of (codes "workers") rows ≡ Some number → first_of (codes "watch") rows ≡ Some (codes "never")

@@ -1,7 +1,8 @@
 -- The lines that ask for something other than a run: a word, flags, and the paths of the files; and what each of them asks for.
-use Rattle.std.specs.Prelude.{◌≡◌, Bool, List, [], ◌∷◌, codes, if◌then◌else◌, string_bytes}
+use Rattle.std.specs.Prelude.{◌≡◌, Bool, false, List, [], ◌∷◌, None, Some, codes, if◌then◌else◌, option_map, string_bytes}
 use Rattle.clap.specs.Words.{Text}
 use Rattle.cli_line.specs.RunLine.{IsPlain}
+use Rattle.cli_line.specs.declared.plans.Manner.{Manner}
 use Rattle.cli_line.specs.declared.plans.Plan.{Plan}
 use Rattle.cli_line.specs.declared.plans.Plan.TheVariants as plans
 
@@ -12,6 +13,10 @@ pub data Asked : Type 0 where
   Check : (manifest : Text) → Asked
   Migrate : (manifest migrated : Text) → Asked
   Live : (is_clocked is_stepped : Bool) (manifest : Text) → Asked
+  -- a journal, without the manifest or with it
+  Resume : (folder : Text) → Asked
+  Journal : (folder manifest : Text) → Asked
+  Audit : (folder : Text) → Asked
   Replay : (manifest trace : Text) → Asked
 
 -- the flag, where it is given, and the words behind it
@@ -24,6 +29,9 @@ line_of (Dis program) = codes "dis" ∷ program ∷ []
 line_of (Check manifest) = codes "check" ∷ manifest ∷ []
 line_of (Migrate manifest migrated) = codes "migrate" ∷ manifest ∷ migrated ∷ []
 line_of (Live is_clocked is_stepped manifest) = codes "live" ∷ flagged is_clocked (codes "--clock") (flagged is_stepped (codes "--step") (manifest ∷ []))
+line_of (Resume folder) = codes "live" ∷ codes "--journal" ∷ folder ∷ []
+line_of (Journal folder manifest) = codes "live" ∷ codes "--journal" ∷ folder ∷ manifest ∷ []
+line_of (Audit folder) = codes "audit" ∷ folder ∷ []
 line_of (Replay manifest trace) = codes "replay" ∷ manifest ∷ trace ∷ []
 
 -- none of its paths begins with a hyphen
@@ -33,7 +41,14 @@ ArePlain (Dis program) = IsPlain program
 ArePlain (Check manifest) = IsPlain manifest
 ArePlain (Migrate manifest migrated) = IsPlain manifest × IsPlain migrated
 ArePlain (Live is_clocked is_stepped manifest) = IsPlain manifest
+ArePlain (Resume folder) = IsPlain folder
+ArePlain (Journal folder manifest) = IsPlain folder × IsPlain manifest
+ArePlain (Audit folder) = IsPlain folder
 ArePlain (Replay manifest trace) = IsPlain manifest × IsPlain trace
+
+-- no flag is given
+abbrev pub IsPlainly : Manner → Bool → Type 0
+IsPlainly manner is_synced = (manner.is_clocked ≡ false) × (manner.is_stepped ≡ false) × (manner.is_told ≡ false) × (is_synced ≡ false)
 
 -- the plan is that, of the files at these paths
 abbrev pub IsAsked : Asked → Plan → Type 0
@@ -42,6 +57,9 @@ IsAsked (Dis program) (plans.Dis a) = string_bytes a ≡ program
 IsAsked (Check manifest) (plans.Check a) = string_bytes a ≡ manifest
 IsAsked (Migrate manifest migrated) (plans.Migrate a b) = (string_bytes a ≡ manifest) × (string_bytes b ≡ migrated)
 IsAsked (Live is_clocked is_stepped manifest) (plans.Live manner a) =
-    (manner.is_clocked ≡ is_clocked) × (manner.is_stepped ≡ is_stepped) × (string_bytes a ≡ manifest)
+    (manner.is_clocked ≡ is_clocked) × (manner.is_stepped ≡ is_stepped) × (manner.is_told ≡ false) × (string_bytes a ≡ manifest)
+IsAsked (Resume folder) (plans.Journal manner is_synced a b) = IsPlainly manner is_synced × (string_bytes a ≡ folder) × (option_map string_bytes b ≡ None)
+IsAsked (Journal folder manifest) (plans.Journal manner is_synced a b) = IsPlainly manner is_synced × (string_bytes a ≡ folder) × (option_map string_bytes b ≡ Some manifest)
+IsAsked (Audit folder) (plans.Audit a) = string_bytes a ≡ folder
 IsAsked (Replay manifest trace) (plans.Replay a b) = (string_bytes a ≡ manifest) × (string_bytes b ≡ trace)
 IsAsked asked plan = ⊥

@@ -1,14 +1,15 @@
 -- The plan of what `clap` found.
-use Rattle.std.specs.Prelude.{◌≡◌, ◌⊎◌, ℕ, List, [], ◌∷◌, MatchBool, Option, Some, None, codes, if◌then◌else◌, string_bytes}
+use Rattle.std.specs.Prelude.{◌≡◌, ◌⊎◌, ℕ, Bool, List, [], ◌∷◌, MatchBool, Option, Some, None, codes, if◌then◌else◌, option_map, string_bytes}
 use Rattle.std.specs.Str.{bytes_eq}
 use Rattle.clap.specs.Words.{HasKind, Row, Text, fault_of, first_of, subcommand_of}
 use Rattle.clap.specs.declared.error.Error.{Error}
 use Rattle.cli_line.specs.RunCommand.{camr_command}
 use Rattle.cli_line.specs.RunLine.{HasLawfulNumber, IsLawfulNumber, IsRun, Spells, watch_word}
 use Rattle.cli_line.specs.RunLine.{SpellsNoLawfulNumber}
+use Rattle.cli_line.specs.declared.plans.Manner.{Manner}
 use Rattle.cli_line.specs.declared.plans.Plan.{Plan}
 use Rattle.cli_line.specs.declared.plans.Watch.{Watch}
-use Rattle.cli_line.specs.declared.plans.Plan.TheVariants.{Asm, Migrate, Dis, Check, Run, Live, Replay}
+use Rattle.cli_line.specs.declared.plans.Plan.TheVariants.{Asm, Migrate, Dis, Check, Run, Live, Journal, Audit, Replay}
 
 -- the plan has what `clap` found behind `run` under the arguments' names
 pub record HasFoundIn (rows : List Row) (plan : Plan) : Type 0 where
@@ -26,6 +27,14 @@ pub record HasFoundIn (rows : List Row) (plan : Plan) : Type 0 where
 abbrev pub IsGiven : Text → List Row → Type 0
 IsGiven name rows = first_of name rows ≡ Some (codes "true")
 
+-- the flag is given exactly if that is true
+abbrev pub Tells : Text → List Row → Bool → Type 0
+Tells name rows told = MatchBool told (IsGiven name rows) (IsGiven name rows → ⊥)
+
+-- lines are carried out as the flags say
+abbrev pub HasManner : List Row → Manner → Type 0
+HasManner rows manner = Tells (codes "clock") rows manner.is_clocked × Tells (codes "step") rows manner.is_stepped × Tells (codes "ack") rows manner.is_told
+
 -- the plan is what was asked for by that word, with what `clap` found behind it
 abbrev pub HasFoundBehind : Text → List Row → Plan → Type 0
 HasFoundBehind name rows (Run workers watch a b) = (name ≡ codes "run") × HasFoundIn rows (Run workers watch a b)
@@ -38,9 +47,13 @@ HasFoundBehind name rows (Dis program) =
 HasFoundBehind name rows (Check path) =
     (name ≡ codes "check") × (first_of (codes "MANIFEST") rows ≡ Some (string_bytes path))
 HasFoundBehind name rows (Live manner manifest) =
-    (name ≡ codes "live") × (first_of (codes "MANIFEST") rows ≡ Some (string_bytes manifest))
-    × MatchBool manner.is_clocked (IsGiven (codes "clock") rows) (IsGiven (codes "clock") rows → ⊥)
-    × MatchBool manner.is_stepped (IsGiven (codes "step") rows) (IsGiven (codes "step") rows → ⊥)
+    (name ≡ codes "live") × (first_of (codes "MANIFEST") rows ≡ Some (string_bytes manifest)) × HasManner rows manner
+    × (first_of (codes "journal") rows ≡ None) × (IsGiven (codes "sync") rows → ⊥)
+HasFoundBehind name rows (Journal manner is_synced folder manifest) =
+    (name ≡ codes "live") × (first_of (codes "journal") rows ≡ Some (string_bytes folder)) × (first_of (codes "MANIFEST") rows ≡ option_map string_bytes manifest)
+    × HasManner rows manner × Tells (codes "sync") rows is_synced
+HasFoundBehind name rows (Audit folder) =
+    (name ≡ codes "audit") × (first_of (codes "DIR") rows ≡ Some (string_bytes folder))
 HasFoundBehind name rows (Replay manifest trace) =
     (name ≡ codes "replay") × (first_of (codes "MANIFEST") rows ≡ Some (string_bytes manifest)) × (first_of (codes "TRACE") rows ≡ Some (string_bytes trace))
 
@@ -81,7 +94,7 @@ paths_of name =
     else (if bytes_eq name (codes "migrate") then Some (codes "IN" ∷ codes "OUT" ∷ [])
     else (if bytes_eq name (codes "dis") then Some (codes "FILE" ∷ [])
     else (if bytes_eq name (codes "check") then Some (codes "MANIFEST" ∷ [])
-    else (if bytes_eq name (codes "live") then Some (codes "MANIFEST" ∷ [])
+    else (if bytes_eq name (codes "audit") then Some (codes "DIR" ∷ [])
     else (if bytes_eq name (codes "replay") then Some (codes "MANIFEST" ∷ codes "TRACE" ∷ [])
     else None)))))
 
@@ -90,9 +103,14 @@ abbrev pub AllFound : Option (List Text) → List Row → Type 0
 AllFound None rows = ⊥
 AllFound (Some ids) rows = AreFound ids rows
 
+-- those rows are enough behind `live`: there is a journal; or there is none that would be synced, and a manifest
+abbrev pub MakesLive : Option Text → List Row → Type 0
+MakesLive None rows = (IsGiven (codes "sync") rows → ⊥) × AreFound (codes "MANIFEST" ∷ []) rows
+MakesLive (Some folder) rows = Unit {0}
+
 -- those rows are enough for a plan behind that word
 abbrev pub Suffices : Text → List Row → Type 0
-Suffices name rows = AllFound (paths_of name) rows
+Suffices name rows = MatchBool (bytes_eq name (codes "live")) (MakesLive (first_of (codes "journal") rows) rows) (AllFound (paths_of name) rows)
 
 -- they are none behind it
 abbrev pub MakesNone : Text → List Row → Type 0
@@ -102,6 +120,11 @@ MakesNone name rows = MatchBool (bytes_eq name (codes "run")) (MakesNoRun rows) 
 abbrev pub PlansBehind : Text → List Row → Option Plan → Type 0
 PlansBehind name rows (Some plan) = HasFoundBehind name rows plan × HasLawfulNumber plan
 PlansBehind name rows None = MakesNone name rows
+
+-- the same of an engine without a journal: what those rows ask for, in that manner, and none only where they are no plan
+abbrev pub PlansAlone : List Row → Manner → Option Plan → Type 0
+PlansAlone rows manner (Some plan) = first_of (codes "journal") rows ≡ None → HasManner rows manner → HasFoundBehind (codes "live") rows plan × HasLawfulNumber plan
+PlansAlone rows manner None = first_of (codes "journal") rows ≡ None → MakesNone (codes "live") rows
 
 -- the same of the subcommand that `clap` found
 abbrev pub PlansFound : Option (Text × List Row) → Option Plan → Type 0

@@ -89,9 +89,17 @@ optional_command = with_rule (with_rule timed_command (flag_rule (codes "summary
 abbrev pub show_command : App
 show_command = with_rule (with_rule optional_command (path_rule (codes "MANIFEST"))) (path_rule (codes "TRACE"))
 
--- `host_live` with its two flags and its manifest
+-- `live` with the flags that say how lines are carried out
+abbrev pub manner_command : App
+manner_command = with_rule (with_rule (with_rule (new_app (codes "live")) (flag_rule (codes "clock"))) (flag_rule (codes "step"))) (flag_rule (codes "ack"))
+
+-- with the journal's folder and its flag, and the manifest, which may be left out
 abbrev pub live_command : App
-live_command = with_rule (with_rule (with_rule (new_app (codes "live")) (flag_rule (codes "clock"))) (flag_rule (codes "step"))) (path_rule (codes "MANIFEST"))
+live_command = with_rule (with_rule (with_rule manner_command (option_rule (codes "journal"))) (flag_rule (codes "sync"))) (new_rule (codes "MANIFEST"))
+
+-- `audit` with a journal's folder
+abbrev pub audit_command : App
+audit_command = with_rule (new_app (codes "audit")) (path_rule (codes "DIR"))
 
 -- the program, whose words begin behind its own name; where there are none it shows its help
 abbrev pub bare_command : App
@@ -116,13 +124,17 @@ programs_command = with_subcommand texts_command check_command.top
 abbrev pub manifests_command : App
 manifests_command = with_subcommand (with_subcommand programs_command explain_command.top) migrate_command.top
 
--- with `run` and `host_live` too
+-- with `run` and `live` too
 abbrev pub runs_command : App
 runs_command = with_subcommand (with_subcommand manifests_command run_command.top) live_command.top
 
+-- with `replay` and `audit` too
+abbrev pub traces_command : App
+traces_command = with_subcommand (with_subcommand runs_command replay_command.top) audit_command.top
+
 -- the whole command line
 abbrev pub camr_command : App
-camr_command = with_subcommand (with_subcommand runs_command replay_command.top) show_command.top
+camr_command = with_subcommand traces_command show_command.top
 
 -- ---- what is made for `clap`
 

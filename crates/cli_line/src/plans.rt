@@ -1,7 +1,7 @@
 // What the program `camr` can be asked to do. It relies on nothing.
 
 ghost use Rattle.std.specs.Prelude.{◌≡◌, ◌<◌, [], Some, None, MatchOption, length, slice_index_or};
-ghost use Rattle.cli_line.specs.Files.{input_paths, output_path};
+ghost use Rattle.cli_line.specs.Files.{given_paths, input_paths, output_path};
 ghost use Rattle.cli_line.specs.Watching.{watch_of};
 
 /// The least number of workers that serve completions, and the greatest.
@@ -26,6 +26,8 @@ pub struct Manner {
     pub is_clocked: bool,
     /// A run goes to its next stop only where a line asks for that.
     pub is_stepped: bool,
+    /// Each line that asks for something is answered by a line of its own, behind all that it led to.
+    pub is_told: bool,
 }
 
 /// What is to be done, with the paths of the files in the order of the line.
@@ -43,6 +45,11 @@ pub enum Plan {
     Run(u8, Watch, String, String),
     /// Carries out what standard input asks of a manifest's queues, line by line: how, and the manifest.
     Live(Manner, String),
+    /// The same of an engine whose trace is kept in a journal: how, whether the journal is synced before an answer goes out, its folder,
+    /// and the manifest, where one is given.
+    Journal(Manner, bool, String, Option<String>),
+    /// Replays the segments of a journal, whose folder that is.
+    Audit(String),
     /// Replays a trace over a manifest's queues: the manifest, the trace.
     Replay(String, String),
 }
@@ -55,6 +62,8 @@ impl Plan {
         match self {
             Plan::Asm(..) | Plan::Migrate(..) | Plan::Dis(_) | Plan::Check(_) | Plan::Live(..) => 1,
             Plan::Run(..) | Plan::Replay(..) => 2,
+            Plan::Journal(_, _, _, manifest) => count_given(manifest),
+            Plan::Audit(_) => 0,
         }
     }
 
@@ -75,6 +84,7 @@ impl Plan {
                 0,
             ) => { first.as_str() }
             (Plan::Run(_, _, _, second) | Plan::Replay(_, second), 1) => { second.as_str() }
+            (Plan::Journal(_, _, _, manifest), 0) => path_given(manifest),
             _ => "",
         }
     }
@@ -85,8 +95,13 @@ impl Plan {
     {
         match self {
             Plan::Asm(_, output) | Plan::Migrate(_, output) => Some(output.as_str()),
-            Plan::Dis(_) | Plan::Check(_) | Plan::Run(..) | Plan::Live(..) | Plan::Replay(..) =>
-                None,
+            Plan::Dis(_)
+            | Plan::Check(_)
+            | Plan::Run(..)
+            | Plan::Live(..)
+            | Plan::Journal(..)
+            | Plan::Audit(_)
+            | Plan::Replay(..) => None,
         }
     }
 
@@ -101,7 +116,29 @@ impl Plan {
             | Plan::Dis(_)
             | Plan::Check(_)
             | Plan::Live(..)
+            | Plan::Journal(..)
+            | Plan::Audit(_)
             | Plan::Replay(..) => Watch::Never,
         }
+    }
+}
+
+// How many paths are given.
+fn count_given(path: &Option<String>) -> usize
+    ensures { result ≡ length (given_paths path.now) }
+{
+    match path {
+        Some(_) => 1,
+        None => 0,
+    }
+}
+
+// The path that is given, if one is.
+fn path_given(path: &Option<String>) -> &str
+    ensures { result.now ≡ slice_index_or (given_paths path.now) 0 [] }
+{
+    match path {
+        Some(path) => path.as_str(),
+        None => "",
     }
 }

@@ -66,7 +66,8 @@ fn numbered_command<'a>(alloc: Global) -> Result<Command<'a>, AllocError>
         .arg(freeze)
 }
 
-fn option<'a>(alloc: Global, name: &'a str, value: &'a str, help: &'a str) -> Arg<'a>
+/// An option of one word, which may be left out.
+pub(crate) fn option<'a>(alloc: Global, name: &'a str, value: &'a str, help: &'a str) -> Arg<'a>
     ensures { IsArgument (option_rule name.entry.now) result }
 {
     Arg::new(alloc, name)

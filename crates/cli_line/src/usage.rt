@@ -2,9 +2,10 @@
 // them. It relies on `show_usage` for those of `show`.
 
 ghost use Rattle.std.specs.Prelude.{◌≡◌, IfOk, codes};
+ghost use Rattle.clap.specs.Words.{new_rule};
 ghost use Rattle.cli_line.specs.RunCommand.{IsArgument, IsCommand, camr_command};
-ghost use Rattle.cli_line.specs.RunCommand.{asm_command, bare_command, check_command, dis_command, explain_command, manifests_command, migrate_command};
-ghost use Rattle.cli_line.specs.RunCommand.{path_rule, programs_command, replay_command, run_command, runs_command, show_command, texts_command};
+ghost use Rattle.cli_line.specs.RunCommand.{asm_command, audit_command, bare_command, check_command, dis_command, explain_command, manifests_command, migrate_command};
+ghost use Rattle.cli_line.specs.RunCommand.{path_rule, programs_command, replay_command, run_command, runs_command, show_command, texts_command, traces_command};
 ghost use Rattle.cli_line.specs.RunCommand.{watch_rule, workers_rule};
 
 use crate::living::live_command;
@@ -24,9 +25,17 @@ Example:
 pub fn camr_command<'a>(alloc: Global) -> Result<Command<'a>, AllocError>
     ensures { IfOk result (IsCommand camr_command) }
 {
-    let replay = replay_command(alloc)?;
     let show = show_command(alloc)?;
-    runs_command(alloc)?.subcommand(replay)?.subcommand(show)
+    traces_command(alloc)?.subcommand(show)
+}
+
+// The command without the one that tells what happened.
+fn traces_command<'a>(alloc: Global) -> Result<Command<'a>, AllocError>
+    ensures { IfOk result (IsCommand traces_command) }
+{
+    let replay = replay_command(alloc)?;
+    let audit = audit_command(alloc)?;
+    runs_command(alloc)?.subcommand(replay)?.subcommand(audit)
 }
 
 // The command without those that read a trace.
@@ -160,6 +169,15 @@ fn replay_command<'a>(alloc: Global) -> Result<Command<'a>, AllocError>
         .arg(trace(alloc))
 }
 
+fn audit_command<'a>(alloc: Global) -> Result<Command<'a>, AllocError>
+    ensures { IfOk result (IsCommand audit_command) }
+{
+    let folder = path(alloc, "DIR", "The folder of a journal");
+    Command::new(alloc, "audit")
+        .about("Replays a journal and says whether it is lawful")
+        .arg(folder)
+}
+
 fn workers<'a>(alloc: Global) -> Arg<'a>
     ensures { IsArgument workers_rule result }
 {
@@ -189,6 +207,15 @@ pub(crate) fn manifest<'a>(alloc: Global) -> Arg<'a>
         alloc,
         "MANIFEST",
         "The queues, their programs and their tables",
+    )
+}
+
+/// The manifest, where it may be left out.
+pub(crate) fn given_manifest<'a>(alloc: Global) -> Arg<'a>
+    ensures { IsArgument (new_rule (codes "MANIFEST")) result }
+{
+    Arg::new(alloc, "MANIFEST").help(
+        "The queues, their programs and their tables; left out, a journal's own",
     )
 }
 

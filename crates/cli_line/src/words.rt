@@ -11,7 +11,7 @@ ghost use Rattle.cli_line.specs.RunLine.{GivesRun, HasLawfulNumber, IsLawfulNumb
 ghost use Rattle.cli_line.specs.RunLine.{RunLine, Spells, SpellsNoLawfulNumber, spelled_out, watch_word};
 ghost use Rattle.cli_line.specs.UsageFault.{Gives, IsValueFault};
 
-use crate::living::live_plan;
+use crate::living::{live_command, live_plan};
 use crate::plans::{MAX_WORKERS, MIN_WORKERS, Plan, Watch};
 use crate::usage::{camr_command, run_command};
 use clap::error::ErrorKind;
@@ -184,6 +184,7 @@ fn plan_behind(alloc: Global, name: &str, found: &ArgMatches) -> Result<Option<P
         "check" => check_plan(alloc, found),
         "migrate" => migrate_plan(alloc, found),
         "replay" => replay_plan(alloc, found),
+        "audit" => audit_plan(alloc, found),
         "run" => run_plan(alloc, found),
         "live" => live_plan(alloc, found),
         _ => Ok(None),
@@ -253,6 +254,16 @@ fn replay_plan(alloc: Global, replay: &ArgMatches) -> Result<Option<Plan>, Alloc
     let manifest = String::from_str(alloc, manifest)?;
     let trace = String::from_str(alloc, trace)?;
     Ok(Some(Plan::Replay(manifest, trace)))
+}
+
+// The plan of what clap found behind `audit`.
+fn audit_plan(alloc: Global, audit: &ArgMatches) -> Result<Option<Plan>, AllocError>
+    ensures { IfOk result (PlansBehind (codes "audit") (rows_of (found_of audit.now))) }
+{
+    let Some(folder) = audit.get_str("DIR") else {
+        return Ok(None);
+    };
+    Ok(Some(Plan::Audit(String::from_str(alloc, folder)?)))
 }
 
 // The plan of what clap found behind `run`.
@@ -327,6 +338,7 @@ fn no_plan(alloc: Global, matches: &ArgMatches) -> Error
 {
     let fault = match matches.subcommand() {
         Some((name @ ("explain" | "show"), _)) => other_program(alloc, name),
+        Some(("live", live)) => live_fault(alloc, live.get_str("MANIFEST").is_some()),
         Some((_, run)) => option_fault(
             alloc,
             run.get_str("workers").unwrap_or(""),
@@ -346,6 +358,20 @@ fn other_program(alloc: Global, name: &str) -> Result<Error, AllocError>
 {
     let text = format!(in alloc; "the program camr_inspect carries out '{name}'")?;
     camr_command(alloc)?.error(ErrorKind::ValueValidation, text.as_str())
+}
+
+// What is missing behind `live` where there is no journal: it is to be synced, or else the manifest is not there.
+fn live_fault(alloc: Global, has_manifest: bool) -> Result<Error, AllocError>
+    ensures { IfOk result (λ e. kind_of e ≡ ErrorKind.ValueValidation) }
+{
+    let missing = if has_manifest {
+        "the following required arguments were not provided:\n  --journal <DIR>"
+    } else {
+        "the following required arguments were not provided:\n  <MANIFEST>"
+    };
+    live_command(alloc)?
+        .bin_name("camr live")?
+        .error(ErrorKind::ValueValidation, missing)
 }
 
 // What is wrong with the word of an option of `run`: clap has refused each other that is no number from 1 to 16.

@@ -5,7 +5,7 @@ ghost use Rattle.std.specs.Prelude.{◌≡◌, bytes_eq, find};
 ghost use Rattle.explain_codes.specs.Names.{code_named, codes_of, name_of, series_of};
 
 use crate::calls::{CALLS, QUEUES, SHARED};
-use crate::files::{MANIFESTS, SCENARIOS, TRACES};
+use crate::files::{JOURNALS, MANIFESTS, SCENARIOS, TRACES};
 use crate::policies::POLICIES;
 use crate::programs::{BYTES, SHAPES, TEXTS};
 use std::fmt;
@@ -26,7 +26,7 @@ pub struct Series {
 }
 
 /// All codes, a row for each letter.
-pub const SERIES: [Series; 10] = [
+pub const SERIES: [Series; 11] = [
     Series {
         letter: b'A',
         end: TEXTS.len() as u8 + 1,
@@ -50,6 +50,10 @@ pub const SERIES: [Series; 10] = [
     Series {
         letter: b'N',
         end: SCENARIOS.len() as u8 + 1,
+    },
+    Series {
+        letter: b'J',
+        end: JOURNALS.len() as u8 + 1,
     },
     Series {
         letter: b'C',

@@ -3,7 +3,7 @@
 
 use crate::calls::{CALLS, QUEUES, SHARED};
 use crate::code::Code;
-use crate::files::{MANIFESTS, SCENARIOS, TRACES};
+use crate::files::{JOURNALS, MANIFESTS, SCENARIOS, TRACES};
 use crate::policies::POLICIES;
 use crate::programs::{BYTES, SHAPES, TEXTS};
 use cli_text_page::Page;
@@ -30,6 +30,8 @@ pub enum Shown {
     Scenario,
     /// `replay`, of a trace.
     Trace,
+    /// The program itself, by the words of its command line.
+    Command,
     /// No file: a call of a host.
     Call,
 }
@@ -78,6 +80,7 @@ impl Code {
             b'V' => POLICIES,
             b'M' => MANIFESTS,
             b'N' => SCENARIOS,
+            b'J' => JOURNALS,
             b'C' => CALLS,
             b'Q' => QUEUES,
             b'X' => TRACES,
@@ -105,6 +108,7 @@ impl Shown {
             Shown::CodeHead => "The beginning of a program's `code`",
             Shown::Scenario => "A scenario",
             Shown::Trace => "A trace",
+            Shown::Command => "A command",
             Shown::Call => "A call of a host",
         }
     }

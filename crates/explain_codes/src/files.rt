@@ -111,6 +111,37 @@ pub(crate) const SCENARIOS: &[Explanation] = &[
     },
 ];
 
+/// The codes from J1 on, of journals.
+pub(crate) const JOURNALS: &[Explanation] = &[
+    // J1
+    Explanation {
+        meaning: "the folder is no journal: it has something else in it, a segment is missing between two, or a segment has no manifest; or it has no segment, and no manifest is given",
+        cause: "a new journal needs a manifest, or the path is that of another folder",
+        advice: None,
+        shown: Shown::Command,
+        example: "camr live --journal new",
+        mended: "camr live --journal new manifest.toml",
+    },
+    // J2
+    Explanation {
+        meaning: "the manifest is not the one in force in the journal's newest segment, byte by byte",
+        cause: "the manifest was changed while no engine ran",
+        advice: None,
+        shown: Shown::Command,
+        example: "camr live --journal DIR changed.toml",
+        mended: "camr live --journal DIR",
+    },
+    // J3
+    Explanation {
+        meaning: "another engine has the journal",
+        cause: "the engine that was started before still runs",
+        advice: None,
+        shown: Shown::Command,
+        example: "camr live --journal DIR manifest.toml &\ncamr live --journal DIR",
+        mended: "camr live --journal DIR",
+    },
+];
+
 /// The codes from X1 on, of traces.
 pub(crate) const TRACES: &[Explanation] = &[
     // X1

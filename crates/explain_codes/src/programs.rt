@@ -209,7 +209,7 @@ pub(crate) const SHAPES: &[Explanation] = &[
     // S4
     Explanation {
         meaning: "a jump's target is not behind it",
-        cause: "a loop, which has to be written out",
+        cause: "a loop, whose turns have to be written out, or code that a compiler laid out backwards",
         advice: Some("write the loop's turns out: jumps lead forward only"),
         shown: Shown::Head,
         example: "mov64 r3, 2\nagain:\nsub64 r3, 1\njne r3, 0, again",

@@ -1,19 +1,22 @@
 use Rattle.std.proofs.Common.{Some, ap, codes, refl, sym, ◌∙◌}
-use Rattle.clap.specs.Words.{Text, found_of}
-use Rattle.cli_line.proofs.Given.{no_text, text_given}
+use Rattle.clap.specs.Words.{Text, found_of, rows_of}
+use Rattle.cli_line.proofs.Given.{nothing_given, text_given}
+use Rattle.cli_line.proofs.PlannedLive.{alone_behind}
 use Rattle.cli_line.proofs.living.live_plan.Goals as goal
 
 pub returns : goal.returns
 returns c = (
   (
     refl,
-    text_given (found_of c.args.live.now) (codes "MANIFEST") c.get_str.result _ c.get_str.ensures c.in-Some.is
-        ∙ ap (λ (t : Text). Some t) (sym c.in_ok-from_str.ensures.ok),
+    text_given (found_of c.args.live.now) (codes "journal") c.get_str.result _ c.get_str.ensures c.in-Some.is
+        ∙ ap (λ (t : Text). Some t) (sym c.in_ok-folder.ensures.ok),
+    c.in_ok-manifest.ensures,
+    c.manner_of-manner.ensures,
     c.is_given.ensures,
-    c.is_given-2.ensures,
   ),
   tt,
 )
 
 pub returns-in_default : goal.returns-in_default
-returns-in_default c = λ found. no_text (found_of c.args.live.now) (codes "MANIFEST") c.get_str.result found.0.0 c.get_str.ensures c.in_default.is found.0.1
+returns-in_default c = alone_behind (rows_of (found_of c.args.live.now)) c.manner_of-manner.result c.plan_alone.result
+    (nothing_given (found_of c.args.live.now) (codes "journal") c.get_str.result c.get_str.ensures c.in_default.is) c.manner_of-manner.ensures c.plan_alone.ensures

@@ -115,12 +115,13 @@ impl Desk {
     }
 
     fn attempt(&mut self, line: &str) -> Became {
-        match request_of(*self.out.allocator(), line) {
+        match request_of(*self.out.allocator(), line, false) {
             Ok(Some(Request::Call(call))) => outcome_of(self.asked.call(&call)),
             Ok(Some(Request::Totals)) => Became::Sums,
             Ok(Some(Request::Step(run))) => outcome_of(self.asked.step(run)),
             Ok(Some(Request::Drive(run))) => outcome_of(self.asked.drive(run)),
-            Ok(Some(Request::Drain | Request::Ccbs)) => Became::Unknown,
+            Ok(Some(Request::Drain | Request::Ccbs | Request::Quit | Request::Help)) =>
+                Became::Unknown,
             Ok(None) => self.attempt_own(line),
             Err(AllocError) => Became::OutOfMemory,
         }

@@ -3,7 +3,7 @@
 ghost use Rattle.std.specs.Prelude.{false};
 
 use cli_commands::{WriterSink, serve};
-use host_live::{Came, Input};
+use host_live::{Came, Input, Manner};
 use std::alloc::Global;
 
 /// The greatest reading that an engine takes, in milliseconds.
@@ -98,7 +98,10 @@ pub fn a_clock_beyond_the_last_reading(alloc: Global) -> bool {
     let status = serve(
         alloc,
         ("m.toml", MANIFEST.as_bytes()),
-        false,
+        Manner {
+            is_stepped: false,
+            is_told: false,
+        },
         &mut input,
         &mut WriterSink::new(&mut out),
         &mut err,

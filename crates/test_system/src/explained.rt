@@ -54,7 +54,7 @@ fn test_code<R: AllocGlobal + Threads + Wait + Sync, W: Write>(
     let told = told_of(rt, rt.alloc(), name)?;
     let is_told = told.status == 0 && tells(&told, name, ":");
     see(code, "what is said", &told, is_told, tally, out)?;
-    if row.shown == Shown::Call {
+    if row.shown == Shown::Call || row.shown == Shown::Command {
         return Ok(());
     }
     let came = shown(rt, rt.alloc(), row.shown, row.example)?;
@@ -136,7 +136,7 @@ fn manifest_of(alloc: Global, shown: Shown, text: &str) -> Result<String, AllocE
         Shown::Head => with_program(alloc, BEGINNING, "asm", text, POLICY),
         Shown::Code => with_program(alloc, BEGINNING, "code", text, ""),
         Shown::CodeHead => with_program(alloc, BEGINNING, "code", text, POLICY_BYTES),
-        Shown::Scenario | Shown::Trace | Shown::Call => {
+        Shown::Scenario | Shown::Trace | Shown::Command | Shown::Call => {
             with_program(alloc, BEGINNING, "asm", POLICY, "")
         }
     }

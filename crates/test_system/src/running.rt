@@ -6,10 +6,10 @@ ghost use Rattle.cli_line.specs.Files.{input_paths};
 ghost use Rattle.cli_inspect_line.specs.Files.{input_paths as inspected_paths};
 
 use crate::pieces::Pieces;
-use cli_commands::{Fault, WriterSink, carry, report_usage, serve};
+use cli_commands::{AnsweringSink, Fault, WriterSink, carry, report_usage, serve};
 use cli_inspect_line::Plan as InspectPlan;
 use cli_inspection::carry as inspect;
-use cli_line::{Plan, not_utf8, plan};
+use cli_line::{Manner, Plan, not_utf8, plan};
 use std::alloc::{AllocError, Global};
 use std::sync::Wait;
 use std::thread::Threads;
@@ -90,18 +90,32 @@ fn carry_out<R: Threads + Wait + Sync>(
     match plan {
         Plan::Live(manner, manifest) => {
             let manifest = (manifest.as_str(), inputs[0].as_slice());
-            let mut input = Pieces::of(&case.input, manner.is_clocked);
-            let mut out = WriterSink::new(out);
-            serve(
-                alloc,
-                manifest,
-                manner.is_stepped,
-                &mut input,
-                &mut out,
-                err,
-            )
+            serve_case(alloc, *manner, manifest, case, out, err)
         }
         _ => carry(rt, alloc, plan, inputs, &Silent, out, err),
+    }
+}
+
+// Serves what comes on standard input, with an answer to each line where that is asked for.
+fn serve_case(
+    alloc: Global,
+    manner: Manner,
+    manifest: (&str, &[u8]),
+    case: &Case<'_>,
+    out: &mut Vec<u8>,
+    err: &mut Vec<u8>,
+) -> u8 {
+    let mut input = Pieces::of(&case.input, manner.is_clocked);
+    let served = host_live::Manner {
+        is_stepped: manner.is_stepped,
+        is_told: manner.is_told,
+    };
+    if manner.is_told {
+        let mut out = AnsweringSink::new(out);
+        serve(alloc, manifest, served, &mut input, &mut out, err)
+    } else {
+        let mut out = WriterSink::new(out);
+        serve(alloc, manifest, served, &mut input, &mut out, err)
     }
 }
 

@@ -1,6 +1,6 @@
 // The checks of an engine that is shared, each with the engine that it begins with.
 
-ghost use Rattle.std.specs.Prelude.{◌≡◌, IfSome};
+ghost use Rattle.std.specs.Prelude.{◌≡◌};
 
 use crate::at_once::drives_at_once;
 use crate::engines::{MANIFEST, engine_of, engine_with};
@@ -69,7 +69,6 @@ fn holds_of<B: Object + Send + Sync, R: Threads + Wait + Sync>(
 ) -> Option<bool>
     requires setup { opened.engine.setup ≡ B.setup }
     requires begun { opened.engine.history ≡ B.begun }
-    requires untaken { opened.engine.taken ≡ 0 }
     requires name { (opened.calls.name ≡ B.name) × (opened.calls.parts ≡ B.parts) }
     requires table { opened.monitor ≡ B.table }
 {
@@ -98,9 +97,7 @@ fn holds_of<B: Object + Send + Sync, R: Threads + Wait + Sync>(
 
 // That engine, to be shared, of which no record was handed on. If memory is refused it comes back, and the same call succeeds the
 // second time.
-fn opened(alloc: Global, engine: Engine) -> Option<Opened>
-    ensures { IfSome result (λ opened. opened.engine.taken ≡ 0) }
-{
+fn opened(alloc: Global, engine: Engine) -> Option<Opened> {
     if engine.taken() != 0 {
         return None;
     }

@@ -1,5 +1,5 @@
 -- What the status of a plan tells of the files that it reads.
-use Rattle.std.specs.Prelude.{◌≡◌, ◌⊎◌, ◌++◌, ◌∷◌, [], ℕ, List, Option, Some, Err, codes}
+use Rattle.std.specs.Prelude.{◌≡◌, ◌⊎◌, ◌++◌, ◌∷◌, [], ℕ, List, Option, Some, Err, codes, Bool, true, false}
 use Rattle.std.specs.Io.KnownBytes.{Appends, Keeps}
 use Rattle.bpf_insn.specs.declared.program.Slot.{Slot}
 use Rattle.bpf_decode.specs.Spells.{Spells}
@@ -66,6 +66,12 @@ IsAsAsked (Live manner manifest) bytes = IsManifest bytes
 IsAsAsked (Journal manner is_synced folder manifest) bytes = ⊥
 IsAsAsked (Audit folder) bytes = ⊥
 IsAsAsked (Replay manifest trace) bytes = IsManifest bytes
+
+-- the plan is one of a journal, which needs a disk
+abbrev pub needs_disk : Plan → Bool
+needs_disk (Journal manner is_synced folder manifest) = true
+needs_disk (Audit folder) = true
+needs_disk plan = false
 
 -- it has a fault; where a scenario or a trace is read too, the fault may be there
 abbrev pub IsFaulty : Plan → List ℕ → Type 0

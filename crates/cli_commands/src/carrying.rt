@@ -8,7 +8,7 @@ ghost use Rattle.manifest.specs.Migration.{IsMigrated};
 ghost use Rattle.trace.specs.HasText.{AllHaveText};
 ghost use Rattle.workers.specs.declared.serving.TheConstants.{MAX_WORKERS};
 ghost use Rattle.cli_commands.specs.Faults.{status_of};
-ghost use Rattle.cli_commands.specs.Told.{IsText, IsProgram, IsManifest, IsMigratable, IsFaultyText, IsFaultyProgram, IsFaultyManifest, IsFaultyMigration};
+ghost use Rattle.cli_commands.specs.Told.{IsText, IsProgram, IsManifest, IsMigratable, needs_disk, IsFaultyText, IsFaultyProgram, IsFaultyManifest, IsFaultyMigration};
 ghost use Rattle.cli_commands.specs.Told.{IsAccepted, IsAsAsked, IsAssembled, IsDisassembled, IsFaulty, IsIdleUnder, IsOfManifest, IsOfScenarioText, IsOutput, IsPrinted, IsPutOut, IsRejected, IsRejectedScenario, IsScenario, IsServing, IsTraceUnder, PutsOut};
 
 use crate::fault::Fault;
@@ -46,6 +46,8 @@ pub fn carry<N: Notices + Sync, R: Threads + Wait + Sync, W: Write, E: Write>(
     requires { length inputs.now ≡ length (input_paths plan.now) }
     ensures status { result ≤ 2 }
     ensures no_text { reads_text plan.now ≡ true → (input : _) → Contains inputs.now input → ¬ (IsUtf8 input.items) → result ≡ 2 }
+    // A plan of a journal is not carried out here.
+    ensures no_disk { needs_disk plan.now ≡ true → result ≡ 2 }
     // Done only where the first file is what the plan asks for.
     ensures done { result ≡ 0 → (input : _) → slice_get inputs.now 0 ≡ Some input → IsAsAsked plan.now input.items }
     // A run is done only where the second file is a scenario; a replay, only where it is the trace of a history of an engine of the

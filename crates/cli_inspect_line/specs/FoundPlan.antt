@@ -5,6 +5,7 @@ use Rattle.clap.specs.Words.{HasKind, Row, Text, fault_of, first_of, subcommand_
 use Rattle.clap.specs.declared.error.Error.{Error}
 use Rattle.cli_line.specs.FoundPlan.{AreFound}
 use Rattle.cli_line.specs.RunCommand.{camr_command}
+use Rattle.cli_line.specs.UsageFault.{IsValueFault}
 use Rattle.cli_line.specs.RunLine.{Spells}
 use Rattle.cli_inspect_line.specs.InspectLines.{everything}
 use Rattle.cli_inspect_line.specs.declared.plans.Plan.{Plan}
@@ -97,6 +98,9 @@ abbrev pub PlansFound : Option (Text × List Row) → Option Plan → Type 0
 PlansFound found (Some plan) = HasFound found plan
 PlansFound found None = (name : Text) (rows : List Row) → found ≡ Some (name, rows) → Suffices name rows → ⊥
 
--- why words are refused: `clap` refuses them so, or memory was refused; or what `clap` found in them is no plan
+-- why words are refused: `clap` refuses them so, or memory was refused; or `clap` finds no fault, but what it found is no plan, which is
+-- the fault of a value
 abbrev pub IsRefused : List Text → Error → Type 0
-IsRefused words e = HasKind (fault_of camr_command words) e ⊎ PlansFound (subcommand_of camr_command words) None
+IsRefused words e =
+    HasKind (fault_of camr_command words) e
+    ⊎ ((fault_of camr_command words ≡ []) × IsValueFault e × PlansFound (subcommand_of camr_command words) None)

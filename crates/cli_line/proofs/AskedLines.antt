@@ -7,7 +7,7 @@ use Rattle.clap.specs.Walk.{Held, Walk, arg_by_id, finished, idle, nothing_held,
 use Rattle.clap.specs.Faults.{defaults_fault}
 use Rattle.clap.specs.Kinds.{Kinds, or_else}
 use Rattle.cli_line.specs.FileLines.{ArePlain, Asked, IsAsked, line_of}
-use Rattle.cli_line.specs.FileLines.Asked.{Asm, Dis, Check, Migrate, Live, Resume, Journal, Audit, Replay}
+use Rattle.cli_line.specs.FileLines.Asked.{Asm, Dis, Check, Migrate, Live, Reopen, Journal, Audit, Replay}
 use Rattle.cli_line.specs.FoundPlan.{HasFound, MakesNoRun, PlansFound, Suffices}
 use Rattle.cli_line.specs.RunCommand.{camr_command}
 use Rattle.cli_line.specs.RunLine.{IsPlain, spelled_out}
@@ -26,7 +26,7 @@ word_of (Dis program) = codes "dis"
 word_of (Check manifest) = codes "check"
 word_of (Migrate manifest migrated) = codes "migrate"
 word_of (Live is_clocked is_stepped manifest) = codes "live"
-word_of (Resume folder) = codes "live"
+word_of (Reopen folder) = codes "live"
 word_of (Journal folder manifest) = codes "live"
 word_of (Audit folder) = codes "audit"
 word_of (Replay manifest trace) = codes "replay"
@@ -41,7 +41,7 @@ is_word (Dis program) = record { stops = refl; faultless = refl; found = refl; n
 is_word (Check manifest) = record { stops = refl; faultless = refl; found = refl; named = refl }
 is_word (Migrate manifest migrated) = record { stops = refl; faultless = refl; found = refl; named = refl }
 is_word (Live is_clocked is_stepped manifest) = record { stops = refl; faultless = refl; found = refl; named = refl }
-is_word (Resume folder) = record { stops = refl; faultless = refl; found = refl; named = refl }
+is_word (Reopen folder) = record { stops = refl; faultless = refl; found = refl; named = refl }
 is_word (Journal folder manifest) = record { stops = refl; faultless = refl; found = refl; named = refl }
 is_word (Audit folder) = record { stops = refl; faultless = refl; found = refl; named = refl }
 is_word (Replay manifest trace) = record { stops = refl; faultless = refl; found = refl; named = refl }
@@ -137,7 +137,7 @@ asked_clear (Live false true manifest) plain = clear (Live false true manifest) 
 asked_clear (Live false false manifest) plain = clear (Live false false manifest) _ _ _
     (trace_last nothing_held 1 manifest plain)
     refl refl (not_synced refl, ((manifest, refl), tt)) refl (λ i. codes "live" ∷ plain_out manifest plain i ∷ [])
-asked_clear (Resume folder) plain = clear (Resume folder) _ _ _
+asked_clear (Reopen folder) plain = clear (Reopen folder) _ _ _
     (trace_journal folder [] _ _ plain (trace_nil (journal_walk folder)))
     refl refl tt refl (λ i. codes "live" ∷ codes "--journal" ∷ plain_out folder plain i ∷ [])
 asked_clear (Journal folder manifest) plain = clear (Journal folder manifest) _ _ _

@@ -5,7 +5,7 @@ use Rattle.std.specs.Str.{bytes_eq}
 use Rattle.std.proofs.lemmas.Slice.Eq.{bytes_eq-Decides}
 use Rattle.clap.specs.Words.{Row, Text, first_of}
 use Rattle.cli_line.specs.FileLines.{Asked, IsAsked}
-use Rattle.cli_line.specs.FileLines.Asked.{Asm, Dis, Check, Migrate, Live, Resume, Journal, Audit, Replay}
+use Rattle.cli_line.specs.FileLines.Asked.{Asm, Dis, Check, Migrate, Live, Reopen, Journal, Audit, Replay}
 use Rattle.cli_line.specs.FoundPlan.{HasFoundBehind}
 use Rattle.cli_line.specs.declared.plans.Manner.{Manner}
 use Rattle.cli_line.specs.declared.plans.Plan.{Plan}
@@ -22,7 +22,7 @@ is_told (Some word) = bytes_eq word (codes "true")
 -- what is asked for with a journal, if no flag is given
 abbrev pub kept_in : Bool → Text → Option Text → Option Asked
 kept_in true folder manifest = None
-kept_in false folder None = Some (Resume folder)
+kept_in false folder None = Some (Reopen folder)
 kept_in false folder (Some manifest) = Some (Journal folder manifest)
 
 -- a flag is given of those that say how lines are carried out and kept

@@ -14,7 +14,7 @@ pub data Asked : Type 0 where
   Migrate : (manifest migrated : Text) → Asked
   Live : (is_clocked is_stepped : Bool) (manifest : Text) → Asked
   -- a journal, without the manifest or with it
-  Resume : (folder : Text) → Asked
+  Reopen : (folder : Text) → Asked
   Journal : (folder manifest : Text) → Asked
   Audit : (folder : Text) → Asked
   Replay : (manifest trace : Text) → Asked
@@ -29,7 +29,7 @@ line_of (Dis program) = codes "dis" ∷ program ∷ []
 line_of (Check manifest) = codes "check" ∷ manifest ∷ []
 line_of (Migrate manifest migrated) = codes "migrate" ∷ manifest ∷ migrated ∷ []
 line_of (Live is_clocked is_stepped manifest) = codes "live" ∷ flagged is_clocked (codes "--clock") (flagged is_stepped (codes "--step") (manifest ∷ []))
-line_of (Resume folder) = codes "live" ∷ codes "--journal" ∷ folder ∷ []
+line_of (Reopen folder) = codes "live" ∷ codes "--journal" ∷ folder ∷ []
 line_of (Journal folder manifest) = codes "live" ∷ codes "--journal" ∷ folder ∷ manifest ∷ []
 line_of (Audit folder) = codes "audit" ∷ folder ∷ []
 line_of (Replay manifest trace) = codes "replay" ∷ manifest ∷ trace ∷ []
@@ -41,7 +41,7 @@ ArePlain (Dis program) = IsPlain program
 ArePlain (Check manifest) = IsPlain manifest
 ArePlain (Migrate manifest migrated) = IsPlain manifest × IsPlain migrated
 ArePlain (Live is_clocked is_stepped manifest) = IsPlain manifest
-ArePlain (Resume folder) = IsPlain folder
+ArePlain (Reopen folder) = IsPlain folder
 ArePlain (Journal folder manifest) = IsPlain folder × IsPlain manifest
 ArePlain (Audit folder) = IsPlain folder
 ArePlain (Replay manifest trace) = IsPlain manifest × IsPlain trace
@@ -58,7 +58,7 @@ IsAsked (Check manifest) (plans.Check a) = string_bytes a ≡ manifest
 IsAsked (Migrate manifest migrated) (plans.Migrate a b) = (string_bytes a ≡ manifest) × (string_bytes b ≡ migrated)
 IsAsked (Live is_clocked is_stepped manifest) (plans.Live manner a) =
     (manner.is_clocked ≡ is_clocked) × (manner.is_stepped ≡ is_stepped) × (manner.is_told ≡ false) × (string_bytes a ≡ manifest)
-IsAsked (Resume folder) (plans.Journal manner is_synced a b) = IsPlainly manner is_synced × (string_bytes a ≡ folder) × (option_map string_bytes b ≡ None)
+IsAsked (Reopen folder) (plans.Journal manner is_synced a b) = IsPlainly manner is_synced × (string_bytes a ≡ folder) × (option_map string_bytes b ≡ None)
 IsAsked (Journal folder manifest) (plans.Journal manner is_synced a b) = IsPlainly manner is_synced × (string_bytes a ≡ folder) × (option_map string_bytes b ≡ Some manifest)
 IsAsked (Audit folder) (plans.Audit a) = string_bytes a ≡ folder
 IsAsked (Replay manifest trace) (plans.Replay a b) = (string_bytes a ≡ manifest) × (string_bytes b ≡ trace)

@@ -4,6 +4,7 @@ use Rattle.std.specs.Str.{bytes_eq}
 use Rattle.clap.specs.Words.{HasKind, Row, Text, fault_of, first_of, subcommand_of}
 use Rattle.clap.specs.declared.error.Error.{Error}
 use Rattle.cli_line.specs.RunCommand.{camr_command}
+use Rattle.cli_line.specs.UsageFault.{IsValueFault}
 use Rattle.cli_line.specs.RunLine.{HasLawfulNumber, IsLawfulNumber, IsRun, Spells, watch_word}
 use Rattle.cli_line.specs.RunLine.{SpellsNoLawfulNumber}
 use Rattle.cli_line.specs.declared.plans.Manner.{Manner}
@@ -131,6 +132,9 @@ abbrev pub PlansFound : Option (Text × List Row) → Option Plan → Type 0
 PlansFound found (Some plan) = HasFound found plan × HasLawfulNumber plan
 PlansFound found None = (name : Text) (rows : List Row) → found ≡ Some (name, rows) → MakesNone name rows
 
--- why words are refused: `clap` refuses them so, or memory was refused; or what `clap` found in them is no plan
+-- why words are refused: `clap` refuses them so, or memory was refused; or `clap` finds no fault, but what it found is no plan, which is
+-- the fault of a value
 abbrev pub IsRefused : List Text → Error → Type 0
-IsRefused words e = HasKind (fault_of camr_command words) e ⊎ PlansFound (subcommand_of camr_command words) None
+IsRefused words e =
+    HasKind (fault_of camr_command words) e
+    ⊎ ((fault_of camr_command words ≡ []) × IsValueFault e × PlansFound (subcommand_of camr_command words) None)

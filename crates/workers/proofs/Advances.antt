@@ -50,14 +50,14 @@ module _ (setup : Setup) where
   pub went_on : (calls : List CallMade) (call : CallMade) → AreCarriedOut calls → is_given call.reply ≡ true → AreCarriedOut (calls ++ call ∷ [])
   went_on calls call went is = All-append WasGiven calls (call ∷ []) went (All-cons WasGiven call [] is (All-nil WasGiven))
 
-  -- the advance behind them that was replied to so
-  pub until_after : (calls : List CallMade) (stopped : StoppedState) → AreCarriedOut calls → (is : Reply → Bool) (reply : Reply) → is reply ≡ true → GoUntil is (calls ++ record { event = Advance stopped; reply = reply } ∷ [])
-  until_after calls stopped went is reply so = record {
+  -- the advance after them that was answered so
+  pub until_after : (calls : List CallMade) (stopped : StoppedState) → AreCarriedOut calls → (reply : Reply) → GoUntil reply (calls ++ record { event = Advance stopped; reply = reply } ∷ [])
+  until_after calls stopped went reply = record {
     before = calls;
     last = record { event = Advance stopped; reply = reply };
     calls_are = refl;
     went = went;
-    last_is = so;
+    last_is = refl;
   }
 
   -- The run was advanced so many times, each time with success, and is at this stop.
@@ -96,12 +96,12 @@ module _ (setup : Setup) where
       went = went_on so_far.drives.calls (record { event = Advance stopped; reply = reply }) so_far.went given;
     }
 
-    -- the advance that was replied to so
-    pub until : (is : Reply → Bool) (reply : Reply) → is reply ≡ true → GoUntil is (so_far.drives.calls ++ record { event = Advance stopped; reply = reply } ∷ [])
+    -- the advance that was answered so
+    pub until : (reply : Reply) → GoUntil reply (so_far.drives.calls ++ record { event = Advance stopped; reply = reply } ∷ [])
     until = until_after so_far.drives.calls stopped so_far.went
 
     -- it came back, where that advance was not carried out
-    pub comes_back : (why : Why) (reply : Reply) (came : Returned) (left : RunState) → Section setup (Advance stopped) reply b c → ended_by (Advance stopped) reply ≡ [] → HasLeft why run.program.budget (so_far.drives.calls ++ record { event = Advance stopped; reply = reply } ∷ []) → came ≡ back.Run (before_stop stopped) → came ≡ back.Run left → Leaves setup run left why a c
+    pub comes_back : (why : Why) (reply : Reply) (came : Returned) (left : RunState) → Section setup (Advance stopped) reply b c → ended_by (Advance stopped) reply ≡ [] → HasLeft why left (so_far.drives.calls ++ record { event = Advance stopped; reply = reply } ∷ []) → came ≡ back.Run (before_stop stopped) → came ≡ back.Run left → Leaves setup run left why a c
     comes_back why reply came left section is has_left owned back_is =
         let same = run_back left (before_stop stopped) (sym back_is ∙ owned) in record {
           number = ap (λ (it : RunState). it.number) same ∙ so_far.number;
@@ -116,5 +116,5 @@ module _ (setup : Setup) where
     number = ap (λ (it : RunState). it.number) same ∙ so_far.number;
     program = ap (λ (it : RunState). it.program) same ∙ so_far.program;
     drives = so_far.drives;
-    has_left = (so_far.many ∙ used, so_far.went);
+    has_left = (so_far.many ∙ (used ∙ sym (ap (λ (it : RunState). it.program.budget) same ∙ ap (λ p. p.budget) so_far.program)), so_far.went);
   }

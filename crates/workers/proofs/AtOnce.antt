@@ -12,10 +12,9 @@ use Rattle.engine_core.specs.declared.reply.Reply.TheVariants.{Success, NotAdmit
 use Rattle.engine_core.specs.declared.reply.Success.TheVariants.{Goes, Ended}
 use Rattle.monitor.specs.Telling.{CallerState}
 use Rattle.engine_lock.specs.Driving.{ComesToExit, GoesOn, IsBack, comes_on, stands}
-use Rattle.engine_lock.specs.Sharing.{is_unfit}
 use Rattle.workers.specs.Calls.{CallMade, made_none}
 use Rattle.workers.specs.declared.driving.Why.{Why}
-use Rattle.workers.specs.Serving.{AreCarriedOut, Drives, Ends, IsAdvanceOf, Leaves, is_memory, why_of}
+use Rattle.workers.specs.Serving.{AreCarriedOut, Drives, Ends, IsAdvanceOf, Leaves, why_of}
 use Rattle.workers.proofs.Advances.{WasGiven, goes_further, until_after, went_on}
 
 module _ (setup : Setup) (run : RunState) (before : CallerState) where
@@ -59,14 +58,14 @@ module _ (setup : Setup) (run : RunState) (before : CallerState) where
         number = so_far.number;
         program = so_far.program;
         drives = goes_further setup run.number [] before b.between after b.stopped (NotAdmitted (back.Run there)) so_far.drives (number_of b.stopped there b.its so_far.number) b.last refl;
-        has_left = until_after setup so_far.drives.calls b.stopped so_far.went is_unfit (NotAdmitted (back.Run there)) refl;
+        has_left = until_after setup so_far.drives.calls b.stopped so_far.went (NotAdmitted (back.Run there));
       }
   comes_back_by faults.OutOfMemory there r0 after b =
       let so_far = advanced there r0 b.between b.goes in record {
         number = so_far.number;
         program = so_far.program;
         drives = goes_further setup run.number [] before b.between after b.stopped (OutOfMemory (back.Run there)) so_far.drives (number_of b.stopped there b.its so_far.number) b.last refl;
-        has_left = until_after setup so_far.drives.calls b.stopped so_far.went is_memory (OutOfMemory (back.Run there)) refl;
+        has_left = until_after setup so_far.drives.calls b.stopped so_far.went (OutOfMemory (back.Run there));
       }
 
   pub comes_back : (fault : DriveFault) (why : Why) (after : CallerState) → why ≡ why_of fault.why → IsBack setup run fault before after → Leaves setup run fault.run why before after

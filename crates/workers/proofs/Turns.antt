@@ -18,7 +18,7 @@ use Rattle.engine_core.specs.declared.reply.Success.TheVariants.{Started}
 use Rattle.engine_core.specs.declared.reply.Reply.{Reply}
 use Rattle.engine_core.specs.declared.reply.Reply.TheVariants.{Success as Gives, Refused, NotAdmitted, OutOfMemory}
 use Rattle.monitor.specs.Telling.{CallerState}
-use Rattle.engine_lock.specs.Sharing.{Section, is_unfit}
+use Rattle.engine_lock.specs.Sharing.{Section}
 use Rattle.workers.specs.Calls.{CallMade, made_none, made_more}
 use Rattle.workers.proofs.Made.{each_append, made_then}
 use Rattle.workers.specs.declared.driving.TheConstants.{MOST_STARTED}
@@ -96,27 +96,22 @@ given_none (Refused refusal) is = refl
 given_none (NotAdmitted back) is = refl
 given_none (OutOfMemory back) is = absurd (let bad : false ≡ true = is in cc)
 
-unfit_none : (reply : Reply) → is_unfit reply ≡ true → is_memory reply ≡ false
-unfit_none (Gives given) is = refl
-unfit_none (Refused refusal) is = refl
-unfit_none (NotAdmitted back) is = refl
-unfit_none (OutOfMemory back) is = absurd (let bad : false ≡ true = is in cc)
-
 pub went_none : (calls : List CallMade) → AreCarriedOut calls → lacks_memory calls ≡ false
 went_none [] went = refl
 went_none (call ∷ calls) went =
     ap (λ (b : Bool). b || lacks_memory calls) (given_none call.reply (All-head (λ (it : CallMade). is_given it.reply ≡ true) call calls went))
     ∙ went_none calls (All-tail (λ (it : CallMade). is_given it.reply ≡ true) call calls went)
 
-lacks_last : (is : Reply → Bool) (calls : List CallMade) (until : GoUntil is calls) → lacks_memory calls ≡ (is_memory until.last.reply || false)
-lacks_last is calls until =
+lacks_last : (reply : Reply) (calls : List CallMade) → GoUntil reply calls → lacks_memory calls ≡ (is_memory reply || false)
+lacks_last reply calls until =
     ap lacks_memory until.calls_are
-    ∙ (lacks_append until.before (until.last ∷ []) ∙ ap (λ (b : Bool). b || lacks_memory (until.last ∷ [])) (went_none until.before until.went))
+    ∙ (lacks_append until.before (until.last ∷ []) ∙ ap (λ (b : Bool). b || lacks_memory (until.last ∷ [])) (went_none until.before until.went)
+    ∙ ap (λ (r : Reply). is_memory r || false) until.last_is)
 
-pub lacks_by : (why : Why) (budget : ℕ) (calls : List CallMade) → HasLeft why budget calls → lacks_memory calls ≡ is_for_memory why
-lacks_by WantOfMemory budget calls left = lacks_last is_memory calls left ∙ ap (λ (b : Bool). b || false) left.last_is
-lacks_by NotOut budget calls left = lacks_last is_unfit calls left ∙ ap (λ (b : Bool). b || false) (unfit_none left.last.reply left.last_is)
-lacks_by BudgetUsed budget calls left = went_none calls left.1
+pub lacks_by : (why : Why) (run : RunState) (calls : List CallMade) → HasLeft why run calls → lacks_memory calls ≡ is_for_memory why
+lacks_by WantOfMemory run calls left = lacks_last _ calls left
+lacks_by NotOut run calls left = lacks_last _ calls left
+lacks_by BudgetUsed run calls left = went_none calls left.1
 
 or_false : (b : Bool) → (b || false) ≡ b
 or_false true = refl
@@ -275,10 +270,10 @@ module _ (setup : Setup) where
               calls_are = refl;
               its = subst (λ (n : ℕ). All (λ (it : CallMade). IsAdvanceOf n it.event) calls) (sym left.number) left.drives.advances;
               why = why;
-              has_left = subst (λ (budget : ℕ). HasLeft why budget calls) (sym (ap (λ it. it.budget) left.program)) left.has_left;
+              has_left = left.has_left;
             });
             holds = λ it is. absurd (holds_none (Run run) it refl is);
-            memory = for ∙ sym (ap (λ (b : Bool). b || lacks_memory calls) (answered_none reply answered) ∙ lacks_by why begun.program.budget calls left.has_left);
+            memory = for ∙ sym (ap (λ (b : Bool). b || lacks_memory calls) (answered_none reply answered) ∙ lacks_by why run calls left.has_left);
             starts = omega (arith, ap (λ (xs : List ℕ). length (xs ++ started calls)) starts, ap length still.starts);
             ends = omega (arith, ap length left.drives.ends);
           }

@@ -15,10 +15,9 @@ use Rattle.engine_core.specs.declared.event.Event.TheVariants.{Complete, Advance
 use Rattle.engine_core.specs.declared.reply.Returned.{Returned}
 use Rattle.engine_core.specs.declared.reply.Returned.TheVariants as its
 use Rattle.engine_core.specs.declared.reply.Reply.{Reply}
-use Rattle.engine_core.specs.declared.reply.Reply.TheVariants.{Success, Refused, OutOfMemory}
+use Rattle.engine_core.specs.declared.reply.Reply.TheVariants.{NotAdmitted, OutOfMemory, Refused, Success}
 use Rattle.engine_core.specs.declared.reply.Success.{Success as WhatIsGiven}
 use Rattle.engine_core.specs.declared.reply.Success.TheVariants.{Started, Ended}
-use Rattle.engine_lock.specs.Sharing.{is_unfit}
 use Rattle.monitor.specs.Telling.{CallerState}
 use Rattle.workers.specs.Calls.{AreMade, CallMade, each}
 use Rattle.workers.specs.declared.driving.TheConstants.{MOST_STARTED}
@@ -148,20 +147,20 @@ ended = each (λ call. ended_by call.event call.reply)
 abbrev pub AreCarriedOut : List CallMade → Type 0
 AreCarriedOut calls = All (λ call. is_given call.reply ≡ true) calls
 
--- Each of these calls was carried out but the last, and the last was replied to so.
-pub record GoUntil (is : Reply → Bool) (calls : List CallMade) : Type 0 where
+-- Each of these calls was carried out but the last, and the last was answered with this reply.
+pub record GoUntil (reply : Reply) (calls : List CallMade) : Type 0 where
   pub before : List CallMade
   pub last : CallMade
   pub calls_are : calls ≡ before ++ last ∷ []
   pub went : AreCarriedOut before
-  pub last_is : is last.reply ≡ true
+  pub last_is : last.reply ≡ reply
 
--- Why a run is not driven on after these advances: memory was refused to the last, or the engine did not have the run out then, or all
--- were carried out, and there were as many as the run's budget has instructions.
-abbrev pub HasLeft : Why → ℕ → List CallMade → Type 0
-HasLeft WantOfMemory budget advances = GoUntil is_memory advances
-HasLeft NotOut budget advances = GoUntil is_unfit advances
-HasLeft BudgetUsed budget advances = (length advances ≡ budget) × AreCarriedOut advances
+-- Why a run is left as it is now, after these advances: memory was refused to the last one, or the engine did not have the run out, and
+-- either reply handed back this very run; or all were carried out, and there were as many as the run's budget has instructions.
+abbrev pub HasLeft : Why → RunState → List CallMade → Type 0
+HasLeft WantOfMemory left advances = GoUntil (OutOfMemory (its.Run left)) advances
+HasLeft NotOut left advances = GoUntil (NotAdmitted (its.Run left)) advances
+HasLeft BudgetUsed left advances = (length advances ≡ left.program.budget) × AreCarriedOut advances
 
 -- The last of these calls are advances of this run, after which it is not driven on.
 pub record IsLeftBy (calls : List CallMade) (run : RunState) : Type 0 where
@@ -170,7 +169,7 @@ pub record IsLeftBy (calls : List CallMade) (run : RunState) : Type 0 where
   pub calls_are : calls ≡ before ++ advances
   pub its : All (λ call. IsAdvanceOf run.number call.event) advances
   pub why : Why
-  pub has_left : HasLeft why run.program.budget advances
+  pub has_left : HasLeft why run advances
 
 -- a completion is kept after such a reply: memory was refused, or the engine refused it with another code than C1 and C3
 abbrev pub IsKeptFor : Reply → Type 0
@@ -225,7 +224,7 @@ module _ (setup : Setup) where
     pub number : left.number ≡ run.number
     pub program : left.program ≡ run.program
     pub drives : Drives run.number [] before after
-    pub has_left : HasLeft why run.program.budget drives.calls
+    pub has_left : HasLeft why left drives.calls
 
 -- what a service gives back
 pub record ServedState : Type 0 where

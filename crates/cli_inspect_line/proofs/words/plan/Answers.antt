@@ -1,4 +1,4 @@
-use Rattle.std.proofs.Common.{◌≡◌, ◌⊎◌, ◌∙◌, Bor, List, None, Option, Some, ap, inl, inr, map, string_bytes, subst, sym}
+use Rattle.std.proofs.Common.{◌≡◌, ◌⊎◌, ◌∙◌, [], Bor, List, None, Option, Some, ap, inl, inr, map, string_bytes, subst, sym}
 use Rattle.std.specs.Prelude.{Result, Ok, Err, IfErr, IsErrAnd}
 use Rattle.clap.specs.Words.{HasKind, Row, Text, fault_of, kind_of, subcommand_of, subcommand_rows_of}
 use Rattle.clap.specs.declared.error.Error.{Error}
@@ -65,4 +65,9 @@ returns-in_err-plan-clause-refuses c = memory_only _ c.from_residual-in_err-plan
 
 pub returns-clause-refuses : goal.returns-clause-refuses
 returns-clause-refuses c =
-    inr (found_so _ _ _ None (lent _ c.deref.result.now _ c.deref.ensures.value c.in_ok-spelled.ensures) c.in_ok-matches.ensures.rows (subst (λ o. PlansFound (subcommand_rows_of c.in_ok-matches.matches) o) c.in-None.is c.in_ok-plan.ensures))
+    let same = lent _ c.deref.result.now _ c.deref.ensures.value c.in_ok-spelled.ensures in
+    inr (
+      subst (λ ws. fault_of camr_command ws ≡ []) same c.in_ok-matches.ensures.faults,
+      c.no_plan.ensures,
+      found_so _ _ _ None same c.in_ok-matches.ensures.rows (subst (λ o. PlansFound (subcommand_rows_of c.in_ok-matches.matches) o) c.in-None.is c.in_ok-plan.ensures),
+    )

@@ -1,11 +1,11 @@
-use Rattle.std.proofs.Common.{◌≡◌, refl, ap, ◌∙◌, arith, rules}
+use Rattle.std.proofs.Common.{◌≡◌, refl, ap, subst, ◌∙◌, arith, rules}
 use Rattle.engine_core.specs.RunState.{RunState}
 use Rattle.engine_core.specs.declared.event.Event.TheVariants.{Advance}
 use Rattle.engine_core.specs.declared.reply.Success.{Success as WhatIsGiven}
-use Rattle.engine_core.specs.declared.reply.Reply.TheVariants.{Success}
-use Rattle.engine_lock.specs.Sharing.{is_unfit}
-use Rattle.workers.specs.declared.driving.Why.TheVariants.{NotOut, OutOfMemory}
-use Rattle.workers.specs.Serving.{ended_by, is_memory}
+use Rattle.engine_core.specs.declared.reply.Returned.{Returned}
+use Rattle.engine_core.specs.declared.reply.Reply.TheVariants.{NotAdmitted, OutOfMemory, Success}
+use Rattle.workers.specs.declared.driving.Why.TheVariants.{NotOut, OutOfMemory as WantOfMemory}
+use Rattle.workers.specs.Serving.{GoUntil, ended_by}
 use Rattle.workers.proofs.Advances.{comes_back, ends, goes_as, goes_on, is_used_up, sets_out, until}
 use Rattle.workers.proofs.driving.drive_by_stops.Goals as goal
 
@@ -20,13 +20,15 @@ returns-in-Success-Ended-clause-ended g c =
 pub returns-in-NotAdmitted-clause-kept : goal.returns-in-NotAdmitted-clause-kept
 returns-in-NotAdmitted-clause-kept g c =
     comes_back g.B.Origin.setup c.args.run c.args.caller.now c.loop-turn.caller c.call.new.caller c.loop-turn.stopped c.loop-turn.turn c.loop-turn.invariant NotOut _ c.in-NotAdmitted.back c.run_of.result
-    c.in-NotAdmitted.ensures refl (until g.B.Origin.setup c.args.run c.args.caller.now c.loop-turn.caller c.call.new.caller c.loop-turn.stopped c.loop-turn.turn c.loop-turn.invariant is_unfit _ refl)
+    c.in-NotAdmitted.ensures refl
+    (subst (λ (it : Returned). GoUntil (NotAdmitted it) _) c.run_of.ensures (until g.B.Origin.setup c.args.run c.args.caller.now c.loop-turn.caller c.call.new.caller c.loop-turn.stopped c.loop-turn.turn c.loop-turn.invariant (NotAdmitted c.in-NotAdmitted.back)))
     c.in-NotAdmitted.ensures.answers.fits.1 c.run_of.ensures
 
 pub returns-in-OutOfMemory-clause-kept : goal.returns-in-OutOfMemory-clause-kept
 returns-in-OutOfMemory-clause-kept g c =
-    comes_back g.B.Origin.setup c.args.run c.args.caller.now c.loop-turn.caller c.call.new.caller c.loop-turn.stopped c.loop-turn.turn c.loop-turn.invariant OutOfMemory _ c.in-OutOfMemory.back c.run_of-in-OutOfMemory.result
-    c.in-OutOfMemory.ensures refl (until g.B.Origin.setup c.args.run c.args.caller.now c.loop-turn.caller c.call.new.caller c.loop-turn.stopped c.loop-turn.turn c.loop-turn.invariant is_memory _ refl)
+    comes_back g.B.Origin.setup c.args.run c.args.caller.now c.loop-turn.caller c.call.new.caller c.loop-turn.stopped c.loop-turn.turn c.loop-turn.invariant WantOfMemory _ c.in-OutOfMemory.back c.run_of-in-OutOfMemory.result
+    c.in-OutOfMemory.ensures refl
+    (subst (λ (it : Returned). GoUntil (OutOfMemory it) _) c.run_of-in-OutOfMemory.ensures (until g.B.Origin.setup c.args.run c.args.caller.now c.loop-turn.caller c.call.new.caller c.loop-turn.stopped c.loop-turn.turn c.loop-turn.invariant (OutOfMemory c.in-OutOfMemory.back)))
     c.in-OutOfMemory.ensures.answers.fits.1 c.run_of-in-OutOfMemory.ensures
 
 pub loop-turn-preserved : goal.loop-turn-preserved

@@ -51,13 +51,13 @@ module _ (setup : Setup) where
   went_on calls call went is = All-append WasGiven calls (call ∷ []) went (All-cons WasGiven call [] is (All-nil WasGiven))
 
   -- the advance after them that was answered so
-  pub until_after : (calls : List CallMade) (stopped : StoppedState) → AreCarriedOut calls → (reply : Reply) → GoUntil reply (calls ++ record { event = Advance stopped; reply = reply } ∷ [])
-  until_after calls stopped went reply = record {
+  pub until_after : (calls : List CallMade) (stopped : StoppedState) → AreCarriedOut calls → (reply told : Reply) → reply ≡ told → GoUntil told (calls ++ record { event = Advance stopped; reply = reply } ∷ [])
+  until_after calls stopped went reply told is = record {
     before = calls;
     last = record { event = Advance stopped; reply = reply };
     calls_are = refl;
     went = went;
-    last_is = refl;
+    last_is = is;
   }
 
   -- The run was advanced so many times, each time with success, and is at this stop.
@@ -97,7 +97,7 @@ module _ (setup : Setup) where
     }
 
     -- the advance that was answered so
-    pub until : (reply : Reply) → GoUntil reply (so_far.drives.calls ++ record { event = Advance stopped; reply = reply } ∷ [])
+    pub until : (reply told : Reply) → reply ≡ told → GoUntil told (so_far.drives.calls ++ record { event = Advance stopped; reply = reply } ∷ [])
     until = until_after so_far.drives.calls stopped so_far.went
 
     -- it came back, where that advance was not carried out

@@ -58,14 +58,14 @@ module _ (setup : Setup) (run : RunState) (before : CallerState) where
         number = so_far.number;
         program = so_far.program;
         drives = goes_further setup run.number [] before b.between after b.stopped (NotAdmitted (back.Run there)) so_far.drives (number_of b.stopped there b.its so_far.number) b.last refl;
-        has_left = until_after setup so_far.drives.calls b.stopped so_far.went (NotAdmitted (back.Run there));
+        has_left = until_after setup so_far.drives.calls b.stopped so_far.went (NotAdmitted (back.Run there)) _ refl;
       }
   comes_back_by faults.OutOfMemory there r0 after b =
       let so_far = advanced there r0 b.between b.goes in record {
         number = so_far.number;
         program = so_far.program;
         drives = goes_further setup run.number [] before b.between after b.stopped (OutOfMemory (back.Run there)) so_far.drives (number_of b.stopped there b.its so_far.number) b.last refl;
-        has_left = until_after setup so_far.drives.calls b.stopped so_far.went (OutOfMemory (back.Run there));
+        has_left = until_after setup so_far.drives.calls b.stopped so_far.went (OutOfMemory (back.Run there)) _ refl;
       }
 
   pub comes_back : (fault : DriveFault) (why : Why) (after : CallerState) → why ≡ why_of fault.why → IsBack setup run fault before after → Leaves setup run fault.run why before after

@@ -1,11 +1,11 @@
-use Rattle.std.proofs.Common.{◌≡◌, refl, ap, subst, ◌∙◌, arith, rules}
+use Rattle.std.proofs.Common.{◌≡◌, refl, ap, ◌∙◌, arith, rules}
 use Rattle.engine_core.specs.RunState.{RunState}
 use Rattle.engine_core.specs.declared.event.Event.TheVariants.{Advance}
 use Rattle.engine_core.specs.declared.reply.Success.{Success as WhatIsGiven}
 use Rattle.engine_core.specs.declared.reply.Returned.{Returned}
 use Rattle.engine_core.specs.declared.reply.Reply.TheVariants.{NotAdmitted, OutOfMemory, Success}
 use Rattle.workers.specs.declared.driving.Why.TheVariants.{NotOut, OutOfMemory as WantOfMemory}
-use Rattle.workers.specs.Serving.{GoUntil, ended_by}
+use Rattle.workers.specs.Serving.{ended_by}
 use Rattle.workers.proofs.Advances.{comes_back, ends, goes_as, goes_on, is_used_up, sets_out, until}
 use Rattle.workers.proofs.driving.drive_by_stops.Goals as goal
 
@@ -21,14 +21,14 @@ pub returns-in-NotAdmitted-clause-kept : goal.returns-in-NotAdmitted-clause-kept
 returns-in-NotAdmitted-clause-kept g c =
     comes_back g.B.Origin.setup c.args.run c.args.caller.now c.loop-turn.caller c.call.new.caller c.loop-turn.stopped c.loop-turn.turn c.loop-turn.invariant NotOut _ c.in-NotAdmitted.back c.run_of.result
     c.in-NotAdmitted.ensures refl
-    (subst (λ (it : Returned). GoUntil (NotAdmitted it) _) c.run_of.ensures (until g.B.Origin.setup c.args.run c.args.caller.now c.loop-turn.caller c.call.new.caller c.loop-turn.stopped c.loop-turn.turn c.loop-turn.invariant (NotAdmitted c.in-NotAdmitted.back)))
+    (until g.B.Origin.setup c.args.run c.args.caller.now c.loop-turn.caller c.call.new.caller c.loop-turn.stopped c.loop-turn.turn c.loop-turn.invariant (NotAdmitted c.in-NotAdmitted.back) _ (ap (λ (it : Returned). NotAdmitted it) c.run_of.ensures))
     c.in-NotAdmitted.ensures.answers.fits.1 c.run_of.ensures
 
 pub returns-in-OutOfMemory-clause-kept : goal.returns-in-OutOfMemory-clause-kept
 returns-in-OutOfMemory-clause-kept g c =
     comes_back g.B.Origin.setup c.args.run c.args.caller.now c.loop-turn.caller c.call.new.caller c.loop-turn.stopped c.loop-turn.turn c.loop-turn.invariant WantOfMemory _ c.in-OutOfMemory.back c.run_of-in-OutOfMemory.result
     c.in-OutOfMemory.ensures refl
-    (subst (λ (it : Returned). GoUntil (OutOfMemory it) _) c.run_of-in-OutOfMemory.ensures (until g.B.Origin.setup c.args.run c.args.caller.now c.loop-turn.caller c.call.new.caller c.loop-turn.stopped c.loop-turn.turn c.loop-turn.invariant (OutOfMemory c.in-OutOfMemory.back)))
+    (until g.B.Origin.setup c.args.run c.args.caller.now c.loop-turn.caller c.call.new.caller c.loop-turn.stopped c.loop-turn.turn c.loop-turn.invariant (OutOfMemory c.in-OutOfMemory.back) _ (ap (λ (it : Returned). OutOfMemory it) c.run_of-in-OutOfMemory.ensures))
     c.in-OutOfMemory.ensures.answers.fits.1 c.run_of-in-OutOfMemory.ensures
 
 pub loop-turn-preserved : goal.loop-turn-preserved

@@ -67,6 +67,13 @@ show_crates() {
     echo "program $(($(date +%s) - began)) ended" >>"$work/passed"
 }
 
+# has_toolchain NAME: succeeds if there is an `rt` on the path, and otherwise says what is missing, in one line after the script's name.
+has_toolchain() {
+    command -v rt >/dev/null && return 0
+    echo "$1: nothing can be built here: the Rattle toolchain is missing, whose command \`rt\` has to be on the path (README.md, Install)"
+    return 1
+}
+
 # prove_copy NAME TIMES: proves the crates of the copy in "$work/sources" as the gate does, many side by side, and builds their
 # programs. What the gate proved of the same files on this machine is not proved again, and what is proved here the gate need
 # not prove. All that `rt ci` says goes to "$work/log".

@@ -38,11 +38,11 @@ copy_sources() {
     done
 }
 
-# is_current TOP MADE CRATE: succeeds if the executable MADE is there and was made of this crate and all below it as they
+# is_current TOP MADE CRATE: succeeds if the program or archive MADE is there and was made of this crate and all below it as they
 # stand. MADE.built beside it has their lines of crates.txt, and no source of theirs is newer than that file, whose time is
 # the one at which the build began. MADE is a whole path.
 is_current() {
-    [ -x "$2" ] && lines_below "$3" <"$1/crates.txt" | cmp -s - "$2.built" || return 1
+    [ -f "$2" ] && lines_below "$3" <"$1/crates.txt" | cmp -s - "$2.built" || return 1
     # shellcheck disable=SC2046 # the folders are words
     newer=$(cd "$1" && find HANDLES $(lines_below "$3" <crates.txt | sed 's/[ :].*//; s|^|crates/|') -name out -prune -o \
         \( -name '*.rt' -o -name '*.antt' -o -name HANDLES \) -newer "$2.built" -print) || return 1

@@ -1,0 +1,54 @@
+# Completion of camr for bash: its commands, their options with the values that these take, and files. `.ci/completions` compares it
+# with what `camr --help` and the help of each command say.
+
+# _camr_options COMMAND: prints the options of a command.
+_camr_options() {
+    case $1 in
+    run) echo '--workers --watch --watch=lines --watch=terminal' ;;
+    live) echo '--clock --step --ack --journal --sync' ;;
+    show) echo '--ccb --queue --run --freeze --from --to --summary --svg' ;;
+    esac
+    echo '--help -h'
+}
+
+_camr() {
+    local commands='asm dis check explain migrate run live replay audit show help'
+    local cur=${COMP_WORDS[COMP_CWORD]} prev=${COMP_WORDS[COMP_CWORD - 1]} command=${COMP_WORDS[1]} kind=-f
+    # bash takes `=` for a word of its own, and offers what stands after it
+    if [[ $cur == = ]]; then
+        cur='' prev="$prev="
+    elif [[ $prev == = ]]; then
+        prev="${COMP_WORDS[COMP_CWORD - 2]}="
+    fi
+    COMPREPLY=()
+    if ((COMP_CWORD == 1)); then
+        mapfile -t COMPREPLY < <(compgen -W "$commands --help -h --version -V" -- "$cur")
+        return
+    fi
+    case $command/$prev in
+    help/*)
+        ((COMP_CWORD > 2)) || mapfile -t COMPREPLY < <(compgen -W "$commands" -- "$cur")
+        return
+        ;;
+    run/--watch=)
+        mapfile -t COMPREPLY < <(compgen -W 'lines terminal' -- "$cur")
+        return
+        ;;
+    run/--workers | run/--workers=)
+        mapfile -t COMPREPLY < <(compgen -W '1 2 3 4 5 6 7 8 9 10 11 12 13 14 15 16' -- "$cur")
+        return
+        ;;
+    show/--ccb* | show/--queue* | show/--run* | show/--freeze* | show/--from* | show/--to*) return ;;
+    live/--journal*) kind=-d ;;
+    show/--svg*) ;;
+    audit/*) kind=-d ;;
+    esac
+    if [[ $cur == -* ]]; then
+        mapfile -t COMPREPLY < <(compgen -W "$(_camr_options "$command")" -- "$cur")
+    else
+        compopt -o filenames 2>/dev/null
+        mapfile -t COMPREPLY < <(compgen $kind -- "$cur")
+    fi
+}
+
+complete -F _camr camr

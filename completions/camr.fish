@@ -1,0 +1,47 @@
+# Completion of camr for fish: its commands, their options with the values that these take, and files. `.ci/completions` compares it
+# with what `camr --help` and the help of each command say.
+
+set -l commands asm dis check explain migrate run live replay audit show help
+set -l none "not __fish_seen_subcommand_from $commands"
+set -l files "__fish_seen_subcommand_from asm dis check explain migrate run live replay show; and not __fish_seen_subcommand_from help; and not string match -q -- '--watch=*' (commandline -ct)"
+set -l run '__fish_seen_subcommand_from run; and not __fish_seen_subcommand_from help'
+set -l live '__fish_seen_subcommand_from live; and not __fish_seen_subcommand_from help'
+set -l show '__fish_seen_subcommand_from show; and not __fish_seen_subcommand_from help'
+
+complete -c camr -f
+complete -c camr -n "$files" -F
+complete -c camr -n 'not __fish_seen_subcommand_from help' -s h -l help -d 'Print help'
+complete -c camr -n "$none" -s V -l version -d 'Print the version'
+
+complete -c camr -n "$none" -a asm -d 'Assemble the text of a program'
+complete -c camr -n "$none" -a dis -d 'Print the text of a program'
+complete -c camr -n "$none" -a check -d 'Verify the programs of a manifest'
+complete -c camr -n "$none" -a explain -d 'Say what a code means, or why a manifest is refused'
+complete -c camr -n "$none" -a migrate -d 'Write a manifest with one controller over its queues'
+complete -c camr -n "$none" -a run -d 'Run a scenario and print its trace'
+complete -c camr -n "$none" -a live -d 'Carry out the lines of standard input as they come'
+complete -c camr -n "$none" -a replay -d 'Replay a trace and say whether it is lawful'
+complete -c camr -n "$none" -a audit -d 'Replay a journal and say whether it is lawful'
+complete -c camr -n "$none" -a show -d 'Print what happened in a trace'
+complete -c camr -n "$none" -a help -d 'Print the help, or that of a command'
+complete -c camr -n "__fish_seen_subcommand_from help" -a "$commands"
+
+complete -c camr -n "$run" -l workers -x -a '(seq 16)' -d 'How many threads serve completions'
+complete -c camr -n "$run" -l watch -f -a 'lines terminal' -d 'Report sums on standard error'
+
+complete -c camr -n "$live" -l clock -d 'Read the clock of the machine'
+complete -c camr -n "$live" -l step -d 'A run goes on only if a line says so'
+complete -c camr -n "$live" -l ack -d 'Answer each line by a line of its own'
+complete -c camr -n "$live" -l journal -x -a '(__fish_complete_directories)' -d 'Keep the trace in a folder'
+complete -c camr -n "$live" -l sync -d 'What is answered outlasts a stop of the machine'
+
+complete -c camr -n '__fish_seen_subcommand_from audit' -a '(__fish_complete_directories)'
+
+complete -c camr -n "$show" -l ccb -x -d 'Events of a CCB'
+complete -c camr -n "$show" -l queue -x -d 'Events of a queue'
+complete -c camr -n "$show" -l run -x -d 'Events of a run'
+complete -c camr -n "$show" -l freeze -x -d 'Events of a freeze'
+complete -c camr -n "$show" -l from -x -d 'Events at that clock reading or later'
+complete -c camr -n "$show" -l to -x -d 'Events at that clock reading or earlier'
+complete -c camr -n "$show" -l summary -d 'Counts in place of the account'
+complete -c camr -n "$show" -l svg -r -F -d 'Draw a picture in place of the account'

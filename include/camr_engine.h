@@ -2,9 +2,9 @@
  * camr_engine.h: the recovery engine of camr for a transport written in C or C++.
  *
  * An engine holds device queues with their CCBs, the freezes of queues and controllers, the recovery runs that failed CCBs
- * started, and the history of the calls made on it, of which each answered call is one record more. What each call means is told in
- * docs/CALLS.md and docs/DEFINITIONS.md; the engine is proved against that. Behind this header is a static library, libcamr_c.a,
- * which `tools/build-c-library` proves and builds.
+ * started, and the history of the calls made on it, of which each answered call is one record more. The engine is proved against
+ * what is defined in docs/assurance/definitions.md. The calls are those of a static library, libcamr_c.a, which `make` proves and
+ * builds; `pkg-config --cflags --libs camr` has the options for it once it is installed. camr_engine(3) is the manual page.
  *
  * MEMORY. An engine keeps a record, in 40 bytes and up to 64 more for sense or traced bytes, until the host takes its line
  * (camr_take): a host that takes the lines runs in constant memory. No contract speaks of memory; .ci/c-library measures it.

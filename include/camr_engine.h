@@ -1,42 +1,44 @@
 /*
- * camr_engine.h: the recovery engine of camr for a transport written in C or C++.
+ * camr_engine.h: the recovery engine of camr, for a transport that is written in C or C++.
  *
- * An engine holds device queues with their CCBs, the freezes of queues and controllers, the recovery runs that failed CCBs
- * started, and the history of the calls made on it, of which each answered call is one record more. The engine is proved against
- * what is defined in docs/assurance/definitions.md. The calls are those of a static library, libcamr_c.a, which `make` proves and
- * builds; `pkg-config --cflags --libs camr` has the options for it once it is installed. camr_engine(3) is the manual page.
+ * An engine holds device queues with their CCBs, the freezes of queues and controllers, the recovery runs that failed CCBs started,
+ * and the history of the calls made on it. This header declares the calls of a static library, libcamr_c.a, which is proved against
+ * the definitions of docs/assurance/definitions.md. `make` proves and builds it, and once it is installed,
+ * `pkg-config --cflags --libs camr` prints the options for a compiler. The manual page is camr_engine(3).
  *
- * MEMORY. An engine keeps a record, in 40 bytes and up to 64 more for sense or traced bytes, until the host takes its line
- * (camr_take): a host that takes the lines runs in constant memory. No contract speaks of memory; .ci/c-library measures it.
+ * RESULTS. A call returns a camr_result.
+ *   - CAMR_DONE: the call was carried out. It is recorded if it changes what the engine holds.
+ *   - CAMR_UNKNOWN to CAMR_CONTROLLER_FROZEN: the call was refused, and the refusal is recorded. Nothing else changed.
+ *   - Every other result: the engine is as before, and nothing is recorded. There is one exception: camr_drive that returns
+ *     CAMR_OUT_OF_MEMORY has recorded the stops that the run reached before.
+ * What is written through a pointer that is not NULL is 0, false or NULL unless the result is CAMR_DONE, if nothing else is said below.
+ * A null pointer gives CAMR_NULL, and a length that no object has gives CAMR_TOO_LONG; the comments below do not repeat it. No call
+ * ends the process, and none waits.
  *
- * RESULTS. A call answers a camr_result. CAMR_DONE: it was carried out, and is recorded if it changes what the engine holds.
- * CAMR_UNKNOWN to CAMR_CONTROLLER_FROZEN: it was refused, and the refusal is recorded. Every other result: the engine is as before,
- * and nothing is recorded; but a drive that answers CAMR_OUT_OF_MEMORY has recorded its stops before. What is written through a
- * pointer that is not NULL is 0, false or NULL unless the result is CAMR_DONE, where nothing else is said; of such a drive, R0 at
- * the last of its stops. No call ends the process, and none waits.
+ * HANDLES. A camr_engine comes from camr_open and goes with camr_close. A camr_run comes from camr_complete or camr_resume and goes
+ * with camr_run_free, always, also when the run has ended or is parked. Only the library looks into a handle. A guest's freeze is a
+ * number, for which the engine keeps the one token that gives it back.
  *
- * HANDLES. A camr_engine comes from camr_open and goes with camr_close. A camr_run comes from camr_complete or camr_resume and
- * goes with camr_run_free, always, also when it has ended or is parked. Handles are this library's: nobody looks behind them. A
- * guest's freeze is a number, for which the engine keeps the one token that gives it back.
+ * THREADS. The library starts no thread and takes no lock. A handle is used by one call at a time. The calls that are given an engine
+ * are made under a lock of the host's. camr_stretch and camr_run_numbers are given a run alone and need no lock: the private
+ * instructions of many runs go side by side, each on a thread of its own. A handle may go from thread to thread if a lock, the start
+ * or the end of a thread, or a sequentially consistent atomic orders that.
  *
- * THREADS. The library starts no thread and takes no lock: the host brings its own. A handle is used by one call at a time. The
- * calls that are given an engine want the engine's lock. camr_stretch and camr_run_numbers are given a run alone and need none:
- * the private instructions of many runs go side by side, each on a thread of its own. A handle may go from thread to thread where
- * a lock, the start or the end of a thread, or a sequentially consistent atomic orders that.
+ * MEMORY. An engine keeps a record in 40 bytes, and up to 64 more for sense or traced bytes, until the host takes its line
+ * (camr_take). A host that takes the lines runs in constant memory. No contract speaks of memory; .ci/c-library measures it.
  *
- * WHAT IS PROMISED BY THE HOST, and not seen by the library:
- *   - a handle is one that was given and is not freed, and is used by one call at a time, as told above;
- *   - a pointer that is not NULL leads to as many bytes as its length tells, or to one value of its type, that nobody else reads
- *     or writes during the call, and pointers given to one call lead to places apart;
- *   - an engine's runs are freed before it is closed, or forfeited by that: a run of an engine that is closed may still be freed,
- *     and nothing else;
- *   - no call is made from a signal's handler, nor in the forked child of a process with threads;
- *   - the host defines the three functions of the heap that are declared at the end, and links memcpy, memmove and memset. The library
+ * WHAT THE HOST PROMISES. The library does not see these things; the host has to keep them.
+ *   - A handle is one that was given and is not freed, and is used by one call at a time.
+ *   - A pointer that is not NULL leads to as many bytes as its length says, or to one value of its type, that nobody else reads or
+ *     writes during the call. Pointers given to one call lead to separate places.
+ *   - The runs of an engine are freed before it is closed, or are forfeited by that: a run of an engine that is closed may still be
+ *     freed, and nothing else.
+ *   - No call is made from a signal handler, nor in the forked child of a process with threads.
+ *   - The host defines the three functions of the heap that are declared at the end, and links memcpy, memmove and memset. The library
  *     asks for no other function.
- * A null pointer is told by CAMR_NULL, and a length that no object has by CAMR_TOO_LONG.
  *
- * It is C11 and C++11. What begins with camr_raw_ is what the library exports: hosts in other languages may call that, under the
- * promises told there.
+ * The header is C11 and C++11. What begins with camr_raw_ is what the library exports. Hosts in other languages may call that, and have
+ * to keep the promises that stand there.
  */
 #ifndef CAMR_ENGINE_H
 #define CAMR_ENGINE_H
@@ -52,7 +54,7 @@
 extern "C" {
 #endif
 
-/* What a call answers. It crosses as uint32_t; the numbers stay. */
+/* What a call returns. The numbers stay. */
 typedef uint32_t camr_result;
 
 enum {
@@ -73,11 +75,11 @@ enum {
     CAMR_SPENT = 14,              /* the run has ended or is parked */
     CAMR_NOT_STRETCHED = 15,      /* the run was not taken to its next stop */
     CAMR_NOT_UTF8 = 16,           /* the manifest is not UTF-8 */
-    CAMR_FAULTY = 17,             /* the manifest is faulty: the fault's text tells how */
+    CAMR_FAULTY = 17,             /* the manifest is faulty: the text of the fault says why */
     CAMR_NO_ROOM = 18,            /* not one line more finds room */
     CAMR_NO_TEXT = 19,            /* a record has no text: none of an engine's records is such */
     CAMR_NULL = 20,               /* a pointer is null */
-    CAMR_TOO_LONG = 21,           /* a length is greater than any object's */
+    CAMR_TOO_LONG = 21,           /* a length is greater than that of any object */
     CAMR_TAKEN = 22               /* the record was taken before */
 };
 
@@ -108,9 +110,9 @@ typedef struct camr_totals_t {
 
 /* ---- what the library exports --------------------------------------------------------------------------------------------
  *
- * `engine` and `run` lead to the variable in which the host keeps the handle. It has to hold one, but where a call gives one.
- * Only camr_raw_open, camr_raw_complete, camr_raw_resume, camr_raw_close and camr_raw_run_free write the variable. No pointer is
- * null, no length is above PTRDIFF_MAX, and a bool is 0 or 1. */
+ * `engine` and `run` lead to the variable in which the host keeps the handle. The variable has to hold a handle, unless the call is one
+ * that gives it. Only camr_raw_open, camr_raw_complete, camr_raw_resume, camr_raw_close and camr_raw_run_free write the variable. The
+ * host promises that no pointer is null, no length is above PTRDIFF_MAX, and a bool is 0 or 1. */
 uint32_t camr_raw_open(const uint8_t *manifest, size_t length, camr_engine **engine, uint8_t *fault, size_t fault_length,
                        size_t *written);
 void camr_raw_close(camr_engine **engine);
@@ -136,7 +138,7 @@ uint32_t camr_raw_take(camr_engine **engine, uint8_t *place, size_t length, size
 uint32_t camr_raw_trace_end(camr_engine **engine, uint8_t *place, size_t length, size_t *written);
 bool camr_raw_result_text(uint32_t result, uint8_t *place, size_t length, size_t *written);
 
-/* Whether there may be so many bytes at a place. */
+/* Whether there can be so many bytes at a place. */
 static inline camr_result camr_place_(const void *place, size_t length)
 {
     if (place == NULL && length != 0) return CAMR_NULL;
@@ -146,10 +148,10 @@ static inline camr_result camr_place_(const void *place, size_t length)
 /* ---- an engine ------------------------------------------------------------------------------------------------------------ */
 
 /*
- * Opens an engine of a manifest's text, of so many bytes, with an empty history. It goes to *engine, and is the host's until
- * camr_close. CAMR_NOT_UTF8, CAMR_FAULTY, CAMR_OUT_OF_MEMORY, CAMR_NULL, CAMR_TOO_LONG: *engine is NULL, and nothing is left.
- * With CAMR_FAULTY the front of the fault's text, which begins with its code, is put into `fault`, which has so many bytes and
- * may be NULL where it has none; it ends with a 0 always, where it has any.
+ * Opens an engine of the text of a manifest, which has `length` bytes, with an empty history. The engine goes to *engine, and is the
+ * host's until camr_close. If the manifest is faulty, as much of the fault's text as finds room is put into `fault`, which has
+ * `fault_length` bytes and may be NULL if that is 0. The text begins with the code of the fault, and a 0 ends it if there is any room.
+ * Results: CAMR_NOT_UTF8, CAMR_FAULTY, CAMR_OUT_OF_MEMORY; *engine is NULL then, and nothing is left.
  */
 static inline camr_result camr_open(const char *manifest, size_t length, camr_engine **engine, char *fault, size_t fault_length)
 {
@@ -170,15 +172,15 @@ static inline camr_result camr_open(const char *manifest, size_t length, camr_en
     return result;
 }
 
-/* Ends an engine. NULL is none. Runs that are out, and guests' freezes, are forfeited: of these runs nothing may be asked any
+/* Ends an engine. NULL is no engine. Runs that are out, and freezes of guests, are forfeited: nothing may be asked of these runs any
  * more, and their handles are freed as always. */
 static inline void camr_close(camr_engine *engine)
 {
     if (engine != NULL) camr_raw_close(&engine);
 }
 
-/* Submits a CCB to a queue: its number, from 1. The lowest priority number starts first; it may be tried again so many times.
- * CAMR_UNKNOWN, CAMR_LIMIT, CAMR_OUT_OF_MEMORY, CAMR_NULL. */
+/* Submits a CCB to a queue. *ccb is its number, from 1. The CCB with the lowest priority number starts first. The CCB may be tried again
+ * `retries` times, which its policy reads. Results: CAMR_UNKNOWN, CAMR_LIMIT, CAMR_OUT_OF_MEMORY. */
 static inline camr_result camr_submit(camr_engine *engine, uint32_t queue, uint32_t priority, uint32_t retries, uint32_t *ccb)
 {
     if (ccb != NULL) *ccb = 0;
@@ -186,8 +188,8 @@ static inline camr_result camr_submit(camr_engine *engine, uint32_t queue, uint3
     return camr_raw_submit(&engine, queue, priority, retries, ccb);
 }
 
-/* Starts the CCB of a queue that goes first: its number. The device has it from now on, until camr_complete.
- * CAMR_UNKNOWN, CAMR_FROZEN, CAMR_NO_OPENING, CAMR_NOTHING_WAITS, CAMR_CONTROLLER_FROZEN, CAMR_OUT_OF_MEMORY, CAMR_NULL. */
+/* Starts the CCB of a queue that goes first. *ccb is its number. The device has it from now on, until camr_complete. Results:
+ * CAMR_UNKNOWN, CAMR_FROZEN, CAMR_NO_OPENING, CAMR_NOTHING_WAITS, CAMR_CONTROLLER_FROZEN, CAMR_OUT_OF_MEMORY. */
 static inline camr_result camr_dispatch(camr_engine *engine, uint32_t queue, uint32_t *ccb)
 {
     if (ccb != NULL) *ccb = 0;
@@ -196,11 +198,10 @@ static inline camr_result camr_dispatch(camr_engine *engine, uint32_t queue, uin
 }
 
 /*
- * Tells that a device is done with an active CCB: its CAM status, its SCSI status byte, and up to 64 sense bytes, which may be
- * NULL where there are none. With CAMR_REQ_CMP the CCB is finished and gone, and *run is NULL. With any other status its queue is
- * frozen once more, and a run of the queue's program starts, which goes to *run and is the host's until camr_run_free.
- * CAMR_NO_COMPLETION: another status, or more sense bytes. CAMR_UNKNOWN, CAMR_NOT_ACTIVE, CAMR_LIMIT, CAMR_OUT_OF_MEMORY,
- * CAMR_NULL, CAMR_TOO_LONG: *run is NULL.
+ * Reports that a device is done with an active CCB: its CAM status, its SCSI status byte, and up to 64 sense bytes, which may be NULL if
+ * there are none. With CAMR_REQ_CMP the CCB is finished and gone, and *run is NULL. With any other status its queue is frozen once more,
+ * and a run of the queue's policy starts. The run goes to *run, and is the host's until camr_run_free. Results: CAMR_NO_COMPLETION for a
+ * status that no device reports, or more sense bytes; CAMR_UNKNOWN, CAMR_NOT_ACTIVE, CAMR_LIMIT, CAMR_OUT_OF_MEMORY. *run is NULL then.
  */
 static inline camr_result camr_complete(camr_engine *engine, uint32_t ccb, uint8_t status, uint8_t scsi, const void *sense,
                                         size_t sense_length, camr_run **run)
@@ -218,8 +219,8 @@ static inline camr_result camr_complete(camr_engine *engine, uint32_t ccb, uint8
     return result;
 }
 
-/* Reads the clock, in milliseconds: how many freezes went since their timers were due. Only this lets timers go.
- * CAMR_LIMIT, CAMR_GOES_BACK, CAMR_OUT_OF_MEMORY, CAMR_NULL. */
+/* Reads the clock, in milliseconds. *removed is the number of freezes that went because their timers were due. No other call lets timers
+ * go. Results: CAMR_LIMIT, CAMR_GOES_BACK, CAMR_OUT_OF_MEMORY. */
 static inline camr_result camr_clock(camr_engine *engine, uint64_t reading, uint32_t *removed)
 {
     if (removed != NULL) *removed = 0;
@@ -227,8 +228,8 @@ static inline camr_result camr_clock(camr_engine *engine, uint64_t reading, uint
     return camr_raw_clock(&engine, reading, removed);
 }
 
-/* Whether a timer holds a freeze, and when the first is due, in milliseconds: no earlier reading of the clock lets one go. It is
- * not recorded. CAMR_NULL. */
+/* Reports whether a timer holds a freeze, and when the first one is due, in milliseconds: no earlier reading of the clock lets a freeze
+ * go. The call is not recorded. */
 static inline camr_result camr_next_due(camr_engine *engine, bool *is_due, uint64_t *reading)
 {
     if (is_due != NULL) *is_due = false;
@@ -238,8 +239,9 @@ static inline camr_result camr_next_due(camr_engine *engine, bool *is_due, uint6
     return CAMR_DONE;
 }
 
-/* Freezes a queue, or a controller, for a guest, by a number that the guest chose: the freeze's number, from 1, which is never
- * given again. The engine keeps its token until camr_guest_release. CAMR_UNKNOWN, CAMR_LIMIT, CAMR_OUT_OF_MEMORY, CAMR_NULL. */
+/* Freezes a queue, or a controller, for a guest; `guest` is a number of the guest's choice. *freeze is the number of the freeze, from 1,
+ * which is never given again. The engine keeps its token until camr_guest_release. Results: CAMR_UNKNOWN, CAMR_LIMIT,
+ * CAMR_OUT_OF_MEMORY. */
 static inline camr_result camr_guest_freeze(camr_engine *engine, uint32_t queue, uint32_t guest, uint32_t *freeze)
 {
     if (freeze != NULL) *freeze = 0;
@@ -254,9 +256,9 @@ static inline camr_result camr_guest_freeze_controller(camr_engine *engine, uint
     return camr_raw_guest_freeze_controller(&engine, controller, guest, freeze);
 }
 
-/* Gives a guest's freeze back: how many freezes its queue or controller has then. CAMR_NO_TOKEN: this engine keeps no token of
- * that number, as of a run's freeze, or one that was given back. CAMR_OUT_OF_MEMORY: the freeze and its token are still there.
- * CAMR_NOT_HELD, CAMR_NULL. */
+/* Gives the freeze of a guest back. *left is the number of freezes that its queue or controller then has. Results: CAMR_NO_TOKEN if the
+ * engine keeps no token of that number, as of the freeze of a run, or of one that was given back; CAMR_OUT_OF_MEMORY, and the freeze and
+ * its token are still there; CAMR_NOT_HELD. */
 static inline camr_result camr_guest_release(camr_engine *engine, uint32_t freeze, uint32_t *left)
 {
     if (left != NULL) *left = 0;
@@ -264,7 +266,7 @@ static inline camr_result camr_guest_release(camr_engine *engine, uint32_t freez
     return camr_raw_guest_release(&engine, freeze, left);
 }
 
-/* The sums so far. It is not recorded. CAMR_NULL. */
+/* Reports the sums so far. The call is not recorded. */
 static inline camr_result camr_totals(camr_engine *engine, camr_totals_t *totals)
 {
     const camr_totals_t none = {0, 0, 0, 0};
@@ -275,13 +277,12 @@ static inline camr_result camr_totals(camr_engine *engine, camr_totals_t *totals
 }
 
 /*
- * Puts whole lines of the trace into a buffer, as many as find room: those of the records from this number on, from 0, and before
- * that of record 0 the first line of a trace. *written is how many bytes, and *next, with each result, the record from which to go
- * on: where it is the number of records, or more, there is no more. Where there is no record yet, the first line is put by itself,
- * and *next stays 0: a host that follows the trace asks when there is one. CAMR_NO_ROOM: no record's line finds room, that of
- * record 0 together with the first line, or without a record the first line alone, and the buffer is as it was; a line has at most
- * 361 bytes, and the first one 13. CAMR_TAKEN: the record of this number was taken, and the buffer is as it was. CAMR_NO_TEXT,
- * CAMR_NULL, CAMR_TOO_LONG. With each result the buffer is as it was from *written on.
+ * Puts whole lines of the trace into a buffer, as many as find room, and takes none: those of the records from number `from` on, counted
+ * from 0, and before that of record 0 the first line of a trace. *written is the number of bytes. *next is, with each result, the
+ * record from which to go on; if it is the number of records, or more, there is no more. If there is no record yet, the first line is
+ * put by itself, and *next stays 0. A line has at most 361 bytes, with its line feed, and the first line has 13. With each result the
+ * buffer is as before from *written on. Results: CAMR_NO_ROOM if no line finds room, for record 0 together with the first line;
+ * CAMR_TAKEN if the record of that number was taken; CAMR_NO_TEXT.
  */
 static inline camr_result camr_trace(camr_engine *engine, uint64_t from, char *buffer, size_t length, size_t *written,
                                      uint64_t *next)
@@ -296,12 +297,12 @@ static inline camr_result camr_trace(camr_engine *engine, uint64_t from, char *b
 }
 
 /*
- * Takes whole lines of the trace into a buffer, as many as find room: those of the records that were not taken yet, in their order,
- * and before that of record 0 the first line of a trace. The engine forgets these records, and gives their memory back or fills it
- * anew; its sums count them still. *written is how many bytes, 0 if no record is left, and then the first line is not put either: a
- * host that ends an engine without a record asks for it (camr_trace from 0). A buffer of 720 bytes has room for one line at least.
- * CAMR_NO_ROOM: the next line finds no room, nothing is taken, and the buffer is as it was. CAMR_NO_TEXT, CAMR_NULL, CAMR_TOO_LONG.
- * With each result the buffer is as it was from *written on.
+ * Takes whole lines of the trace into a buffer, as many as find room: those of the records that were not taken yet, in their order, and
+ * before that of record 0 the first line of a trace. *written is the number of bytes. The engine forgets these records, and gives their
+ * memory back or fills it anew; its sums count them still. If no record is left, *written is 0. The first line is not put either then:
+ * a host that ends an engine without a record asks camr_trace from 0 for it. A buffer of 720 bytes has room for one line at least. With
+ * each result the buffer is as before from *written on. Results: CAMR_NO_ROOM if the next line finds no room, and then nothing is taken;
+ * CAMR_NO_TEXT.
  */
 static inline camr_result camr_take(camr_engine *engine, char *buffer, size_t length, size_t *written)
 {
@@ -313,8 +314,8 @@ static inline camr_result camr_take(camr_engine *engine, char *buffer, size_t le
     return camr_raw_take(&engine, length != 0 ? (uint8_t *)buffer : &none, length, written);
 }
 
-/* Puts the last line of the trace, the sums so far, into a buffer: a trace that `camr replay` accepts is the lines of all records
- * and this one. CAMR_NO_ROOM, CAMR_NULL, CAMR_TOO_LONG. The buffer is as it was from *written on. */
+/* Puts the last line of the trace, the sums so far, into a buffer. A trace that `camr replay` accepts is the lines of all records and
+ * this one. The buffer is as before from *written on. Results: CAMR_NO_ROOM. */
 static inline camr_result camr_trace_end(camr_engine *engine, char *buffer, size_t length, size_t *written)
 {
     uint8_t none = 0;
@@ -327,16 +328,16 @@ static inline camr_result camr_trace_end(camr_engine *engine, char *buffer, size
 
 /* ---- a run ---------------------------------------------------------------------------------------------------------------- */
 
-/* Takes a run to its next stop, if it is not there: it executes its private instructions, of its program's budget at most. It
- * asks no engine, wants no lock, and takes no memory. CAMR_SPENT, CAMR_NULL. */
+/* Takes a run to its next stop, which is a helper call or the exit, if it is not there. It executes the private instructions of the run,
+ * at most as many as the program's budget. It asks no engine, needs no lock, and takes no memory. Results: CAMR_SPENT. */
 static inline camr_result camr_stretch(camr_run *run)
 {
     return run == NULL ? (camr_result)CAMR_NULL : camr_raw_stretch(&run);
 }
 
-/* Presents a run at its stop to its engine, which takes it over: R0 behind the stop, and whether the run has ended. It goes on
- * from there, or is spent. CAMR_NOT_STRETCHED. CAMR_SPENT. CAMR_NOT_OUT: it is a run of another engine. CAMR_OUT_OF_MEMORY. With
- * these two it is back behind its last stop, and is stretched again. CAMR_NULL. */
+/* Presents a run at its stop to its engine, which takes it over: *r0 is R0 after the stop, and *ended says whether the run has ended. The
+ * run goes on from there, or is spent. Results: CAMR_NOT_STRETCHED; CAMR_SPENT; CAMR_NOT_OUT if it is a run of another engine, and
+ * CAMR_OUT_OF_MEMORY: with these two the run is back after its last stop, and is stretched again. */
 static inline camr_result camr_advance(camr_engine *engine, camr_run *run, uint64_t *r0, bool *ended)
 {
     if (r0 != NULL) *r0 = 0;
@@ -345,10 +346,12 @@ static inline camr_result camr_advance(camr_engine *engine, camr_run *run, uint6
     return camr_raw_advance(&engine, &run, r0, ended);
 }
 
-/* Takes a run from stop to stop until it has ended, with R0 at its exit: what camr_stretch and camr_advance do by turns, with the
- * same records, but faster. A run that was stretched is stretched again. With every result but CAMR_DONE *ended is false.
- * CAMR_SPENT. CAMR_NOT_OUT: it is a run of another engine, and is back behind its last stop. CAMR_OUT_OF_MEMORY: what it did up to
- * its last stop is recorded, *r0 is R0 after that, or 0 if there was none, and it is driven on from there. CAMR_NULL. */
+/*
+ * Takes a run from stop to stop until it has ended, with R0 at its exit in *r0. It does what camr_stretch and camr_advance do by turns,
+ * with the same records, but faster. A run that was stretched is stretched again. With every result other than CAMR_DONE *ended is
+ * false. Results: CAMR_SPENT; CAMR_NOT_OUT if it is a run of another engine, which is back after its last stop; CAMR_OUT_OF_MEMORY: what
+ * the run did up to its last stop is recorded, *r0 is R0 after that stop, or 0 if there was none, and the host calls again to go on.
+ */
 static inline camr_result camr_drive(camr_engine *engine, camr_run *run, uint64_t *r0, bool *ended)
 {
     if (r0 != NULL) *r0 = 0;
@@ -357,17 +360,17 @@ static inline camr_result camr_drive(camr_engine *engine, camr_run *run, uint64_
     return camr_raw_drive(&engine, &run, r0, ended);
 }
 
-/* Parks a run: it takes no step, and keeps its freezes, until camr_resume is given its number. The handle is spent. What it did
- * since its last stop is forgotten. It takes no memory. CAMR_NOT_OUT: it is a run of another engine, and is back behind its last
- * stop. CAMR_SPENT, CAMR_NULL. */
+/* Parks a run: it takes no step, and keeps its freezes, until camr_resume is given its number. The handle is spent. What the run did since
+ * its last stop is forgotten. The call takes no memory. Results: CAMR_NOT_OUT if it is a run of another engine, which is back after its
+ * last stop; CAMR_SPENT. */
 static inline camr_result camr_park(camr_engine *engine, camr_run *run)
 {
     if (engine == NULL || run == NULL) return CAMR_NULL;
     return camr_raw_park(&engine, &run);
 }
 
-/* Lets the parked run of that number go on. It goes to *run, and is the host's until camr_run_free. CAMR_UNKNOWN,
- * CAMR_OUT_OF_MEMORY, CAMR_NULL: *run is NULL. */
+/* Lets the parked run of that number go on. It goes to *run, and is the host's until camr_run_free. Results: CAMR_UNKNOWN,
+ * CAMR_OUT_OF_MEMORY; *run is NULL then. */
 static inline camr_result camr_resume(camr_engine *engine, uint32_t number, camr_run **run)
 {
     bool resumed = false;
@@ -379,8 +382,8 @@ static inline camr_result camr_resume(camr_engine *engine, uint32_t number, camr
     return result;
 }
 
-/* The run's number, from 1, and that of the freeze that it was started with: 0 where it took none, and where it was resumed. It
- * asks no engine. CAMR_NULL. */
+/* Reports the number of a run, from 1, and the number of the freeze that it was started with, which is 0 if it took none and if it was
+ * resumed. The call asks no engine. */
 static inline camr_result camr_run_numbers(camr_run *run, uint32_t *number, uint32_t *freeze)
 {
     if (number != NULL) *number = 0;
@@ -390,8 +393,8 @@ static inline camr_result camr_run_numbers(camr_run *run, uint32_t *number, uint
     return CAMR_DONE;
 }
 
-/* Ends a run's handle, which asks no engine. NULL is none. A run that has neither ended nor been parked is forfeited: it stays
- * among the live runs of its engine with its freezes, and nobody can take it further. */
+/* Frees the handle of a run. It asks no engine. NULL is no run. A run that has neither ended nor been parked is forfeited: it stays among
+ * the live runs of its engine, with its freezes, and nobody can take it further. */
 static inline void camr_run_free(camr_run *run)
 {
     if (run != NULL) camr_raw_run_free(&run);
@@ -399,8 +402,8 @@ static inline void camr_run_free(camr_run *run)
 
 /* ---- texts, and the heap ---------------------------------------------------------------------------------------------------- */
 
-/* Puts the front of a result's text into a buffer, as much as finds room: *written is how many bytes. CAMR_UNKNOWN: there is no
- * such result. CAMR_NULL, CAMR_TOO_LONG. The buffer is as it was from *written on. */
+/* Puts the text of a result into a buffer, as much as finds room. *written is the number of bytes, and the buffer is as before from there
+ * on. Results: CAMR_UNKNOWN if there is no such result. */
 static inline camr_result camr_result_text(camr_result result, char *buffer, size_t length, size_t *written)
 {
     uint8_t none = 0;
@@ -412,10 +415,10 @@ static inline camr_result camr_result_text(camr_result result, char *buffer, siz
 }
 
 /*
- * The heap that the library asks, which the host defines: a block of n bytes, or one of a bytes where n is 0, on an address that a
- * divides; the block at p made one of n bytes, which may move; and the block given back. `kept` is how many bytes stand in it.
- * Where there is no memory, `ok` is false, p leads to any byte, and a block to be made another size is as it was. A block's address
- * is a multiple of 16. In one file of a host that has malloc, this is enough:
+ * The heap of the library, which the host defines. rattle_alloc gives a block of n bytes, or of a bytes if n is 0, at an address that a
+ * divides. rattle_realloc makes the block at p one of n bytes, which may move; `kept` is the number of bytes that stand in it.
+ * rattle_dealloc gives a block back. If there is no memory, `ok` is false, p leads to any byte, and a block that was to be made another
+ * size is as before. The address of a block is a multiple of 16. In one file of a host that has malloc, this is enough:
  *
  *     #define CAMR_ENGINE_HEAP
  *     #include "camr_engine.h"

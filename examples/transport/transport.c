@@ -19,7 +19,7 @@
 enum { DISKS = 4, OPENINGS = 8, MOST_THREADS = 64, RETRIES = 3, BATCH = 4 };
 
 /* What a disk was given and has not reported: its active CCBs. There are no more than its queue has openings. And whether a CCB of
- * its queue may wait: more are submitted where none does, so that few wait behind a freeze. */
+ * its queue may wait: more are submitted if none does, so that few wait while it is frozen. */
 struct disk {
     uint32_t commands[OPENINGS];
     unsigned count;
@@ -83,7 +83,7 @@ static void start_commands(unsigned disk)
     }
 }
 
-/* Takes a run to its end. The mutex is held before and behind it, and not while the run executes private instructions. */
+/* Takes a run to its end. The mutex is held before and after it, and not while the run executes private instructions. */
 static void recover(camr_run *run)
 {
     bool ended = false;

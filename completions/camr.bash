@@ -22,7 +22,8 @@ _camr() {
     fi
     COMPREPLY=()
     if ((COMP_CWORD == 1)); then
-        mapfile -t COMPREPLY < <(compgen -W "$commands --help -h --version -V" -- "$cur")
+        [[ $cur == -* ]] && commands='--help -h --version -V'
+        mapfile -t COMPREPLY < <(compgen -W "$commands" -- "$cur")
         return
     fi
     case $command/$prev in

@@ -2,7 +2,6 @@
 // one, and on `inputs` for a manifest.
 
 ghost use Rattle.std.specs.Prelude.{◌≤◌, IfOk, length};
-ghost use Rattle.trace.specs.Sinks.{HasFailed};
 
 use crate::inputs::{MOST_MANIFEST, read_file};
 use crate::reading::read_some;
@@ -28,8 +27,6 @@ pub struct JournalDisk<'a, R: Runtime + Files<File = File> + AllocGlobal, W: Wri
     // the open segment, with its number
     segment: Option<File>,
     number: u64,
-    // how many reads failed
-    failures: u64,
     out: W,
 }
 
@@ -42,7 +39,6 @@ impl<'a, R: Runtime + Files<File = File> + AllocGlobal, W: Write + Drop> Journal
             lock: None,
             segment: None,
             number: 0,
-            failures: 0,
             out,
         }
     }
@@ -153,12 +149,6 @@ fn done<T>(asked: io::Result<T>) -> Result<T, DiskFault> {
     asked.map_err(|error| fault_of(error.kind()))
 }
 
-fn one_more(failures: u64) -> u64
-    ensures { HasFailed failures result }
-{
-    failures.saturating_add(1)
-}
-
 // Writes some of these bytes, one at least; a write that was interrupted is tried again.
 fn written<W: Write>(out: &mut W, bytes: &[u8]) -> Result<usize, WriteFailed>
     ensures { IfOk result (λ count. (1 ≤ count) × (count ≤ length bytes.now)) }
@@ -188,8 +178,6 @@ impl<R: Runtime + Files<File = File> + AllocGlobal, W: Write + Drop> Disk
 
     ghost remaining = { λ _. None };
 
-    ghost failures = { λ disk. disk.failures };
-
     fn names(&mut self, alloc: Global) -> Result<Vec<String>, DiskFault> {
         done(self.listed(alloc))
     }
@@ -218,13 +206,7 @@ impl<R: Runtime + Files<File = File> + AllocGlobal, W: Write + Drop> Disk
             Some(file) => read_some(file, piece),
             None => Err(io::Error::from(ErrorKind::InvalidInput)),
         };
-        match came {
-            Ok(count) => Ok(count),
-            Err(_) => {
-                self.failures = one_more(self.failures);
-                Err(ReadFailed)
-            }
-        }
+        came.map_err(|_| ReadFailed)
     }
 
     fn cut(&mut self, length: u64) -> Result<(), DiskFault> {

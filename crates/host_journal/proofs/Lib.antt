@@ -5,3 +5,8 @@ pub mod Numbers
 pub mod Known
 pub mod Started
 pub mod Served
+pub mod Quiet
+pub mod LastLine
+pub mod Utf8
+pub mod Causes
+pub mod Sound

@@ -1,9 +1,9 @@
 -- Each step keeps the order: what goes out is covered by what was appended before.
-use Rattle.std.proofs.Common.{◌≡◌, ◌∙◌, ◌≤◌, ◌-◌, ◌⊎◌, inl, inr, ℕ, Bool, true, false, Option, Some, None, Result, Ok, Err, List, [], ◌∷◌, ◌++◌, length, take, drop, refl, sym, ap, subst, append_assoc, append-nil}
+use Rattle.std.proofs.Common.{◌≡◌, ◌∙◌, ℕ, Bool, true, false, Option, Some, None, List, [], ◌∷◌, ◌++◌, take, drop, refl, sym, ap, subst, append_assoc, append-nil}
 use Rattle.std.proofs.lemmas.List.{take-append-drop}
 use Rattle.host_live.specs.declared.reports.LineFault.{LineFault}
 use Rattle.host_journal.specs.Disks.{Step, Kept, Synced, Out, with_step}
-use Rattle.host_journal.specs.Order.{Told, nothing, bytes, answer, IsCovered, Ordered, begins, keeps, syncs, tells, At, EndsALine, answer_text, sure}
+use Rattle.host_journal.specs.Order.{Told, nothing, bytes, answer, IsCovered, begins, keeps, syncs, tells, At, EndsALine, answer_text, sure}
 use Rattle.host_journal.specs.Journals.{AllWaits}
 
 -- ---- steps that are known

@@ -1,15 +1,12 @@
 -- An engine that was served: the order in which it was, and what was appended.
 use Rattle.std.proofs.Common.{◌≡◌, ◌∙◌, Bool, true, false, Option, Some, None, Result, Ok, Err, List, [], ◌++◌, ℕ, refl, sym, ap, subst, append-nil}
-use Rattle.std.specs.Prelude.{IfNone, IsOk, OnOk}
+use Rattle.std.specs.Prelude.{IsOk, OnOk}
 use Rattle.std.specs.Io.KnownBytes.{Appends}
 use Rattle.world_calls.specs.declared.record.Record.{Record}
 use Rattle.world.specs.World.{Setup}
-use Rattle.world.specs.WorldRun.{WorldRun}
-use Rattle.world.specs.Flat.{flat}
 use Rattle.engine_core.specs.ByNumber.{NumberedState, IsBehind, IsHistory}
 use Rattle.trace.specs.TraceText.{records_text}
 use Rattle.host_live.specs.Telling.{Continues, IsContinued, IsContinuedInPart}
-use Rattle.host_journal.specs.declared.lost.Lost.{Lost}
 use Rattle.host_journal.specs.Disks.{Step}
 use Rattle.host_journal.specs.Order.{Told}
 use Rattle.host_journal.specs.Journals.{AllWaits, InOrder, JournaledState, Leaves, Stands}

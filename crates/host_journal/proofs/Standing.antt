@@ -1,12 +1,12 @@
 -- What a sink holds after each of its steps.
-use Rattle.std.proofs.Common.{◌≡◌, ◌∙◌, ◌≤◌, ◌-◌, ◌+◌, ◌⊎◌, inl, inr, ℕ, suc, Bool, true, false, Option, Some, None, is_some, IfNone, Result, Ok, Err, List, [], ◌∷◌, ◌++◌, length, take, drop, get_or, refl, sym, ap, subst, append_assoc, append-nil, arith}
+use Rattle.std.proofs.Common.{◌≡◌, ◌∙◌, ◌≤◌, ◌-◌, inr, ℕ, suc, Bool, true, false, Option, Some, None, is_some, IfNone, List, [], ◌∷◌, ◌++◌, length, take, get_or, refl, sym, ap, subst, append_assoc, append-nil, arith}
 use Rattle.std.proofs.Math.Seq.{take-suc}
 use Rattle.host_journal.specs.declared.lost.Lost.{Lost}
 use Rattle.host_live.specs.declared.reports.LineFault.{LineFault}
 use Rattle.host_journal.specs.Disks.{Step, Kept, Synced, with_step}
 use Rattle.host_journal.specs.Order.{Told, At, EndsALine, IsCovered, answer_text, sure}
 use Rattle.host_journal.specs.Journals.{AllWaits, Stands}
-use Rattle.host_journal.proofs.Ordering.{at_same, at_keeps, at_syncs, told_answer, told_more, waiting_covered}
+use Rattle.host_journal.proofs.Ordering.{at_keeps, at_syncs, told_answer, told_more, waiting_covered}
 
 pub none_of : (lost : Option Lost) → is_some lost ≡ false → lost ≡ None
 none_of None e = refl

@@ -1,7 +1,7 @@
 -- What steps append to segments.
 use Rattle.std.proofs.Common.{◌≡◌, ◌∙◌, ℕ, Option, Some, None, List, [], ◌∷◌, ◌++◌, refl, sym, ap, append_assoc, append-nil}
 use Rattle.std.specs.Io.KnownBytes.{Appends}
-use Rattle.host_journal.specs.Disks.{Step, Locked, FolderMade, ManifestMade, SegmentMade, Opened, CutTo, Kept, Synced, Out, with_step, kept_by, kept_so_far}
+use Rattle.host_journal.specs.Disks.{Step, Locked, FolderMade, ManifestMade, SegmentMade, Opened, CutTo, Kept, Synced, Out, Refused, Failed, with_step, kept_by, kept_so_far}
 
 pub kept_both : (first second : List Step) → kept_by (first ++ second) ≡ kept_by first ++ kept_by second
 kept_both [] second = refl
@@ -14,6 +14,8 @@ kept_both (CutTo bytes ∷ first) second = kept_both first second
 kept_both (Kept bytes ∷ first) second = ap (λ (t : List ℕ). bytes ++ t) (kept_both first second) ∙ sym (append_assoc bytes (kept_by first) (kept_by second))
 kept_both (Synced ∷ first) second = kept_both first second
 kept_both (Out bytes ∷ first) second = kept_both first second
+kept_both (Refused ∷ first) second = kept_both first second
+kept_both (Failed fault ∷ first) second = kept_both first second
 
 -- a step that keeps nothing
 pub nothing_kept : (steps : List Step) (step : Step) → kept_by (step ∷ []) ≡ [] → kept_by (steps ++ step ∷ []) ≡ kept_by steps

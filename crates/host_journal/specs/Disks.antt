@@ -1,6 +1,9 @@
 -- What is done to a folder of segments and to standard output, a step at a time.
 use Rattle.std.specs.Prelude.{◌≡◌, ◌≤◌, ℕ, Bool, true, false, Option, Some, None, Result, Ok, Err, List, [], ◌∷◌, ◌++◌, length, take, IfSome, ⊤}
 use Rattle.std.specs.List.{list_all}
+use Rattle.std.specs.Io.KnownBytes.{Consumes, IsAtEnd, Keeps}
+use Rattle.host_journal.specs.declared.disk.DiskFault.{DiskFault}
+use Rattle.host_journal.specs.declared.disk.DiskFault.TheVariants.{Failed as NotDone}
 
 pub data Step : Type 0 where
   -- the file `lock` is there, and no other engine has it
@@ -21,22 +24,46 @@ pub data Step : Type 0 where
   Synced : Step
   -- these bytes went to standard output
   Out : (bytes : List ℕ) → Step
+  -- another engine has the lock, and nothing was done but that its file may be there
+  Refused : Step
+  -- a call failed so, and nothing was done
+  Failed : (fault : DiskFault) → Step
 
 -- the steps that are known, and one more
 abbrev pub with_step : Option (List Step) → Step → Option (List Step)
 with_step None step = None
 with_step (Some steps) step = Some (steps ++ step ∷ [])
 
--- it was done; or it failed, and nothing was done
-abbrev pub Does : {T E : Type 0} → Option (List Step) → Result T E → Step → Option (List Step) → Type 0
+-- it was done; or it failed
+abbrev pub Does : {T : Type 0} → Option (List Step) → Result T DiskFault → Step → Option (List Step) → Type 0
 Does old (Ok done) step new = new ≡ with_step old step
-Does old (Err fault) step new = new ≡ old
+Does old (Err fault) step new = new ≡ with_step old (Failed fault)
 
--- the lock was taken; or another engine has it, or it failed, and nothing was done, but that its file may be there
-abbrev pub Locks : {E : Type 0} → Option (List Step) → Result Bool E → Option (List Step) → Type 0
+-- it was read, and nothing was done; or it failed
+abbrev pub Reads : {T : Type 0} → Option (List Step) → Result T DiskFault → Option (List Step) → Type 0
+Reads old (Ok read) new = new ≡ old
+Reads old (Err fault) new = new ≡ with_step old (Failed fault)
+
+-- so many bytes were given, none only at the end; or the read failed, and gave none
+abbrev pub Gives : {E : Type 0} → Option (List ℕ) → Result ℕ E → List ℕ → Option (List ℕ) → Type 0
+Gives old (Ok count) piece new = (count ≤ length piece) × Consumes old new (take count piece) × (count ≡ 0 → IsAtEnd new)
+Gives old (Err fault) piece new = Keeps old new
+
+-- bytes were read, and nothing was done; or that failed
+abbrev pub ReadsBytes : {T E : Type 0} → Option (List Step) → Result T E → Option (List Step) → Type 0
+ReadsBytes old (Ok read) new = new ≡ old
+ReadsBytes old (Err fault) new = new ≡ with_step old (Failed NotDone)
+
+-- the lock was taken; or another engine has it; or it failed
+abbrev pub Locks : Option (List Step) → Result Bool DiskFault → Option (List Step) → Type 0
 Locks old (Ok true) new = new ≡ with_step old Locked
-Locks old (Ok false) new = new ≡ old
-Locks old (Err fault) new = new ≡ old
+Locks old (Ok false) new = new ≡ with_step old Refused
+Locks old (Err fault) new = new ≡ with_step old (Failed fault)
+
+-- the segment was synced; or that failed, and nothing was done
+abbrev pub Syncs : {T E : Type 0} → Option (List Step) → Result T E → Option (List Step) → Type 0
+Syncs old (Ok done) new = new ≡ with_step old Synced
+Syncs old (Err fault) new = new ≡ old
 
 -- so many of the bytes were taken, one at least; or it failed, and none was
 abbrev pub TakesSome : {E : Type 0} → Option (List Step) → List ℕ → Result ℕ E → (List ℕ → Step) → Option (List Step) → Type 0
@@ -76,16 +103,29 @@ IsText known bytes = IfSome known (λ its. bytes ≡ its)
 abbrev pub HoldsNothing : Held → Type 0
 HoldsNothing held = IfSome held.names (λ names. names ≡ [])
 
--- ---- steps that write nothing
+-- ---- how steps go on
 
--- the lock is taken, the folder made, or a segment opened: no file is there that was not, but that of the lock
+-- a segment is opened, or a call fails, or another engine has the lock: nothing is written, and the lock is not taken
 abbrev pub is_quiet : Step → Bool
-is_quiet Locked = true
-is_quiet FolderMade = true
 is_quiet (Opened number) = true
+is_quiet (Failed fault) = true
+is_quiet Refused = true
 is_quiet step = false
 
 -- the steps that are known went on with such ones
 abbrev pub IsQuiet : Option (List Step) → Option (List Step) → Type 0
 IsQuiet None new = ⊤
 IsQuiet (Some steps) new = (more : List Step) × (new ≡ Some (steps ++ more)) × (list_all is_quiet more ≡ true)
+
+-- the steps that are known went on, and the last one is of this kind
+abbrev pub EndsIn : (Step → Type 0) → Option (List Step) → Option (List Step) → Type 0
+EndsIn Is None new = ⊤
+EndsIn Is (Some steps) new = (more : List Step) × (last : Step) × Is last × (new ≡ Some (steps ++ (more ++ last ∷ [])))
+
+abbrev pub IsFailed : Step → Type 0
+IsFailed (Failed fault) = ⊤
+IsFailed step = ⊥
+
+abbrev pub IsRefused : Step → Type 0
+IsRefused Refused = ⊤
+IsRefused step = ⊥

@@ -1,5 +1,5 @@
 -- What a sink holds that appends to a segment before anything goes out.
-use Rattle.std.specs.Prelude.{◌≡◌, ◌<◌, ℕ, Bool, true, false, Option, None, IfNone, Result, OnOk, List, [], ◌++◌}
+use Rattle.std.specs.Prelude.{◌≡◌, ℕ, Bool, true, false, Option, None, IfNone, Result, OnOk, List, [], ◌++◌}
 use Rattle.world.specs.World.{Setup}
 use Rattle.manifest.specs.Meaning.{Means}
 use Rattle.host_journal.specs.declared.lost.Lost.{Lost}

@@ -3,4 +3,7 @@ pub mod Order
 pub mod Journals
 pub mod Names
 pub mod Listings
+pub mod Faults
+pub mod Texts
 pub mod Starts
+pub mod Audits

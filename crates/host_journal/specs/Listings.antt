@@ -1,8 +1,8 @@
 -- Which names are those of a journal.
-use Rattle.std.specs.Prelude.{◌≡◌, ◌≤◌, ◌<◌, ◌==◌, ◌&&◌, ℕ, Bool, true, false, not, nat_le, nat_lt, Option, Some, None, List, [], ◌∷◌, length, count_by, flat_map, slice_index, EachIndex, SomeIndex}
+use Rattle.std.specs.Prelude.{◌≡◌, ◌≤◌, ◌==◌, ◌&&◌, ℕ, Bool, true, false, not, nat_le, nat_lt, Option, Some, None, List, [], ◌∷◌, length, count_by, flat_map, slice_index, EachIndex, SomeIndex}
 use Rattle.std.specs.List.{list_all, list_any}
 use Rattle.host_journal.specs.declared.names.NameKind.{NameKind}
-use Rattle.host_journal.specs.declared.names.NameKind.TheVariants.{Segment, Manifest, Ignored, Foreign}
+use Rattle.host_journal.specs.declared.names.NameKind.TheVariants.{Segment, Manifest, Foreign}
 use Rattle.host_journal.specs.declared.listing.Listing.{Listing}
 use Rattle.host_journal.specs.declared.listing.Listing.TheVariants as listings
 use Rattle.host_journal.specs.declared.listing.Numbers.{Numbers}

@@ -1,7 +1,7 @@
 -- What a name in the folder of a journal is, and which names are those of a journal.
-use Rattle.std.specs.Prelude.{◌≡◌, ◌≢◌, ◌≤◌, ◌+◌, ◌-◌, ◌*◌, ◌==◌, ◌&&◌, ◌||◌, ℕ, Bool, true, false, not, nat_eq, nat_le, nat_lt, if◌then◌else◌, Option, Some, None, List, [], ◌∷◌, ◌++◌, length, take, slice_index, bytes_eq, codes, IsPermutation}
+use Rattle.std.specs.Prelude.{◌+◌, ◌-◌, ◌*◌, ◌==◌, ◌&&◌, ◌||◌, ℕ, Bool, not, nat_eq, nat_le, if◌then◌else◌, Option, Some, None, List, [], ◌∷◌, length, take, slice_index, bytes_eq, codes}
 use Rattle.std.specs.Char.{is_ascii_digit}
-use Rattle.std.specs.List.{AllByRecursion, ends_with, filter_map, list_all}
+use Rattle.std.specs.List.{ends_with, list_all}
 use Rattle.host_journal.specs.declared.names.NameKind.{NameKind}
 use Rattle.host_journal.specs.declared.names.NameKind.TheVariants.{Segment, Manifest, Ignored, Foreign}
 

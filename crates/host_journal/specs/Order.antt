@@ -1,5 +1,5 @@
 -- In which order a segment is appended to and standard output is written: no byte goes out that is not in the segment.
-use Rattle.std.specs.Prelude.{◌≡◌, ◌≢◌, ◌⊎◌, ℕ, Bool, true, false, Option, Some, None, List, [], ◌∷◌, ◌++◌, ⊤, codes, decimal}
+use Rattle.std.specs.Prelude.{◌≡◌, ◌⊎◌, ℕ, Bool, true, false, Option, Some, None, List, [], ◌∷◌, ◌++◌, ⊤, codes, decimal}
 use Rattle.host_live.specs.declared.reports.LineFault.{LineFault}
 use Rattle.host_live.specs.declared.reports.LineFault.TheVariants.{Form, NotHeld}
 use Rattle.host_journal.specs.Disks.{Step, Kept, Synced, Out}

@@ -2,8 +2,7 @@
 // did.
 
 ghost use Rattle.std.specs.Prelude.{◌≡◌, ◌≤◌, ◌<◌, ℕ, List, Option, IfOk, OnOk, length, map, string_bytes};
-ghost use Rattle.host_recovery.specs.Sources.{Gives};
-ghost use Rattle.host_journal.specs.Disks.{AreNames, CutTo, Does, FolderMade, Held, IsText, Kept, Locks, ManifestMade, Opened, Out, SegmentMade, Step, Synced, TakesSome};
+ghost use Rattle.host_journal.specs.Disks.{AreNames, CutTo, Does, FolderMade, Gives, Held, HoldsNothing, IsText, Kept, Locks, ManifestMade, Opened, Out, Reads, ReadsBytes, SegmentMade, Step, Syncs, TakesSome};
 
 use host_recovery::ReadFailed;
 use std::alloc::Global;
@@ -22,7 +21,7 @@ pub enum DiskFault {
 /// A folder of segments, of which one is open at a time, and standard output: one value, so that contracts see in which order both are
 /// written. Contracts see the steps that were taken, what the folder holds, and what the open segment gives from here on, where these are
 /// known (a test's are, those of the machine's file system are not): that a call does what its step says, and nothing else, is trusted of
-/// the folder. A call that fails takes no step. They see too how many reads failed, which is counted up to 2^64 - 1 at least.
+/// the folder. A call that fails, but for appending, syncing and putting, takes a step that says so.
 pub trait Disk {
     ghost steps: { Self → Option (List Step) };
 
@@ -30,17 +29,16 @@ pub trait Disk {
 
     ghost remaining: { Self → Option (List ℕ) };
 
-    ghost failures: { Self → ℕ };
-
     /// The names in the folder. `Missing` if there is no such folder.
     fn names(&mut self, alloc: Global) -> Result<Vec<String>, DiskFault>
         ensures names { IfOk result (λ names. AreNames (held self.old) (map string_bytes names.items)) }
         ensures held { held self.new ≡ held self.old }
-        ensures steps { steps self.new ≡ steps self.old };
+        ensures steps { Reads (steps self.old) result (steps self.new) };
 
     /// Takes the lock, and makes its file if it is not there; no, if another engine has it. `Missing` if there is no such folder.
     fn lock(&mut self) -> Result<bool, DiskFault>
-        ensures { Locks (steps self.old) result (steps self.new) };
+        ensures steps { Locks (steps self.old) result (steps self.new) }
+        ensures missing { result ≡ Err DiskFault.Missing → HoldsNothing (held self.new) };
 
     /// Makes the folder.
     fn make(&mut self) -> Result<(), DiskFault>
@@ -50,7 +48,7 @@ pub trait Disk {
     fn read_manifest(&mut self, alloc: Global, number: u64) -> Result<Vec<u8>, DiskFault>
         ensures bytes { IfOk result (λ bytes. IsText ((held self.old).manifests number) bytes.items) }
         ensures held { held self.new ≡ held self.old }
-        ensures steps { steps self.new ≡ steps self.old };
+        ensures steps { Reads (steps self.old) result (steps self.new) };
 
     /// Opens the segment of that number, which is read from its front.
     fn open_segment(&mut self, number: u64) -> Result<(), DiskFault>
@@ -61,9 +59,9 @@ pub trait Disk {
     /// Puts the next bytes of the open segment at the front of the piece, and returns how many: 0 only at its end. If it fails it gives none.
     fn read(&mut self, piece: &mut [u8]) -> Result<usize, ReadFailed>
         requires { 0 < length piece.old }
-        ensures gives { Gives (remaining self.old) (failures self.old) result piece.new (remaining self.new) (failures self.new) }
+        ensures gives { Gives (remaining self.old) result piece.new (remaining self.new) }
         ensures held { held self.new ≡ held self.old }
-        ensures steps { steps self.new ≡ steps self.old };
+        ensures steps { ReadsBytes (steps self.old) result (steps self.new) };
 
     /// Cuts the open segment to so many bytes from its front. It is appended to from now on.
     fn cut(&mut self, length: u64) -> Result<(), DiskFault>
@@ -85,7 +83,7 @@ pub trait Disk {
 
     /// Waits until the open segment would outlast a stop of the machine.
     fn sync(&mut self) -> Result<(), WriteFailed>
-        ensures { Does (steps self.old) result Synced (steps self.new) };
+        ensures { Syncs (steps self.old) result (steps self.new) };
 
     /// Puts some of the bytes, from the front, one at least, on standard output, and returns how many.
     fn put(&mut self, bytes: &[u8]) -> Result<usize, WriteFailed>

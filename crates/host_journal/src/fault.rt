@@ -1,5 +1,8 @@
 // Why a journal was refused, or an engine of it stopped. It relies on the faults of the parts.
 
+ghost use Rattle.std.specs.Prelude.{◌≡◌};
+ghost use Rattle.host_journal.specs.Faults.{file_error};
+
 use crate::disk::DiskFault;
 use base::OrMemory;
 use host_recovery::RecoveryFault;
@@ -50,7 +53,9 @@ pub enum JournalFault {
 pub type JournalError = OrMemory<JournalFault>;
 
 /// The fault of a file.
-pub(crate) fn of_file(fault: DiskFault, file: JournalFile) -> JournalError {
+pub(crate) fn of_file(fault: DiskFault, file: JournalFile) -> JournalError
+    ensures { result ≡ file_error fault file }
+{
     match fault {
         DiskFault::OutOfMemory => OrMemory::OutOfMemory,
         DiskFault::Missing | DiskFault::Failed => OrMemory::Fault(JournalFault::File(file)),

@@ -1,7 +1,10 @@
 // The engine of the segment that a start goes on with. It relies on `replaying` for a segment that is there.
 
-ghost use Rattle.std.specs.Prelude.{◌≡◌, IfOk};
+ghost use Rattle.std.specs.Prelude.{◌≡◌, None, IfOk};
+ghost use Rattle.world.specs.World.{version_of};
+ghost use Rattle.trace.specs.TraceText.{header};
 ghost use Rattle.host_live.specs.Growth.{StandsBehind};
+ghost use Rattle.host_journal.specs.Starts.{Cuts, CutsOff, Makes, Opens, OpensFirst, OpensNext, Prepares};
 
 use crate::beginning::Begun;
 use crate::disk::Disk;
@@ -15,14 +18,17 @@ use trace::header;
 use world_calls::Version;
 
 /// The engine of the segment that a start goes on with: one that was just opened, whose segment and manifest are made, or one that stands
-/// behind the records of the segment, of which a line that is not whole is cut off. The segment is appended to from now on.
+/// behind the records of the segment, of which a line that is not whole is cut off. The segment is appended to from now on. If the segment is
+/// refused, nothing in the folder has changed.
 pub fn open<'a, D: Disk>(
     alloc: Global,
     disk: &mut D,
     begun: &'a Begun<'_>,
 ) -> Result<Recovered<'a>, JournalError>
+    ensures opens { Opens begun.now (D.held disk.old) (D.steps disk.old) (D.steps disk.new) result }
     ensures behind { IfOk result (λ recovered. StandsBehind recovered.records recovered.engine) }
     ensures setup { IfOk result (λ recovered. recovered.engine.setup ≡ begun.now.config) }
+    ensures steps { Prepares begun.now (D.steps disk.old) result (D.steps disk.new) }
 {
     match begun.manifest {
         Some(bytes) => make(alloc, disk, begun, bytes),
@@ -37,8 +43,10 @@ fn make<'a, D: Disk>(
     begun: &'a Begun<'_>,
     manifest: &[u8],
 ) -> Result<Recovered<'a>, JournalError>
+    ensures opens { OpensFirst begun.now.config (D.steps disk.old) (D.steps disk.new) result }
     ensures behind { IfOk result (λ recovered. StandsBehind recovered.records recovered.engine) }
     ensures setup { IfOk result (λ recovered. recovered.engine.setup ≡ begun.now.config) }
+    ensures steps { Makes begun.now.number manifest.now (header (version_of begun.now.config)) (D.steps disk.old) result (D.steps disk.new) }
 {
     let engine = match NumberedEngine::open(alloc, &begun.config) {
         Ok(engine) => engine,
@@ -66,19 +74,30 @@ fn go_on<'a, D: Disk>(
     disk: &mut D,
     begun: &'a Begun<'_>,
 ) -> Result<Recovered<'a>, JournalError>
+    ensures opens { OpensNext begun.now.config begun.now.number ((D.held disk.old).segments begun.now.number) (D.steps disk.old) (D.steps disk.new) result }
     ensures behind { IfOk result (λ recovered. StandsBehind recovered.records recovered.engine) }
     ensures setup { IfOk result (λ recovered. recovered.engine.setup ≡ begun.now.config) }
+    ensures steps { Cuts begun.now.number (D.steps disk.old) result (D.steps disk.new) }
 {
     match replayed(alloc, disk, begun.number, &begun.config) {
-        Ok(recovered) => {
-            if recovered.is_ended {
-                return Err(OrMemory::Fault(JournalFault::Ended(begun.number)));
-            }
-            match disk.cut(recovered.whole) {
-                Ok(()) => Ok(recovered),
-                Err(fault) => Err(of_file(fault, JournalFile::Segment(begun.number))),
-            }
-        }
+        Ok(recovered) => cut(disk, begun.number, recovered),
         Err(error) => Err(error),
+    }
+}
+
+// Cuts off what is not whole of a segment that has no last line.
+fn cut<'a, D: Disk>(
+    disk: &mut D,
+    number: u64,
+    recovered: Recovered<'a>,
+) -> Result<Recovered<'a>, JournalError>
+    ensures { CutsOff number recovered.entry (D.steps disk.old) result (D.steps disk.new) }
+{
+    if recovered.is_ended {
+        return Err(OrMemory::Fault(JournalFault::Ended(number)));
+    }
+    match disk.cut(recovered.whole) {
+        Ok(()) => Ok(recovered),
+        Err(fault) => Err(of_file(fault, JournalFile::Segment(number))),
     }
 }

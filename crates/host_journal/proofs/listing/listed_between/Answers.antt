@@ -1,4 +1,4 @@
-use Rattle.std.proofs.Common.{◌≡◌, ◌∙◌, List, ℕ, ap, sym, inl, inr}
+use Rattle.std.proofs.Common.{◌∙◌, List, ℕ, ap, sym, inl, inr}
 use Rattle.std.proofs.lemmas.Bool.{both_ways}
 use Rattle.host_journal.specs.Listings.{are_own}
 use Rattle.host_journal.proofs.Numbers.{are_no_segments, are_segments}

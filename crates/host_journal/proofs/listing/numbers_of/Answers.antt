@@ -1,4 +1,4 @@
-use Rattle.std.proofs.Common.{◌≡◌, ◌∙◌, ap, sym, string_bytes}
+use Rattle.std.proofs.Common.{◌∙◌, ap, sym, string_bytes}
 use Rattle.host_journal.specs.Names.{kind_of}
 use Rattle.host_journal.specs.Listings.{is_foreign}
 use Rattle.host_journal.proofs.Known.{known_more, manifests_more, not_known, segments_more}

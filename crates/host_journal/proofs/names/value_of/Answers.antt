@@ -1,4 +1,4 @@
-use Rattle.std.proofs.Common.{◌≤◌, ◌^◌, ◌*◌, ◌-◌, get_or, arith, lit<}
+use Rattle.std.proofs.Common.{◌≤◌, ◌^◌, get_or, arith, lit<}
 use Rattle.std.proofs.Math.Nat.{pow-le-pow_right}
 use Rattle.std.specs.Char.{is_ascii_digit}
 use Rattle.host_journal.proofs.Numbers.{all_at, digit_fits}

@@ -1,4 +1,4 @@
-use Rattle.std.proofs.Common.{◌≡◌, ◌∙◌, ◌≤◌, ◌-◌, ◌+◌, ℕ, Ok, List, ◌++◌, length, take, drop, ap, refl, subst, sym, append-nil, arith}
+use Rattle.std.proofs.Common.{◌∙◌, ◌+◌, ℕ, List, ◌++◌, take, refl, subst, sym, append-nil, arith}
 use Rattle.std.proofs.lemmas.List.{take_all}
 use Rattle.trace.proofs.Printing.{taken_on}
 use Rattle.host_journal.specs.Order.{At}

@@ -1,4 +1,4 @@
-use Rattle.std.proofs.Common.{Option, refl, subst, sym, inr, codes, List, ℕ, []}
+use Rattle.std.proofs.Common.{Option, refl, subst, sym, inr, codes, []}
 use Rattle.std.specs.Prelude.{is_some, if◌then◌else◌}
 use Rattle.trace.specs.TraceText.{header}
 use Rattle.world.specs.World.{version_of}

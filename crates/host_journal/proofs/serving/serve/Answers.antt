@@ -1,7 +1,4 @@
-use Rattle.std.proofs.Common.{◌≡◌, ap, refl, sym, subst, List, ℕ}
-use Rattle.host_live.specs.Telling.{Continues}
 use Rattle.host_journal.specs.Disks.{kept_so_far}
-use Rattle.host_journal.specs.Journals.{InOrder}
 use Rattle.host_journal.specs.Starts.{first_line}
 use Rattle.host_journal.proofs.Served.{continues_none, unserved}
 use Rattle.host_journal.proofs.serving.serve.Goals as goal

@@ -1,4 +1,4 @@
-use Rattle.std.proofs.Common.{◌≡◌, ◌∙◌, ℕ, List, ◌++◌, ap, subst, sym}
+use Rattle.std.proofs.Common.{◌∙◌, ℕ, List, ◌++◌, ap, subst, sym}
 use Rattle.host_journal.specs.Journals.{Stands}
 use Rattle.host_journal.proofs.Standing.{stands_answer}
 use Rattle.host_journal.proofs.journaled.Journaled.answer.Goals as goal

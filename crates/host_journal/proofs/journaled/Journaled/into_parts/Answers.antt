@@ -1,5 +1,3 @@
-use Rattle.std.proofs.Common.{ap, subst, sym}
-use Rattle.host_journal.specs.Journals.{JournaledState, Leaves}
 use Rattle.host_journal.proofs.Served.{leaves_so}
 use Rattle.host_journal.proofs.journaled.Journaled.into_parts.Goals as goal
 

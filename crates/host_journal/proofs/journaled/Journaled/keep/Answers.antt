@@ -1,4 +1,4 @@
-use Rattle.std.proofs.Common.{◌≡◌, ◌∙◌, ◌≤◌, ◌-◌, ◌==◌, nat_eq, ℕ, Bool, true, List, ◌++◌, take, get_or, ap, subst, sym, refl}
+use Rattle.std.proofs.Common.{◌-◌, nat_eq, ℕ, true, List, take, get_or, ap, subst, sym}
 use Rattle.std.proofs.lemmas.Bool.{eqb-true}
 use Rattle.std.specs.Io.KnownBytes.{Appends}
 use Rattle.host_journal.specs.Disks.{kept_so_far}

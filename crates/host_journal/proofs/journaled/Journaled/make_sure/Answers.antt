@@ -1,4 +1,4 @@
-use Rattle.std.proofs.Common.{◌≡◌, ◌∙◌, ap}
+use Rattle.std.proofs.Common.{◌∙◌, ap}
 use Rattle.host_journal.specs.Disks.{kept_so_far}
 use Rattle.host_journal.specs.Journals.{JournaledState}
 use Rattle.host_journal.proofs.Standing.{stands_synced}

@@ -1,5 +1,4 @@
-use Rattle.std.proofs.Common.{◌≡◌, [], refl, subst, sym, ap, ◌∙◌, Option, List, ℕ, ◌++◌, append-nil}
-use Rattle.host_journal.specs.Disks.{Step}
+use Rattle.std.proofs.Common.{[], refl, subst, sym, List, ℕ, ◌++◌, append-nil}
 use Rattle.host_journal.specs.Order.{EndsALine, Told}
 use Rattle.host_journal.proofs.Ordering.{at_first, at_same, told_first}
 use Rattle.host_journal.proofs.journaled.Journaled.of.Goals as goal

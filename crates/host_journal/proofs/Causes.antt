@@ -1,0 +1,165 @@
+-- Why a start was refused, told of more steps, and of what the folder holds.
+use Rattle.std.proofs.Common.{◌≡◌, ◌≢◌, ◌∙◌, ◌⊎◌, inl, inr, ◌≤◌, ℕ, true, false, Option, Some, None, Result, Ok, Err, List, [], length, ap, refl, sym, subst, arith, IsUtf8}
+use Rattle.std.specs.Prelude.{IfErr, IfSome}
+use Rattle.base.specs.declared.or_memory.OrMemory.{OrMemory}
+use Rattle.base.specs.declared.or_memory.OrMemory.TheVariants.{OutOfMemory, Fault}
+use Rattle.manifest.specs.Meaning.{HasFault}
+use Rattle.host_recovery.specs.declared.recovering.Recovered.{Recovered}
+use Rattle.host_recovery.specs.Sources.{IsAll}
+use Rattle.host_recovery.specs.declared.fault.RecoveryFault.{RecoveryFault}
+use Rattle.host_recovery.specs.declared.recovering.TheConstants.{MOST_WHOLE}
+use Rattle.world.specs.World.{Setup}
+use Rattle.host_journal.specs.Disks.{CutTo, EndsIn, Failed, FolderMade, Held, HoldsNothing, IsFailed, IsRefused, IsText, Locked, Opened, Step, with_step}
+use Rattle.host_journal.specs.Faults.{file_error}
+use Rattle.host_journal.specs.Listings.{IsEmptyJournal}
+use Rattle.host_journal.specs.Starts.{AreNoSegment, Cuts, CutsOff, Fails, HasCause, IsEntered, IsFileFault, IsGivenOther, IsItsManifest, IsNewest, IsNoFirst, IsOther, IsOwnFault, IsToldOf, IsUnfit, IsUnmade, IsUnread, IsUnreadSegment, OpensNext, Replays, missing}
+use Rattle.host_journal.specs.declared.disk.DiskFault.{DiskFault}
+use Rattle.host_journal.specs.declared.disk.DiskFault.TheVariants as disk
+use Rattle.host_journal.specs.declared.fault.JournalFault.{JournalFault}
+use Rattle.host_journal.specs.declared.fault.JournalFault.TheVariants as faults
+use Rattle.host_journal.specs.declared.fault.JournalFile.{JournalFile}
+use Rattle.host_journal.specs.declared.fault.JournalFile.TheVariants as files
+use Rattle.host_journal.proofs.Quiet.{WentOn, ends_on, ends_step, quiet_same, quiet_step, quiet_trans, went_step, went_trans}
+
+-- ---- of more steps
+
+pub unread_on : (known : Option (List ℕ)) (old mid new : Option (List Step)) → WentOn old mid → IsUnread known mid new → IsUnread known old new
+unread_on known old mid new went unread = elim unread [ inl ends ↦ inl (ends_on IsFailed old mid new went ends) | inr none ↦ inr none ]
+
+file_on : (held : Held) (file : JournalFile) (old mid new : Option (List Step)) → WentOn old mid → IsFileFault held file mid new → IsFileFault held file old new
+file_on held files.Folder old mid new went fails = ends_on IsFailed old mid new went fails
+file_on held files.Lock old mid new went fails = ends_on IsFailed old mid new went fails
+file_on held (files.Manifest number) old mid new went fails = (fails.0, elim fails.1 [ inl ends ↦ inl (ends_on IsFailed old mid new went ends) | inr bad ↦ inr bad ])
+file_on held (files.Segment number) old mid new went fails = (fails.0, unread_on (held.segments number) old mid new went fails.1)
+
+pub fails_on : (held : Held) (given : Option (List ℕ)) (old mid new : Option (List Step)) (error : OrMemory JournalFault) → WentOn old mid → Fails held given mid new error → Fails held given old new error
+fails_on held given old mid new OutOfMemory went fails = tt
+fails_on held given old mid new (Fault faults.InUse) went fails = ends_on IsRefused old mid new went fails
+fails_on held given old mid new (Fault (faults.File file)) went fails = file_on held file old mid new went fails
+fails_on held given old mid new (Fault fault) went fails = fails
+
+pub entered_on : (given : Option (List ℕ)) (old new : Option (List Step)) → IsEntered given old new → WentOn old new
+entered_on given old new entered =
+    elim entered [
+      | inl there ↦ went_step old new Locked there
+      | inr made ↦
+          went_trans old (with_step (missing old) FolderMade) new
+          (went_trans old (missing old) (with_step (missing old) FolderMade) (went_step old (missing old) _ refl) (went_step (missing old) (with_step (missing old) FolderMade) FolderMade refl))
+          (went_step (with_step (missing old) FolderMade) new Locked made.1)
+    ]
+
+-- ---- of what the folder holds
+
+empty_so : (names : Option (List (List ℕ))) → IfSome names (λ its. its ≡ []) → IfSome names IsEmptyJournal
+empty_so None nothing = tt
+empty_so (Some names) nothing = subst (λ (its : List (List ℕ)). IsEmptyJournal its) (sym nothing) (refl, record { none = refl; few = omega arith })
+
+pub nothing_empty : (held : Held) → HoldsNothing held → IfSome held.names IsEmptyJournal
+nothing_empty held nothing = empty_so held.names nothing
+
+unfit_so : (names : Option (List (List ℕ))) → IfSome names IsEmptyJournal → IfSome names (λ its. IsUnfit its None)
+unfit_so None empty = tt
+unfit_so (Some names) empty = inr (empty, refl)
+
+pub no_first : (held : Held) (given : Option (List ℕ)) (old new : Option (List Step)) (error : OrMemory JournalFault) → IfSome held.names IsEmptyJournal → IsNoFirst given error → Fails held given old new error
+no_first held None old new error empty none = subst (λ (e : OrMemory JournalFault). Fails held None old new e) (sym none) (unfit_so held.names empty)
+no_first held (Some bytes) old new OutOfMemory empty none = tt
+no_first held (Some bytes) old new (Fault faults.Unreadable) empty none = (bytes, refl, empty, none)
+no_first held (Some bytes) old new (Fault (faults.Given fault)) empty none = (bytes, refl, empty, none)
+no_first held (Some bytes) old new (Fault fault) empty none = absurd none
+
+pub no_first_all : {T : Type 0} (held : Held) (given : Option (List ℕ)) (old new : Option (List Step)) (result : Result T (OrMemory JournalFault)) → IfSome held.names IsEmptyJournal → IfErr result (IsNoFirst given) → IfErr result (Fails held given old new)
+no_first_all held given old new (Ok done) empty none = tt
+no_first_all held given old new (Err error) empty none = no_first held given old new error empty none
+
+-- what holds of the bytes holds of those that are known
+pub at_known : (P : List ℕ → Type 0) (known : Option (List ℕ)) (bytes : List ℕ) → IsText known bytes → P bytes → IfSome known P
+at_known P None bytes is holds = tt
+at_known P (Some its) bytes is holds = subst P is holds
+
+other_at : (known : Option (List ℕ)) (bytes own : List ℕ) → IsText known own → bytes ≢ own → IfSome known (λ its. bytes ≢ its)
+other_at None bytes own is other = tt
+other_at (Some its) bytes own is other = λ same. other (same ∙ sym is)
+
+pub other_manifest : (held : Held) (number : ℕ) (given : Option (List ℕ)) (own : List ℕ) → IfSome held.names (λ names. IsNewest names number) → IsText (held.manifests number) own → IsGivenOther (held.segments number) given own true
+    → (n : ℕ) × (bytes : List ℕ) × (given ≡ Some bytes) × IsOther held n bytes
+other_manifest held number None own newest is other = absurd other
+other_manifest held number (Some bytes) own newest is other = (number, bytes, refl, (newest, other_at (held.manifests number) bytes own is other.0, other.1))
+
+same_at : (known : Option (List ℕ)) (bytes own : List ℕ) → IsText known own → bytes ≡ own → IfSome known (λ its. bytes ≡ its)
+same_at None bytes own is same = tt
+same_at (Some its) bytes own is same = same ∙ is
+
+-- the manifest that is given is that of the segment, if that one has no last line
+pub its_manifest : (held : Held) (number : ℕ) (given : Option (List ℕ)) (own : List ℕ) → IsText (held.manifests number) own → IsGivenOther (held.segments number) given own false → IsItsManifest held number given
+its_manifest held number None own is other = tt
+its_manifest held number (Some bytes) own is other = elim other [ inl same ↦ inl (same_at (held.manifests number) bytes own is same) | inr last ↦ inr last ]
+
+-- why the newest segment or its manifest was not read
+pub own_refused : (held : Held) (number : ℕ) (given : Option (List ℕ)) (bytes : List ℕ) (old new : Option (List Step)) (error : OrMemory JournalFault) → IfSome held.names (λ names. IsNewest names number) → IsText (held.manifests number) bytes
+    → IsOwnFault number bytes error → Fails held given old new error
+own_refused held number given bytes old new OutOfMemory newest is own = tt
+own_refused held number given bytes old new (Fault (faults.File (files.Manifest other))) newest is own =
+    subst (λ (n : ℕ). IfSome held.names (λ names. IsNewest names n) × (EndsIn IsFailed old new ⊎ IfSome (held.manifests n) (λ its. IsUtf8 its → ⊥))) (sym own.0) (newest, inr (at_known (λ (its : List ℕ). IsUtf8 its → ⊥) (held.manifests number) bytes is own.1))
+own_refused held number given bytes old new (Fault (faults.Manifest other fault)) newest is own =
+    subst (λ (n : ℕ). IfSome held.names (λ names. IsNewest names n) × IfSome (held.manifests n) (λ its. HasFault its fault)) (sym own.0) (newest, at_known (λ (its : List ℕ). HasFault its fault) (held.manifests number) bytes is own.1)
+own_refused held number given bytes old new (Fault fault) newest is own = absurd own
+
+pub unread_refused : (held : Held) (number : ℕ) (given : Option (List ℕ)) (old mid new : Option (List Step)) (error : OrMemory JournalFault) → IfSome held.names (λ names. IsNewest names number) → WentOn old mid
+    → IsUnreadSegment number (held.segments number) mid new error → Fails held given old new error
+unread_refused held number given old mid new OutOfMemory newest went unread = tt
+unread_refused held number given old mid new (Fault (faults.File (files.Segment other))) newest went unread =
+    subst (λ (n : ℕ). IfSome held.names (λ names. IsNewest names n) × IsUnread (held.segments n) old new) (sym unread.0) (newest, unread_on (held.segments number) old mid new went unread.1)
+unread_refused held number given old mid new (Fault fault) newest went unread = absurd unread
+
+-- ---- of what comes after
+
+pub fails_after_all : {T : Type 0} (held : Held) (given : Option (List ℕ)) (old mid new : Option (List Step)) (result : Result T (OrMemory JournalFault)) → WentOn old mid → IfErr result (Fails held given mid new) → IfErr result (Fails held given old new)
+fails_after_all held given old mid new (Ok done) went fails = tt
+fails_after_all held given old mid new (Err error) went fails = fails_on held given old mid new error went fails
+
+pub fails_after : {T : Type 0} (held : Held) (given : Option (List ℕ)) (old mid new : Option (List Step)) (step : Step) (result : Result T (OrMemory JournalFault)) → mid ≡ with_step old step → IfErr result (Fails held given mid new) → IfErr result (Fails held given old new)
+fails_after held given old mid new step result is fails = fails_after_all held given old mid new result (went_step old mid step is) fails
+
+-- ---- a call that failed
+
+pub unmade : (old mid new : Option (List Step)) (fault : DiskFault) (file : JournalFile) → WentOn old mid → new ≡ with_step mid (Failed fault) → IsUnmade old new (file_error fault file)
+unmade old mid new disk.OutOfMemory file went is = tt
+unmade old mid new disk.Missing file went is = ends_on IsFailed old mid new went (ends_step IsFailed mid new (Failed disk.Missing) tt is)
+unmade old mid new disk.Failed file went is = ends_on IsFailed old mid new went (ends_step IsFailed mid new (Failed disk.Failed) tt is)
+
+pub cut_failed : (number : ℕ) (recovered : Recovered) (old new : Option (List Step)) (fault : DiskFault) → new ≡ with_step old (Failed fault) → CutsOff number recovered old (Err (file_error fault (files.Segment number))) new
+cut_failed number recovered old new disk.OutOfMemory is = quiet_step old new (Failed disk.OutOfMemory) refl is
+cut_failed number recovered old new disk.Missing is = (refl, quiet_step old new (Failed disk.Missing) refl is, ends_step IsFailed old new (Failed disk.Missing) tt is)
+cut_failed number recovered old new disk.Failed is = (refl, quiet_step old new (Failed disk.Failed) refl is, ends_step IsFailed old new (Failed disk.Failed) tt is)
+
+-- ---- a segment that was not replayed
+
+pub told_cause : (number : ℕ) (known : Option (List ℕ)) (fault : RecoveryFault) (old mid new : Option (List Step)) (told : JournalFault) → WentOn old mid → IsToldOf number known fault mid new told → HasCause known old new (Fault told)
+told_cause number known fault old mid new (faults.File (files.Segment other)) went told = unread_on known old mid new went told.1
+told_cause number known fault old mid new (faults.File file) went told = absurd told
+told_cause number known fault old mid new other went told = tt
+
+pub too_long : (known : Option (List ℕ)) (text : List ℕ) → IsAll known text → MOST_WHOLE ≤ length text → AreNoSegment known
+too_long None text is many = tt
+too_long (Some bytes) text is many = inr (subst (λ (t : List ℕ). MOST_WHOLE ≤ length t) is many)
+
+-- ---- a segment that was replayed, and is cut
+
+pub opens_next : (setup : Setup) (number : ℕ) (known : Option (List ℕ)) (old mid new : Option (List Step)) (recovered : Recovered) (result : Result Recovered (OrMemory JournalFault)) → mid ≡ with_step old (Opened number)
+    → Replays setup number known (Ok recovered) → CutsOff number recovered mid result new → OpensNext setup number known old new result
+opens_next setup number known old mid new recovered (Ok cut) opened replays cuts =
+    let its = subst (λ (r : Recovered). Replays setup number known (Ok r)) (sym cuts.0) replays in
+    (ap (λ (r : Recovered). r.is_ended) cuts.0 ∙ cuts.1, its)
+opens_next setup number known old mid new recovered (Err OutOfMemory) opened replays cuts = (tt, tt)
+opens_next setup number known old mid new recovered (Err (Fault (faults.Ended other))) opened replays cuts = (cuts.0, recovered, cuts.1, replays)
+opens_next setup number known old mid new recovered (Err (Fault (faults.File (files.Segment other)))) opened replays cuts = (cuts.0, inl (ends_on IsFailed old mid new (went_step old mid (Opened number) opened) cuts.2))
+opens_next setup number known old mid new recovered (Err (Fault fault)) opened replays cuts = absurd cuts
+
+pub cuts_next : (number : ℕ) (old mid new : Option (List Step)) (recovered : Recovered) (result : Result Recovered (OrMemory JournalFault)) → mid ≡ with_step old (Opened number) → CutsOff number recovered mid result new → Cuts number old result new
+cuts_next number old mid new recovered (Ok cut) opened cuts =
+    cuts.2 ∙ (ap (λ (s : Option (List Step)). with_step s (CutTo recovered.whole)) opened ∙ ap (λ (r : Recovered). with_step (with_step old (Opened number)) (CutTo r.whole)) (sym cuts.0))
+cuts_next number old mid new recovered (Err OutOfMemory) opened cuts = quiet_trans old mid new (quiet_step old mid (Opened number) refl opened) cuts
+cuts_next number old mid new recovered (Err (Fault (faults.Ended other))) opened cuts = quiet_trans old mid new (quiet_step old mid (Opened number) refl opened) (quiet_same mid new cuts.2)
+cuts_next number old mid new recovered (Err (Fault (faults.File (files.Segment other)))) opened cuts = quiet_trans old mid new (quiet_step old mid (Opened number) refl opened) cuts.1
+cuts_next number old mid new recovered (Err (Fault fault)) opened cuts = absurd cuts

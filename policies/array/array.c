@@ -39,8 +39,7 @@ enum {
     MOST_DOUBLINGS = 5,
     FORGIVEN_IN = 1000, /* each such time without a failure takes one doubling away, */
     OPENED_IN = 1000,   /* and is worth one opening, which the next failure of any kind gives back */
-    LEAST_OPENINGS = 4, /* since openings are given back at failures alone, some commands stay under way */
-    MOST_OPENINGS = 255
+    LEAST_OPENINGS = 4  /* since openings are given back at failures alone, some commands stay under way */
 };
 
 APART u64 rest(const struct context *c, u64 first);
@@ -110,17 +109,19 @@ APART u64 rest(const struct context *c, u64 first)
 APART void open_again(const struct context *c)
 {
     u64 words = (c->queue & 63) * WORDS;
-    u64 most = table_get(QUEUES, words + MOST);
+    u64 most = table_get(QUEUES, words + MOST) & 0xff;
     u64 more = (now() - table_get(QUEUES, words + CHANGED)) / OPENED_IN;
     if (most == 0 || more == 0)
         return;
     struct queue_counts counts;
     queue_info(&counts);
-    u64 openings = counts.openings + more;
-    if (openings > most)
-        openings = most;
-    if (openings > counts.openings)
-        change_openings(words, openings);
+    u64 now_open = counts.openings & 0xff;
+    if (now_open >= most)
+        return;
+    u64 room = most - now_open;
+    if (more > room)
+        more = room;
+    change_openings(words, now_open + more);
 }
 
 /* As many openings as the unit has commands, for so many it has taken; one fewer at least, and half of those before the burst at most. */
@@ -129,17 +130,17 @@ APART void close_to_what_was_taken(const struct context *c)
     u64 words = (c->queue & 63) * WORDS;
     struct queue_counts counts;
     queue_info(&counts);
-    u64 now_open = counts.openings;
+    u64 now_open = counts.openings & 0xff;
     if (now() >= table_get(QUEUES, words + UNTIL))
         table_put(QUEUES, words + LEAST, now_open / 2);
-    u64 least = table_get(QUEUES, words + LEAST);
-    u64 openings = counts.active;
+    u64 least = table_get(QUEUES, words + LEAST) & 0xff;
+    if (least < LEAST_OPENINGS)
+        least = LEAST_OPENINGS;
+    u64 openings = counts.active & 0xff;
     if (openings >= now_open)
         openings = now_open - 1;
     if (openings < least)
         openings = least;
-    if (openings < LEAST_OPENINGS)
-        openings = LEAST_OPENINGS;
     if (openings >= now_open)
         return;
     if (table_get(QUEUES, words + MOST) == 0)
@@ -149,12 +150,9 @@ APART void close_to_what_was_taken(const struct context *c)
 
 APART void change_openings(u64 words, u64 openings)
 {
-    if (openings < 1)
-        openings = 1;
-    if (openings > MOST_OPENINGS)
-        openings = MOST_OPENINGS;
-    set_openings(openings);
-    table_put(QUEUES, (words & 0x1f8) + CHANGED, now());
+    openings &= 0xff;
+    set_openings(openings ? openings : 1);
+    table_put(QUEUES, words + CHANGED, now());
 }
 
 /* The code with which the command is finished, or 0 if it is tried again. */

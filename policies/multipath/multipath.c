@@ -7,9 +7,10 @@
 /* What is decided: how many milliseconds the queue stays frozen, at most 1,023, and these beside it. */
 enum { MILLISECONDS = 0x3ff, COUNTS = 1 << 10, FAILS = 1 << 11, SUCCEEDS = 1 << 12, PATH_FAILS = 1 << 13 };
 enum {
-    DONE = 0x01,        /* the final code of a command that did what it was to do, */
-    PATH_IS_LOST = 0x0a, /* and of one that is to go by another path */
-    MOST_ATTEMPTS = 60, /* a transition is waited for a second at a time, for a minute at most */
+    DONE = 0x01,             /* the final code of a command that did what it was to do, */
+    PATH_IS_LOST = 0x0a,     /* and of one that is to go by another path */
+    MOST_ATTEMPTS = 600,     /* a minute of a device that stays busy */
+    MOST_IN_TRANSITION = 60, /* a minute of a second each */
     SCSI_ACA_ACTIVE = 0x30,
     SCSI_TASK_ABORTED = 0x40
 };
@@ -84,10 +85,10 @@ APART u64 by_scsi_status(const struct context *c)
     switch (c->scsi) {
     case SCSI_CHECK_CONDITION:
         return by_sense(c);
-    /* SAM: the task set has not taken the command; it is one for all paths */
+    /* SAM: the task set, which is one for all paths, has not taken the command */
     case SCSI_BUSY:
-        return 100;
     case SCSI_TASK_SET_FULL:
+        return 100;
     case SCSI_ACA_ACTIVE:
         return 20;
     case SCSI_TASK_ABORTED:
@@ -133,7 +134,7 @@ APART u64 not_ready(const struct context *c)
         return FAILS;
     switch (c->ascq) {
     case 0x0a: /* in transition: it ends by itself, and other paths of its group are in the same state */
-        return 1000;
+        return c->attempts > MOST_IN_TRANSITION ? PATH_FAILS : 1000;
     case 0x0b: /* the target port is in standby, */
     case 0x0c: /* or unavailable, */
     case 0x12: /* or the logical unit is offline there */

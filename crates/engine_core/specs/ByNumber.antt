@@ -3,7 +3,7 @@ use Rattle.std.specs.Prelude.{◌≡◌, ℕ, List, [], ◌∷◌, ◌++◌, len
 use Rattle.ccb.specs.Rising.{AreRising}
 use Rattle.freeze_ledger.specs.declared.freeze.Freeze.{Freeze}
 use Rattle.world_calls.specs.declared.call.Call.{Call}
-use Rattle.world_calls.specs.declared.call.Call.TheVariants.{Complete, GuestFreeze, Resume}
+use Rattle.world_calls.specs.declared.call.Call.TheVariants.{Complete, GuestFreeze, Park, Resume}
 use Rattle.world_calls.specs.declared.call_answer.CallAnswer.{CallAnswer}
 use Rattle.world_calls.specs.declared.call_answer.CallAnswer.TheVariants as answers
 use Rattle.world_calls.specs.declared.record.StoppedAt.{StoppedAt}
@@ -63,6 +63,12 @@ takes_memory (Complete outcome) = true
 takes_memory (GuestFreeze place guest) = true
 takes_memory (Resume run) = true
 takes_memory call = false
+
+-- it parks a run, or has a parked one go on
+abbrev pub is_of_parking : Call → Bool
+is_of_parking (Park run) = true
+is_of_parking (Resume run) = true
+is_of_parking call = false
 
 -- the record is one of an advance of this run
 pub record IsAdvanceOf (run : ℕ) (told : Record) : Type 0 where

@@ -56,8 +56,8 @@ fn command_made(
     }
 }
 
-// Whether the lines of that word are of a run: of these a scenario has none.
-fn is_of_run(word: Word) -> bool
+/// Whether the lines of that word are of a run: of these a scenario has none.
+pub fn is_of_run(word: Word) -> bool
     ensures { result ≡ is_of_run word }
 {
     matches!(word, Word::Advance | Word::Park | Word::Resume)

@@ -7,7 +7,7 @@ mod reading;
 mod scenario;
 mod steps;
 
-pub use command::Command;
+pub use command::{Command, is_of_run};
 pub use reading::{FaultyLine, ScenarioError, is_skipped, read};
 pub use scenario::Scenario;
 pub use steps::{Step, Steps};

@@ -1,6 +1,8 @@
 -- How an engine goes on whose records are printed as they come.
-use Rattle.std.proofs.Common.{◌≡◌, ◌∙◌, ℕ, ◌+◌, Bool, true, false, Option, Some, List, [], ◌∷◌, ◌++◌, refl, sym, ap, subst, append_assoc, append-nil, length-append, arith, inl, inr}
+use Rattle.std.proofs.Common.{◌≡◌, ◌∙◌, ℕ, ◌+◌, Bool, true, false, Option, Some, None, List, [], ◌∷◌, ◌++◌, length, refl, sym, ap, subst, append_assoc, append-nil, length-append, arith, inl, inr}
+use Rattle.std.specs.Prelude.{IfSome}
 use Rattle.std.specs.Fmt.{option_append}
+use Rattle.std.specs.Io.KnownBytes.{Appends}
 use Rattle.std.proofs.KnownBytes.{Appends-nil}
 use Rattle.std.proofs.lemmas.Bool.{cases_Bool}
 use Rattle.world_calls.specs.declared.record.Record.{Record}
@@ -12,7 +14,9 @@ use Rattle.trace.specs.TraceText.{record_text, records_text}
 use Rattle.trace.proofs.Grown.{Fronts, goes_both, goes_none, stops_at, stops_on}
 use Rattle.trace.proofs.Printing.{no_records, nothing_append, records_both, records_push}
 use Rattle.host_live.specs.declared.printed.Printed.{Printed}
-use Rattle.host_live.specs.Growth.{Grows, GrowsBy, PrintedState, Prints, PrintsAll, went, stopped, stayed}
+use Rattle.host_live.specs.Answering.{IsLong}
+use Rattle.host_live.specs.Served.{IsNow, IsPrintedBehind}
+use Rattle.host_live.specs.Growth.{GrowsAs, GrowsBy, PrintedState, Prints, PrintsAll, went, stopped, stayed}
 
 -- ---- what is printed
 
@@ -149,7 +153,7 @@ pub by_one : (engine after : NumberedState) (old new : Printed) (at to : Option 
     → GrowsBy (told ∷ []) (record { engine = engine; printed = old }) at failed (record { engine = after; printed = new }) to fails
 by_one engine after old new at to failed fails told follows setup all = record { setup = setup; follows = follows; printed = all }
 
-both_by : (old mid new : PrintedState) (at between to : Option (List ℕ)) (failed some fails : ℕ) (more others : List Record)
+pub both_by : (old mid new : PrintedState) (at between to : Option (List ℕ)) (failed some fails : ℕ) (more others : List Record)
     → GrowsBy more old at failed mid between some → GrowsBy others mid between some new to fails → GrowsBy (more ++ others) old at failed new to fails
 both_by old mid new at between to failed some fails more others first second = record {
   setup = second.setup ∙ first.setup;
@@ -157,39 +161,83 @@ both_by old mid new at between to failed some fails more others first second = r
   printed = all_both old.printed mid.printed new.printed at between to failed some fails more others first.printed second.printed;
 }
 
--- ---- whatever it makes
+-- nothing more was made
+pub by_then : (more : List Record) (old mid new : PrintedState) (at between to : Option (List ℕ)) (failed some fails : ℕ) → GrowsBy more old at failed mid between some → GrowsBy [] mid between some new to fails → GrowsBy more old at failed new to fails
+by_then more old mid new at between to failed some fails first second =
+    subst (λ (rs : List Record). GrowsBy rs old at failed new to fails) (append-nil more) (both_by old mid new at between to failed some fails more [] first second)
 
-pub grows_none : (old : PrintedState) (at : Option (List ℕ)) (failed : ℕ) → Grows old at failed old at failed
-grows_none old at failed = record { more = []; by = by_none old at failed }
+-- ---- what is said of the records that it makes
 
-pub grows_same : (old new : PrintedState) (at : Option (List ℕ)) (failed : ℕ) → new ≡ old → Grows old at failed new at failed
-grows_same old new at failed same = subst (λ (e : PrintedState). Grows old at failed e at failed) (sym same) (grows_none old at failed)
+pub as_by : {P : List Record → Type 0} (more : List Record) (old new : PrintedState) (at to : Option (List ℕ)) (failed fails : ℕ) → P more → GrowsBy more old at failed new to fails → GrowsAs P old at failed new to fails
+as_by more old new at to failed fails these by = record { more = more; these = these; by = by }
 
-pub grows_by : (more : List Record) (old new : PrintedState) (at to : Option (List ℕ)) (failed fails : ℕ) → GrowsBy more old at failed new to fails → Grows old at failed new to fails
-grows_by more old new at to failed fails by = record { more = more; by = by }
+pub as_none : {P : List Record → Type 0} (old : PrintedState) (at : Option (List ℕ)) (failed : ℕ) → P [] → GrowsAs P old at failed old at failed
+as_none old at failed these = record { more = []; these = these; by = by_none old at failed }
 
-pub grows_both : (old mid new : PrintedState) (at between to : Option (List ℕ)) (failed some fails : ℕ) → Grows old at failed mid between some → Grows mid between some new to fails → Grows old at failed new to fails
-grows_both old mid new at between to failed some fails first second = record {
+pub as_these : {P Q : List Record → Type 0} (old new : PrintedState) (at to : Option (List ℕ)) (failed fails : ℕ) → ((more : List Record) → P more → Q more) → GrowsAs P old at failed new to fails → GrowsAs Q old at failed new to fails
+as_these old new at to failed fails on grows = record { more = grows.more; these = on grows.more grows.these; by = grows.by }
+
+pub as_both : {P Q R : List Record → Type 0} (old mid new : PrintedState) (at between to : Option (List ℕ)) (failed some fails : ℕ) → ((more others : List Record) → P more → Q others → R (more ++ others))
+    → GrowsAs P old at failed mid between some → GrowsAs Q mid between some new to fails → GrowsAs R old at failed new to fails
+as_both old mid new at between to failed some fails on first second = record {
   more = first.more ++ second.more;
+  these = on first.more second.more first.these second.these;
   by = both_by old mid new at between to failed some fails first.more second.more first.by second.by;
 }
 
+-- these were made before
+pub as_after : {P Q : List Record → Type 0} (first : List Record) (old mid new : PrintedState) (at between to : Option (List ℕ)) (failed some fails : ℕ) → ((others : List Record) → P others → Q (first ++ others)) → GrowsBy first old at failed mid between some → GrowsAs P mid between some new to fails
+    → GrowsAs Q old at failed new to fails
+as_after first old mid new at between to failed some fails on by after = record { more = first ++ after.more; these = on after.more after.these; by = both_by old mid new at between to failed some fails first after.more by after.by }
+
+-- nothing more was made
+pub as_then : {P : List Record → Type 0} (old mid new : PrintedState) (at between to : Option (List ℕ)) (failed some fails : ℕ) → GrowsAs P old at failed mid between some → GrowsBy [] mid between some new to fails → GrowsAs P old at failed new to fails
+as_then old mid new at between to failed some fails first second = record { more = first.more; these = first.these; by = by_then first.more old mid new at between to failed some fails first.by second }
+
+-- ---- writes that failed
+
 -- a write failed meanwhile
-pub failed_meanwhile : (old new : PrintedState) (at to : Option (List ℕ)) (failed fails : ℕ) → old.printed.has_failed ≡ false → new.printed.has_failed ≡ true → Grows old at failed new to fails → HasFailed failed fails
-failed_meanwhile old new at to failed fails whole faulty grows = elim grows.by.printed.prints [
+pub failed_meanwhile : (more : List Record) (old new : PrintedState) (at to : Option (List ℕ)) (failed fails : ℕ) → old.printed.has_failed ≡ false → new.printed.has_failed ≡ true → GrowsBy more old at failed new to fails → HasFailed failed fails
+failed_meanwhile more old new at to failed fails whole faulty by = elim by.printed.prints [
   | went a b goes none ↦ clash new.printed.has_failed b faulty
   | stopped a b shown rest all stops fault ↦ fault
   | stayed a b same still ↦ clash old.printed.has_failed whole a
 ]
 
--- none failed
-pub none_failed : (old new : PrintedState) (at to : Option (List ℕ)) (failed fails : ℕ) → new.printed.has_failed ≡ false → Grows old at failed new to fails → fails ≡ failed
-none_failed old new at to failed fails whole grows = elim grows.by.printed.prints [
-  | went a b goes none ↦ none
-  | stopped a b shown rest all stops fault ↦ clash new.printed.has_failed whole b
-  | stayed a b same still ↦ still
+-- ---- where answers stand
+
+-- so many bytes were handed on
+long_now : (at to : Option (List ℕ)) (handed : List ℕ) (behind : ℕ) → Appends at to handed → IsLong to behind → IfSome at (λ its. behind ≡ length its + length handed)
+long_now None to handed behind told long = tt
+long_now (Some its) None handed behind told long = absurd told
+long_now (Some its) (Some all) handed behind told long = long ∙ (ap length told ∙ length-append its handed)
+
+long_after : (at between : Option (List ℕ)) (handed text : List ℕ) (behind : ℕ) → Appends at between handed → IfSome between (λ its. behind ≡ length its + length text) → IfSome at (λ its. behind ≡ length its + length (handed ++ text))
+long_after None between handed text behind told long = tt
+long_after (Some its) None handed text behind told long = absurd told
+long_after (Some its) (Some all) handed text behind told long = omega (arith, long, ap length told, length-append its handed, length-append handed text)
+
+-- all was handed on: what is out is behind the lines of these records
+pub placed_now : (more : List Record) (old new : PrintedState) (at to : Option (List ℕ)) (failed fails : ℕ) → GrowsBy more old at failed new to fails → (behind : ℕ) → IsNow new.printed to behind → IsPrintedBehind old.printed at more behind
+placed_now more old new at to failed fails by behind is = elim by.printed.prints [
+  | went a b goes none ↦
+      let handed : goes.handed ≡ old.printed.lines.waiting ++ goes.more = sym (goes.whole ∙ (ap (λ (t : List ℕ). goes.handed ++ t) is.0.0 ∙ append-nil goes.handed)) in
+      (a, (goes.more, goes.is, subst (λ (t : List ℕ). IfSome at (λ its. behind ≡ length its + length t)) handed (long_now at to goes.handed behind goes.told is.1)))
+  | stopped a b shown rest all stops fault ↦ clash new.printed.has_failed is.0.1 b
+  | stayed a b same still ↦ clash new.printed.has_failed is.0.1 b
 ]
 
--- it began elsewhere, as it says
-pub grows_from : (old first new : PrintedState) (at to : Option (List ℕ)) (failed fails : ℕ) → old ≡ first → Grows old at failed new to fails → Grows first at failed new to fails
-grows_from old first new at to failed fails same grows = subst (λ (e : PrintedState). Grows e at failed new to fails) same grows
+-- these were printed before
+pub placed_after : (first : List Record) (old mid : PrintedState) (at between : Option (List ℕ)) (failed some : ℕ) → GrowsBy first old at failed mid between some → (more : List Record) (behind : ℕ) → IsPrintedBehind mid.printed between more behind → IsPrintedBehind old.printed at (first ++ more) behind
+placed_after first old mid at between failed some by more behind is = elim by.printed.prints [
+  | went a b goes none ↦
+      let text : List ℕ = is.1.0 in
+      let later : records_text old.printed.lines.version more ≡ Some text = subst (λ (v : Version). records_text v more ≡ Some text) by.printed.version is.1.1 in
+      let both : records_text old.printed.lines.version (first ++ more) ≡ Some (goes.more ++ text) =
+      records_both old.printed.lines.version first more ∙ (ap (λ (t : Option (List ℕ)). option_append t (records_text old.printed.lines.version more)) goes.is ∙ ap (option_append (Some goes.more)) later) in
+      let whole : goes.handed ++ (mid.printed.lines.waiting ++ text) ≡ old.printed.lines.waiting ++ (goes.more ++ text) =
+      sym (append_assoc goes.handed mid.printed.lines.waiting text) ∙ (ap (λ (t : List ℕ). t ++ text) (sym goes.whole) ∙ append_assoc old.printed.lines.waiting goes.more text) in
+      (a, (goes.more ++ text, both, subst (λ (t : List ℕ). IfSome at (λ its. behind ≡ length its + length t)) whole (long_after at between goes.handed (mid.printed.lines.waiting ++ text) behind goes.told is.1.2)))
+  | stopped a b shown rest all stops fault ↦ clash mid.printed.has_failed is.0 b
+  | stayed a b same still ↦ clash mid.printed.has_failed is.0 b
+]

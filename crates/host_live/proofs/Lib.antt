@@ -1,4 +1,7 @@
+pub mod Come
 pub mod Growing
 pub mod Told
+pub mod Turning
+pub mod Outcomes
 pub mod Spelled
 pub mod Underway

@@ -1,6 +1,6 @@
 -- What is out of the trace of an engine that was opened, or was not.
-use Rattle.std.proofs.Common.{◌≡◌, ◌∙◌, ℕ, Bool, true, false, Option, Some, Result, Ok, Err, List, [], ◌++◌, length, take, refl, sym, ap, subst, append_assoc, append-nil, inl, inr, ◌⊎◌, arith}
-use Rattle.std.specs.Prelude.{IfErr, OnErr, OnOk}
+use Rattle.std.proofs.Common.{◌≡◌, ◌∙◌, ℕ, Bool, true, false, Option, Some, None, Result, Ok, Err, List, [], ◌++◌, length, take, refl, sym, ap, subst, append_assoc, append-nil, inl, inr, ◌⊎◌, arith}
+use Rattle.std.specs.Prelude.{IfErr, IfSome, OnOk}
 use Rattle.std.specs.Fmt.{option_append}
 use Rattle.std.specs.Io.KnownBytes.{Appends}
 use Rattle.std.proofs.KnownBytes.{Appends-nil}
@@ -10,7 +10,7 @@ use Rattle.world_calls.specs.declared.record.Record.{Record}
 use Rattle.world_calls.specs.declared.totals.Totals.{Totals}
 use Rattle.world_calls.specs.declared.trace.Version.{Version}
 use Rattle.engine_core.specs.ByNumber.{NumberedState, IsBehind, IsHistory, opened_numbered, sums_behind}
-use Rattle.trace.specs.Growing.{FailsBySink, Goes, IsFront, PrintsOn, StopsIn}
+use Rattle.trace.specs.Growing.{FailsBySink, Goes, IsFront, StopsIn}
 use Rattle.trace.specs.Sinks.{HasFailed}
 use Rattle.trace.specs.TraceText.{header, records_text, totals_text}
 use Rattle.trace.proofs.Grown.{goes_both, stops_on}
@@ -21,13 +21,19 @@ use Rattle.world.specs.Event.{Event, Reply}
 use Rattle.world.specs.Flat.{events_of, flat}
 use Rattle.world_laws.proofs.Leads.{leads_split}
 use Rattle.world.specs.TotalsOf.{TotalsOf, totals_in}
-use Rattle.host_live.specs.Growth.{Grows, PrintedState, opened_printed, resumed_printed, went, stopped, stayed}
-use Rattle.host_live.specs.Telling.{Continues, IsBegun, IsContinued, IsContinuedInPart, IsWrittenOut, Serves}
+use Rattle.host_live.specs.Answering.{Answer, with_answers}
+use Rattle.host_live.specs.Inputs.{CameState, all_of, known_of}
+use Rattle.host_live.specs.Served.{ContinuesTurns, GoesOnOr, IsGoneOn, IsGoneOnInPart, IsPrintedBehind, IsServedInPart, IsTurned, IsTurnedInPart, ServesBy, ServesTurns, in_drives, in_turns}
+use Rattle.host_live.specs.Turns.{at_reading, no_turn}
+use Rattle.host_live.specs.declared.manner.Manner.{Manner}
+use Rattle.host_live.proofs.Outcomes.{gone_on_in_part_placed, gone_on_placed, none_given, turned_in_part_placed, turned_placed}
+use Rattle.host_live.specs.Growth.{GrowsBy, PrintedState, opened_printed, resumed_printed, went, stopped, stayed}
+use Rattle.host_live.specs.Telling.{Continues, IsBegun, IsContinued, IsContinuedInPart, IsOutBehind, IsWrittenOut, Serves}
 
 -- ---- nothing was asked yet
 
 -- no engine was opened
-pub begun_unopened : (setup : Setup) (base : Option (List ℕ)) → IsBegun setup base base
+abbrev pub begun_unopened : (setup : Setup) (base : Option (List ℕ)) → IsBegun setup base base
 begun_unopened setup base = record {
   records = [];
   totals = totals_in [] (opening setup);
@@ -45,43 +51,46 @@ opened_behind setup = record { world = opening setup; leads = refl; is = refl }
 clash : {A : Type 0} (b : Bool) → b ≡ false → b ≡ true → A
 clash b is other = absurd (let bad : false ≡ true = sym is ∙ other in cc)
 
-module _ (setup : Setup) (engine : PrintedState) (base at : Option (List ℕ)) (failed fails : ℕ) (grows : Grows (opened_printed setup) base failed engine at fails) where
+module _ (setup : Setup) (engine : PrintedState) (base at : Option (List ℕ)) (failed fails : ℕ) (made : List Record) (grows : GrowsBy made (opened_printed setup) base failed engine at fails) where
   abbrev version : Version
   version = version_of setup
 
   abbrev sums : Totals
   sums = sums_behind engine.printed.count engine.engine
 
-  behind : IsBehind grows.more engine.engine
-  behind = grows.by.follows [] (opened_behind setup)
+  behind : IsBehind made engine.engine
+  behind = grows.follows [] (opened_behind setup)
 
-  counted : engine.printed.count ≡ length grows.more
-  counted = omega (arith, grows.by.printed.count)
+  counted : engine.printed.count ≡ length made
+  counted = omega (arith, grows.printed.count)
 
-  sums_are : TotalsOf setup grows.more sums
+  sums_are : TotalsOf setup made sums
   sums_are = (
     behind.world,
-    subst (λ (s : Setup). WorldRun s (flat grows.more) behind.world) grows.by.setup behind.leads,
-    ap (λ (n : ℕ). sums_behind n engine.engine) counted ∙ sym (ap (λ (w : World). totals_in grows.more w) behind.is),
+    subst (λ (s : Setup). WorldRun s (flat made) behind.world) grows.setup behind.leads,
+    ap (λ (n : ℕ). sums_behind n engine.engine) counted ∙ sym (ap (λ (w : World). totals_in made w) behind.is),
   )
 
   -- what is out is a front of the first line and of those of the first so many records
-  begun_at : (count : ℕ) (shown : List Record) (to : Option (List ℕ)) → take count grows.more ≡ shown → (more : List ℕ) → records_text version shown ≡ Some more → IsFront (header version ++ more) base to → IsBegun setup base to
-  begun_at count shown to are more is front = record {
-    records = grows.more;
-    totals = sums;
-    sums = sums_are;
-    bytes = header version ++ more;
-    is = inr (count, ap (λ (records : List Record). option_append (Some (header version)) (records_text version records)) are ∙ ap (option_append (Some (header version))) is);
-    front = front;
-  }
+  begun_at : (count : ℕ) (shown : List Record) (to : Option (List ℕ)) → take count made ≡ shown → (more : List ℕ) → records_text version shown ≡ Some more → IsFront (header version ++ more) base to → (out : IsBegun setup base to) × (out.records ≡ made)
+  begun_at count shown to are more is front = (
+    record {
+      records = made;
+      totals = sums;
+      sums = sums_are;
+      bytes = header version ++ more;
+      is = inr (count, ap (λ (records : List Record). option_append (Some (header version)) (records_text version records)) are ∙ ap (option_append (Some (header version))) is);
+      front = front;
+    },
+    refl,
+  )
 
   -- of those of all
-  begun_all : (to : Option (List ℕ)) (more : List ℕ) → records_text version grows.more ≡ Some more → IsFront (header version ++ more) base to → IsBegun setup base to
-  begun_all to more is front = begun_at (length grows.more) grows.more to (take_all (length grows.more) grows.more (omega arith)) more is front
+  begun_all : (to : Option (List ℕ)) (more : List ℕ) → records_text version made ≡ Some more → IsFront (header version ++ more) base to → (out : IsBegun setup base to) × (out.records ≡ made)
+  begun_all to more is front = begun_at (length made) made to (take_all (length made) made (omega arith)) more is front
 
-  pub begun_so : IsBegun setup base at
-  begun_so = elim grows.by.printed.prints [
+  pub begun_so : (out : IsBegun setup base at) × (out.records ≡ made)
+  begun_so = elim grows.printed.prints [
     | went a b goes none ↦ begun_all at goes.more goes.is (record { handed = goes.handed; rest = engine.printed.lines.waiting; whole = goes.whole; told = goes.told })
     | stopped a b shown rest whole stops fault ↦
         begun_at (length shown) shown at (ap (take (length shown)) whole ∙ take_at shown rest (length shown) refl) stops.more stops.is stops.front
@@ -89,62 +98,65 @@ module _ (setup : Setup) (engine : PrintedState) (base at : Option (List ℕ)) (
   ]
 
   -- the last line went out too
-  pub out_so : (totals : Totals) (to : Option (List ℕ)) → engine.printed.has_failed ≡ false → totals ≡ sums → Goes (totals_text totals) engine.printed.lines.waiting at [] to → IsWrittenOut setup base to
-  out_so totals to whole same last = elim grows.by.printed.prints [
+  pub out_so : (totals : Totals) (to : Option (List ℕ)) → engine.printed.has_failed ≡ false → totals ≡ sums → Goes (totals_text totals) engine.printed.lines.waiting at [] to → (out : IsWrittenOut setup base to) × (out.records ≡ made)
+  out_so totals to whole same last = elim grows.printed.prints [
     | went a b goes none ↦
-        let on = goes_both (records_text version grows.more) (totals_text totals) (header version) engine.printed.lines.waiting [] base at to goes last in
-        record {
-          records = grows.more;
-          totals = totals;
-          sums = subst (TotalsOf setup grows.more) (sym same) sums_are;
-          bytes = header version ++ on.more;
-          is = ap (option_append (Some (header version))) on.is;
-          told = subst (Appends base to) (sym (on.whole ∙ append-nil on.handed)) on.told;
-        }
+        let on = goes_both (records_text version made) (totals_text totals) (header version) engine.printed.lines.waiting [] base at to goes last in (
+          record {
+            records = made;
+            totals = totals;
+            sums = subst (TotalsOf setup made) (sym same) sums_are;
+            bytes = header version ++ on.more;
+            is = ap (option_append (Some (header version))) on.is;
+            told = subst (Appends base to) (sym (on.whole ∙ append-nil on.handed)) on.told;
+          },
+          refl,
+        )
     | stopped a b shown rest faulty stops fault ↦ clash engine.printed.has_failed whole b
     | stayed a b still none ↦ clash engine.printed.has_failed whole b
   ]
 
   -- or a write failed before it, or at it
   pub begun_last : (totals : Totals) (to : Option (List ℕ)) → engine.printed.has_failed ≡ false → totals ≡ sums
-      → StopsIn (Some []) engine.printed.lines.waiting at to ⊎ StopsIn (totals_text totals) engine.printed.lines.waiting at to → IsBegun setup base to
-  begun_last totals to whole same stops = elim grows.by.printed.prints [
+      → StopsIn (Some []) engine.printed.lines.waiting at to ⊎ StopsIn (totals_text totals) engine.printed.lines.waiting at to → (out : IsBegun setup base to) × (out.records ≡ made)
+  begun_last totals to whole same stops = elim grows.printed.prints [
     | went a b goes none ↦ elim stops [
       | inl s ↦
-          let on = subst (λ (t : Option (List ℕ)). StopsIn t (header version) base to) (append_nothing (records_text version grows.more))
-          (stops_on (records_text version grows.more) (Some []) (header version) engine.printed.lines.waiting base at to goes s) in
+          let on = subst (λ (t : Option (List ℕ)). StopsIn t (header version) base to) (append_nothing (records_text version made))
+          (stops_on (records_text version made) (Some []) (header version) engine.printed.lines.waiting base at to goes s) in
           begun_all to on.more on.is on.front
       | inr s ↦
-          let on = stops_on (records_text version grows.more) (totals_text totals) (header version) engine.printed.lines.waiting base at to goes s in
-          record {
-            records = grows.more;
-            totals = totals;
-            sums = subst (TotalsOf setup grows.more) (sym same) sums_are;
-            bytes = header version ++ on.more;
-            is = inl (ap (option_append (Some (header version))) on.is);
-            front = on.front;
-          }
+          let on = stops_on (records_text version made) (totals_text totals) (header version) engine.printed.lines.waiting base at to goes s in (
+            record {
+              records = made;
+              totals = totals;
+              sums = subst (TotalsOf setup made) (sym same) sums_are;
+              bytes = header version ++ on.more;
+              is = inl (ap (option_append (Some (header version))) on.is);
+              front = on.front;
+            },
+            refl,
+          )
     ]
     | stopped a b shown rest faulty these fault ↦ clash engine.printed.has_failed whole b
     | stayed a b still none ↦ clash engine.printed.has_failed whole b
   ]
 
-  pub serves_last : {T E : Type 0} (r : Result T E) (totals : Totals) (to : Option (List ℕ)) → engine.printed.has_failed ≡ false → totals ≡ sums → PrintsOn (totals_text totals) engine.printed.lines.waiting at r [] to
-      → OnErr r (StopsIn (Some []) engine.printed.lines.waiting at to ⊎ StopsIn (totals_text totals) engine.printed.lines.waiting at to) → Serves setup base r to
-  serves_last (Ok done) totals to whole same prints stops = out_so totals to whole same prints
-  serves_last (Err fault) totals to whole same prints stops = begun_last totals to whole same stops
-
 -- the outlet was told that nothing more comes, or could not be told
-pub settled_so : {T E : Type 0} (r : Result T E) (setup : Setup) (base at to : Option (List ℕ)) → to ≡ at → IsWrittenOut setup base at → Serves setup base r to
-settled_so (Ok done) setup base at to same out = subst (IsWrittenOut setup base) (sym same) out
-settled_so (Err fault) setup base at to same out = record {
-  records = out.records;
-  totals = out.totals;
-  sums = out.sums;
-  bytes = out.bytes;
-  is = inl out.is;
-  front = record { handed = out.bytes; rest = []; whole = sym (append-nil out.bytes); told = subst (λ (t : Option (List ℕ)). Appends base t out.bytes) (sym same) out.told };
-}
+pub settled_so : {T E : Type 0} (r : Result T E) (setup : Setup) (base at to : Option (List ℕ)) (made : List Record) → to ≡ at → (out : IsWrittenOut setup base at) × (out.records ≡ made) → ServesBy setup base made r to
+settled_so (Ok done) setup base at to made same it = subst (λ (t : Option (List ℕ)). (out : IsWrittenOut setup base t) × (out.records ≡ made)) (sym same) it
+settled_so (Err fault) setup base at to made same it =
+    let out = it.0 in (
+      record {
+        records = out.records;
+        totals = out.totals;
+        sums = out.sums;
+        bytes = out.bytes;
+        is = inl out.is;
+        front = record { handed = out.bytes; rest = []; whole = sym (append-nil out.bytes); told = subst (λ (t : Option (List ℕ)). Appends base t out.bytes) (sym same) out.told };
+      },
+      it.1,
+    )
 
 pub fails_so : {T E : Type 0} (r : Result T E) (failed fails : ℕ) → FailsBySink failed r fails → IfErr r (λ _. HasFailed failed fails)
 fails_so (Ok done) failed fails it = tt
@@ -158,34 +170,115 @@ shorter setup xs ys history =
     let parts = leads_split setup (opening setup) (flat xs) (flat ys) history.0 (subst (λ (es : List (Event × Reply)). WorldRun setup es history.0) (flat_map-append events_of xs ys) history.1) in
     (parts.0, parts.1)
 
-module _ (start : NumberedState) (count : ℕ) (engine : PrintedState) (base at : Option (List ℕ)) (failed fails : ℕ) (grows : Grows (resumed_printed count start) base failed engine at fails) (records : List Record) (behind_start : IsBehind records start) where
+module _ (start : NumberedState) (count : ℕ) (engine : PrintedState) (base at : Option (List ℕ)) (failed fails : ℕ) (made : List Record) (grows : GrowsBy made (resumed_printed count start) base failed engine at fails) (records : List Record) (behind_start : IsBehind records start) where
   abbrev its : Version
   its = version_of start.setup
 
-  history_on : IsHistory start.setup (records ++ grows.more)
+  history_on : IsHistory start.setup (records ++ made)
   history_on =
-      let on = grows.by.follows records behind_start in
-      (on.world, subst (λ (s : Setup). WorldRun s (flat (records ++ grows.more)) on.world) grows.by.setup on.leads)
+      let on = grows.follows records behind_start in
+      (on.world, subst (λ (s : Setup). WorldRun s (flat (records ++ made)) on.world) grows.setup on.leads)
 
-  continued_in_part : IsContinuedInPart start.setup records base at
-  continued_in_part = elim grows.by.printed.prints [
+  continued_in_part : (out : IsContinuedInPart start.setup records base at) × (rest : List Record) × (made ≡ out.more ++ rest)
+  continued_in_part = elim grows.printed.prints [
     | went a b goes none ↦
-        record { more = grows.more; history = history_on; bytes = goes.more; is = goes.is; front = record { handed = goes.handed; rest = engine.printed.lines.waiting; whole = goes.whole; told = goes.told } }
+        (record { more = made; history = history_on; bytes = goes.more; is = goes.is; front = record { handed = goes.handed; rest = engine.printed.lines.waiting; whole = goes.whole; told = goes.told } }, [], sym (append-nil made))
     | stopped a b shown rest whole stops fault ↦
-        let longer : records ++ grows.more ≡ (records ++ shown) ++ rest = ap (λ (t : List Record). records ++ t) whole ∙ sym (append_assoc records shown rest) in
-        record { more = shown; history = shorter start.setup (records ++ shown) rest (subst (IsHistory start.setup) longer history_on); bytes = stops.more; is = stops.is; front = stops.front }
+        let longer : records ++ made ≡ (records ++ shown) ++ rest = ap (λ (t : List Record). records ++ t) whole ∙ sym (append_assoc records shown rest) in
+        (record { more = shown; history = shorter start.setup (records ++ shown) rest (subst (IsHistory start.setup) longer history_on); bytes = stops.more; is = stops.is; front = stops.front }, rest, whole)
     | stayed a b same still ↦ clash false refl a
   ]
 
-  continued : engine.printed.lines.waiting ≡ [] → engine.printed.has_failed ≡ false → IsContinued start.setup records base at
-  continued all whole = elim grows.by.printed.prints [
+  continued : engine.printed.lines.waiting ≡ [] → engine.printed.has_failed ≡ false → (out : IsContinued start.setup records base at) × (out.more ≡ made)
+  continued all whole = elim grows.printed.prints [
     | went a b goes none ↦
         let handed : goes.more ≡ goes.handed = goes.whole ∙ (ap (λ (t : List ℕ). goes.handed ++ t) all ∙ append-nil goes.handed) in
-        record { more = grows.more; history = history_on; bytes = goes.more; is = goes.is; told = subst (Appends base at) (sym handed) goes.told }
+        (record { more = made; history = history_on; bytes = goes.more; is = goes.is; told = subst (Appends base at) (sym handed) goes.told }, refl)
     | stopped a b shown rest faulty stops fault ↦ clash engine.printed.has_failed whole b
     | stayed a b same still ↦ clash engine.printed.has_failed whole b
   ]
 
   pub continues_so : {T E : Type 0} (r : Result T E) → OnOk r (engine.printed.lines.waiting ≡ []) → OnOk r (engine.printed.has_failed ≡ false) → Continues start.setup records base r at
-  continues_so (Ok done) all whole = continued all whole
-  continues_so (Err fault) all whole = continued_in_part
+  continues_so (Ok done) all whole = (continued all whole).0
+  continues_so (Err fault) all whole = continued_in_part.0
+
+  pub continues_turns : {T E : Type 0} (r : Result T E) (manner : Manner) (began came : Option CameState) (given answered : Option (List Answer)) (answers : List Answer) → OnOk r (engine.printed.lines.waiting ≡ []) → OnOk r (engine.printed.has_failed ≡ false)
+      → answered ≡ with_answers given answers → GoesOnOr manner start (IsPrintedBehind (resumed_printed count start).printed base) (known_of began) came r made answers → ContinuesTurns start manner began came records base given r at answered
+  continues_turns (Ok done) manner began came given answered answers all whole are these =
+      let it = continued all whole in
+      record {
+        out = it.0;
+        answers = answers;
+        are_answers = are;
+        turned = subst (λ (rs : List Record). IsGoneOn manner start (IsOutBehind its [] base) (known_of began) came rs answers) (sym it.1)
+            (gone_on_placed manner (known_of began) came (IsPrintedBehind (resumed_printed count start).printed base) (IsOutBehind its [] base) (λ rs behind is. is.1) start made answers these);
+      }
+  continues_turns (Err fault) manner began came given answered answers all whole are these =
+      let it = continued_in_part in
+      record {
+        out = it.0;
+        rest = it.1;
+        answers = answers;
+        are_answers = are;
+        turned = subst (λ (rs : List Record). IsGoneOnInPart manner start (IsOutBehind its [] base) (known_of began) came rs answers) it.2
+            (gone_on_in_part_placed manner (known_of began) came (IsPrintedBehind (resumed_printed count start).printed base) (IsOutBehind its [] base) (λ rs behind is. is.1) start made answers these);
+      }
+
+-- ---- what was served of an engine that was opened
+
+-- its text is out whole, or a front of it
+pub serves_told : {T E : Type 0} (r : Result T E) (setup : Setup) (base at : Option (List ℕ)) (made : List Record) → ServesBy setup base made r at → Serves setup base r at
+serves_told (Ok done) setup base at made it = it.0
+serves_told (Err fault) setup base at made it = it.0
+
+module _ (setup : Setup) (manner : Manner) (began came : Option CameState) (base at : Option (List ℕ)) (made : List Record) (given answered : Option (List Answer)) (answers : List Answer) (are : answered ≡ with_answers given answers) where
+  abbrev Printed : List Record → ℕ → Type 0
+  Printed = IsPrintedBehind (opened_printed setup).printed base
+
+  abbrev Out : List Record → ℕ → Type 0
+  Out = IsOutBehind (version_of setup) (header (version_of setup)) base
+
+  pub serves_turns : {T E : Type 0} (r : Result T E) → ServesBy setup base made r at → IsTurned manner (opened_numbered setup) Printed (known_of began) came made answers → ServesTurns setup manner began came base given r at answered
+  serves_turns (Ok done) it these = record {
+    out = it.0;
+    answers = answers;
+    are_answers = are;
+    turned = subst (λ (rs : List Record). IsTurned manner (opened_numbered setup) Out (known_of began) came rs answers) (sym it.1) (turned_placed manner (known_of began) came Printed Out (λ rs behind is. is.1) (opened_numbered setup) made answers these);
+  }
+  serves_turns (Err fault) it these =
+      let part : IsTurnedInPart manner (opened_numbered setup) Printed (known_of began) came made answers = in_drives these.turned these.driven these.all these.ends these.are_driven.of_runs in
+      record {
+        out = it.0;
+        answers = answers;
+        are_answers = are;
+        turned = subst (λ (rs : List Record). IsTurnedInPart manner (opened_numbered setup) Out (known_of began) came rs answers) (sym it.1) (turned_in_part_placed manner (known_of began) came Printed Out (λ rs behind is. is.1) (opened_numbered setup) made answers part);
+      }
+
+  pub serves_in_part : (out : IsBegun setup base at) → out.records ≡ made → IsTurnedInPart manner (opened_numbered setup) Printed (known_of began) came made answers → IsServedInPart setup manner began came base at given answered
+  serves_in_part out same these = record {
+    out = out;
+    answers = answers;
+    are_answers = are;
+    turned = subst (λ (rs : List Record). IsTurnedInPart manner (opened_numbered setup) Out (known_of began) came rs answers) (sym same) (turned_in_part_placed manner (known_of began) came Printed Out (λ rs behind is. is.1) (opened_numbered setup) made answers these);
+  }
+
+-- no engine was opened
+begun_is : (came : Option CameState) → IfSome came (λ known. (rest : List ℕ) × (all_of known ≡ known_of came ++ ([] ++ rest)))
+begun_is None = tt
+begun_is (Some known) = ([], sym (append-nil (all_of known)))
+
+pub unopened_turns : (setup : Setup) (manner : Manner) (came : Option CameState) (base : Option (List ℕ)) (given : Option (List Answer)) → IsServedInPart setup manner came came base base given given
+unopened_turns setup manner came base given = record {
+  out = begun_unopened setup base;
+  answers = [];
+  are_answers = none_given given;
+  turned = in_turns (record {
+    told = [];
+    number = 0;
+    turned = [];
+    turns = no_turn;
+    more = [];
+    at = at_reading None refl (begun_is came);
+    all = refl;
+  });
+}

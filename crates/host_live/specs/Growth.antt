@@ -3,7 +3,8 @@ use Rattle.std.specs.Prelude.{◌≡◌, ◌+◌, ℕ, true, false, Option, Some
 use Rattle.world_calls.specs.declared.call.Call.{Call}
 use Rattle.world_calls.specs.declared.call_answer.CallAnswer.{CallAnswer}
 use Rattle.world_calls.specs.declared.record.Record.{Record}
-use Rattle.world_calls.specs.declared.record.Record.TheVariants.{Called}
+use Rattle.world_calls.specs.declared.record.StoppedAt.TheVariants.{Exit}
+use Rattle.world_calls.specs.declared.record.Record.TheVariants.{Called, Advance}
 use Rattle.world_calls.specs.declared.trace.Version.{Version}
 use Rattle.world.specs.World.{Setup, version_of}
 use Rattle.world.specs.Lawful.{IsLawful}
@@ -73,14 +74,27 @@ pub record Grows (old : PrintedState) (at : Option (List ℕ)) (failed : ℕ) (n
   pub more : List Record
   pub by : GrowsBy more old at failed new to fails
 
+-- some records more, of which that holds
+pub record GrowsAs (These : List Record → Type 0) (old : PrintedState) (at : Option (List ℕ)) (failed : ℕ) (new : PrintedState) (to : Option (List ℕ)) (fails : ℕ) : Type 0 where
+  pub more : List Record
+  pub these : These more
+  pub by : GrowsBy more old at failed new to fails
+
 -- the record of a call that was answered; none if it is no event, or if memory was refused
 abbrev pub record_of_call : {E : Type 0} → Call → Result (Option CallAnswer) E → List Record
 record_of_call call (Ok (Some answer)) = Called answer call ∷ []
 record_of_call call (Ok None) = []
 record_of_call call (Err fault) = []
 
--- what an advance of this run made: one record of it, or none where it is not out
+-- the record of a run's exit
+pub record IsExit (told : Record) : Type 0 where
+  pub run : ℕ
+  pub instructions : ℕ
+  pub r0 : ℕ
+  pub is : told ≡ Advance run instructions Exit r0
+
+-- what an advance of this run made: one record of it, at last of its exit; or none where it is not out
 abbrev pub IsMadeBy : ℕ → Advanced → List Record → Type 0
 IsMadeBy run advanced.NotOut more = more ≡ []
 IsMadeBy run advanced.Goes more = (told : Record) × IsAdvanceOf run told × (more ≡ told ∷ [])
-IsMadeBy run advanced.Ended more = (told : Record) × IsAdvanceOf run told × (more ≡ told ∷ [])
+IsMadeBy run advanced.Ended more = (told : Record) × IsAdvanceOf run told × IsExit told × (more ≡ told ∷ [])

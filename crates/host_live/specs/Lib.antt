@@ -1,4 +1,9 @@
+pub mod Answering
 pub mod Drafts
 pub mod Growth
+pub mod Inputs
+pub mod LinesCome
 pub mod Telling
 pub mod Requests
+pub mod Served
+pub mod Turns

@@ -1,5 +1,5 @@
 -- What of the trace of a live engine is out.
-use Rattle.std.specs.Prelude.{◌≡◌, ◌⊎◌, ◌++◌, ℕ, Option, Some, List, Result, Ok, Err, take}
+use Rattle.std.specs.Prelude.{◌≡◌, ◌⊎◌, ◌+◌, ◌++◌, ℕ, Option, Some, IfSome, List, Result, Ok, Err, length, take}
 use Rattle.std.specs.Fmt.{option_append}
 use Rattle.std.specs.Io.KnownBytes.{Appends}
 use Rattle.world_calls.specs.declared.record.Record.{Record}
@@ -42,6 +42,10 @@ pub record IsBegun (setup : Setup) (base at : Option (List ℕ)) : Type 0 where
 abbrev pub Serves : {T E : Type 0} → Setup → Option (List ℕ) → Result T E → Option (List ℕ) → Type 0
 Serves setup base (Ok done) at = IsWrittenOut setup base at
 Serves setup base (Err fault) at = IsBegun setup base at
+
+-- When the lines of these records were out, after what waited, so many bytes were out.
+abbrev pub IsOutBehind : Version → (waiting : List ℕ) → (base : Option (List ℕ)) → List Record → ℕ → Type 0
+IsOutBehind version waiting base records behind = (text : List ℕ) × (records_text version records ≡ Some text) × IfSome base (λ its. behind ≡ length its + length (waiting ++ text))
 
 -- What went out is the lines of records with which a history of an engine of this setup goes on after these ones.
 pub record IsContinued (setup : Setup) (records : List Record) (base at : Option (List ℕ)) : Type 0 where

@@ -1,7 +1,9 @@
 // A line while it comes, of which no more is kept than a line may have. It relies on `trace_lines` for the place where it is kept.
 
-ghost use Rattle.std.specs.Prelude.{◌≡◌, ◌++◌, ℕ, [], List, false, IfSome};
+ghost use Rattle.std.specs.Prelude.{◌≡◌, ◌≢◌, ◌++◌, ℕ, [], List, true, false, MatchOption};
+ghost use Rattle.std.specs.List.{list_all};
 ghost use Rattle.host_live.specs.Drafts.{IsDraftOf};
+ghost use Rattle.host_live.specs.LinesCome.{IsText, is_no_nul};
 
 use std::marker::Model;
 use trace_lines::Text;
@@ -41,7 +43,10 @@ impl Draft {
     }
 
     /// Whether no bytes came.
-    pub(crate) fn is_empty(&self) -> bool {
+    pub(crate) fn is_empty(&self) -> bool
+        ensures empty { result ≡ true → (line : List ℕ) → IsDraftOf line self.now → line ≡ [] }
+        ensures some { result ≡ false → (line : List ℕ) → IsDraftOf line self.now → line ≢ [] }
+    {
         self.text.len() == 0 && !self.is_long
     }
 
@@ -67,9 +72,9 @@ impl Draft {
 
     /// The line, if it is not too long, is UTF-8, and has no NUL byte.
     pub(crate) fn text(&self) -> Option<&str>
-        ensures whole { IfSome result (λ text. (text.now ≡ self.now.bytes) × (self.now.is_long ≡ false)) }
+        ensures { (line : List ℕ) → IsDraftOf line self.now → MatchOption result (IsText line → ⊥) (λ text. (text.now ≡ line) × IsText line) }
     {
-        if self.is_long || has_nul(self.text.as_slice()) {
+        if self.is_long || !has_no_nul(self.text.as_slice()) {
             return None;
         }
         match str::from_utf8(self.text.as_slice()) {
@@ -79,6 +84,15 @@ impl Draft {
     }
 }
 
-fn has_nul(bytes: &[u8]) -> bool {
-    bytes.iter().any(|byte| *byte == 0)
+// No byte is 0.
+fn has_no_nul(bytes: &[u8]) -> bool
+    ensures { result ≡ list_all is_no_nul bytes.now }
+{
+    bytes.iter().all(|byte| is_no_nul(*byte))
+}
+
+fn is_no_nul(byte: u8) -> bool
+    ensures { result ≡ is_no_nul byte }
+{
+    byte != 0
 }

@@ -1,15 +1,21 @@
 // The host of a live engine: it carries requests out. It relies on `printed_engine` for the engine.
 
-ghost use Rattle.std.specs.Prelude.{◌≡◌};
-ghost use Rattle.host_live.specs.Growth.{Grows};
+ghost use Rattle.std.specs.Prelude.{◌≡◌, ◌≢◌, ℕ, List, Option, Some, IsErr, MatchOption, true, false};
+ghost use Rattle.host_live.specs.Growth.{GrowsAs, GrowsBy};
+ghost use Rattle.engine_core.specs.ByNumber.{is_of_parking};
+ghost use Rattle.host_live.specs.LinesCome.{IsText};
+ghost use Rattle.host_live.specs.Turns.{Acts, ActsHere, ActsOn, IsNotHeld, IsReading, MakesOne, ReadThen, ReadsDue, Drives, DrivesAll, DrivesStarted, DrivesTo, Tells, Turned, fault_of, is_of_steps, record_of_answer, run_to_drive, stepped_of};
+ghost use Rattle.host_live.specs.declared.manner.Manner.{Manner as TheManner};
+ghost use Rattle.host_live.specs.declared.host.Served.TheVariants.{Quit, Skipped};
+ghost use Rattle.host_live.specs.declared.request.Request.TheVariants as asks;
 
 use crate::manner::Manner;
+use crate::outlet::Outlet;
 use crate::printed_engine::{Advanced, PrintedEngine};
 use crate::reports::{LineFault, Reports};
 use crate::request::{Request, request_of};
 use scenario::is_skipped;
 use std::alloc::{AllocError, Global};
-use trace::Sink;
 use world_calls::{Call, CallAnswer};
 
 /// Why a host carries nothing out any more.
@@ -35,17 +41,25 @@ pub(crate) enum Served {
 
 impl Served {
     /// Whether it is skipped.
-    pub(crate) fn is_skipped(&self) -> bool {
+    pub(crate) fn is_skipped(&self) -> bool
+        ensures skipped { result ≡ true → self.now ≡ Skipped }
+        ensures other { result ≡ false → self.now ≢ Skipped }
+    {
         matches!(self, Served::Skipped)
     }
 
     /// Whether it is the last line.
-    pub(crate) fn is_last(&self) -> bool {
+    pub(crate) fn is_last(&self) -> bool
+        ensures last { result ≡ true → self.now ≡ Quit }
+        ensures other { result ≡ false → self.now ≢ Quit }
+    {
         matches!(self, Served::Quit)
     }
 
     /// Why it was not carried out.
-    pub(crate) fn fault(&self) -> Option<LineFault> {
+    pub(crate) fn fault(&self) -> Option<LineFault>
+        ensures { result ≡ fault_of self.now }
+    {
         match self {
             Served::Refused(fault) => Some(*fault),
             Served::Skipped | Served::Done | Served::Quit => None,
@@ -61,32 +75,71 @@ const LAST_READING: u64 = 1 << 62;
 pub(crate) struct Host<'a> {
     alloc: Global,
     pub(crate) engine: PrintedEngine<'a>,
-    manner: Manner,
-    // the reading that is taken before the engine is asked next
-    pending: Option<u64>,
     // The clock read more than an engine takes: it was told so once, and time stands still.
     is_over: bool,
 }
 
+// What is told on request, and is no part of a trace.
+#[derive(Clone, Copy)]
+enum Told {
+    Nothing,
+    Totals,
+    Ccbs,
+    Requests,
+}
+
 // Whether nobody can ask for it but a host of runs that stay out.
-fn is_of_steps(request: &Request) -> bool {
+fn is_of_steps(request: &Request) -> bool
+    ensures { result ≡ is_of_steps request.now }
+{
     match request {
-        Request::Call(call) => matches!(call, Call::Park { .. } | Call::Resume { .. }),
+        Request::Call(call) => is_call_of_steps(call),
         Request::Step(_) | Request::Drive(_) => true,
         Request::Drain | Request::Totals | Request::Ccbs | Request::Quit | Request::Help => false,
     }
 }
 
+fn is_call_of_steps(call: &Call) -> bool
+    ensures { result ≡ is_of_parking call.now }
+{
+    matches!(call, Call::Park { .. } | Call::Resume { .. })
+}
+
+// The run that a call started, if it is driven at once.
+fn run_to_drive(manner: Manner, answer: CallAnswer) -> Option<u32>
+    ensures { result ≡ run_to_drive manner answer }
+{
+    match answer {
+        CallAnswer::Started { run, .. } => { if manner.is_stepped { None } else { Some(run) } }
+        _ => None,
+    }
+}
+
+// What became of the line that asked for an advance.
+fn stepped(advanced: Advanced) -> Served
+    ensures { result ≡ stepped_of advanced }
+{
+    match advanced {
+        Advanced::NotOut => Served::Refused(LineFault::NotHeld),
+        Advanced::Goes | Advanced::Ended => Served::Done,
+    }
+}
+
+// Reports the line of that number, if it was not carried out.
+fn report_refused<N: Reports>(served: Served, number: usize, reports: &mut N) {
+    if let Served::Refused(fault) = served {
+        reports.refused(fault, number);
+    }
+}
+
 impl<'a> Host<'a> {
     /// The host of an engine of which no line asked anything yet.
-    pub(crate) fn new(alloc: Global, engine: PrintedEngine<'a>, manner: Manner) -> Self
+    pub(crate) fn new(alloc: Global, engine: PrintedEngine<'a>) -> Self
         ensures { result.engine ≡ engine.entry }
     {
         Host {
             alloc,
             engine,
-            manner,
-            pending: None,
             is_over: false,
         }
     }
@@ -94,85 +147,125 @@ impl<'a> Host<'a> {
     /// Carries the line of that number out, which stands without its line feed; none is one that cannot be a line. A clock reading that
     /// is given is taken first, but before a line that is not carried out only if a timer is due. Such a line is reported, and that is no
     /// fault. It returns what became of the line.
-    pub(crate) fn serve_line<N: Reports, S: Sink>(
+    pub(crate) fn serve_line<N: Reports, S: Outlet>(
         &mut self,
+        manner: Manner,
         line: Option<&str>,
         number: usize,
         now: Option<u64>,
         reports: &mut N,
         out: &mut S,
     ) -> Result<Served, HostFault>
-        ensures { Grows self.old.engine (S.bytes out.old) (S.failures out.old) self.new.engine (S.bytes out.new) (S.failures out.new) }
+        ensures grown { (came : List ℕ) → MatchOption line.entry (IsText came → ⊥) (λ text. (text.now ≡ came) × IsText came) → GrowsAs (Turned manner came result self.new.engine.engine) self.old.engine (S.bytes out.old) (S.failures out.old) self.new.engine (S.bytes out.new) (S.failures out.new) }
+        ensures answers { S.answers out.new ≡ S.answers out.old }
     {
-        let asked = match line {
-            Some(line) => {
-                if is_skipped(line) {
-                    return Ok(Served::Skipped);
-                }
-                request_of(self.alloc, line, self.manner.is_told)
-            }
-            None => Ok(None),
-        };
-        self.pending = now;
-        let served = self.serve_request(asked, number, reports, out);
-        self.pending = None;
-        served
-    }
-
-    // Carries out what the line of that number asks for. If memory was refused for that, the reading that is pending is still taken.
-    fn serve_request<N: Reports, S: Sink>(
-        &mut self,
-        asked: Result<Option<Request>, AllocError>,
-        number: usize,
-        reports: &mut N,
-        out: &mut S,
-    ) -> Result<Served, HostFault>
-        ensures { Grows self.old.engine (S.bytes out.old) (S.failures out.old) self.new.engine (S.bytes out.new) (S.failures out.new) }
-    {
-        match asked {
-            Ok(request) => self.serve_asked(request, number, reports, out),
-            Err(AllocError) => {
-                self.read_pending(out)?;
-                Err(HostFault::OutOfMemory)
-            }
+        match line {
+            Some(line) => self.serve_text(manner, line, number, now, reports, out),
+            None => self.serve_asked(manner, None, number, now, reports, out),
         }
     }
 
-    // Carries out what the line of that number asks for, or reports why not.
-    fn serve_asked<N: Reports, S: Sink>(
+    // Carries out what a line asks for that can be one.
+    fn serve_text<N: Reports, S: Outlet>(
         &mut self,
+        manner: Manner,
+        line: &str,
+        number: usize,
+        now: Option<u64>,
+        reports: &mut N,
+        out: &mut S,
+    ) -> Result<Served, HostFault>
+        ensures grown { IsText line.now → GrowsAs (Turned manner line.now result self.new.engine.engine) self.old.engine (S.bytes out.old) (S.failures out.old) self.new.engine (S.bytes out.new) (S.failures out.new) }
+        ensures answers { S.answers out.new ≡ S.answers out.old }
+    {
+        if is_skipped(line) {
+            return Ok(Served::Skipped);
+        }
+        match request_of(self.alloc, line, manner.is_told) {
+            Ok(request) => self.serve_asked(manner, request, number, now, reports, out),
+            Err(AllocError) => self.serve_refused(now, out),
+        }
+    }
+
+    // Memory was refused for what a line asks for: the reading is still taken.
+    fn serve_refused<S: Outlet>(
+        &mut self,
+        now: Option<u64>,
+        out: &mut S,
+    ) -> Result<Served, HostFault>
+        ensures stops { IsErr result }
+        ensures grown { GrowsAs (IsReading now) self.old.engine (S.bytes out.old) (S.failures out.old) self.new.engine (S.bytes out.new) (S.failures out.new) }
+        ensures answers { S.answers out.new ≡ S.answers out.old }
+    {
+        match self.read(now, out) {
+            Ok(()) => Err(HostFault::OutOfMemory),
+            Err(fault) => Err(fault),
+        }
+    }
+
+    /// Carries out what the line of that number asks for, or reports why not; none is no request.
+    pub(crate) fn serve_asked<N: Reports, S: Outlet>(
+        &mut self,
+        manner: Manner,
         request: Option<Request>,
         number: usize,
+        now: Option<u64>,
         reports: &mut N,
         out: &mut S,
     ) -> Result<Served, HostFault>
-        ensures { Grows self.old.engine (S.bytes out.old) (S.failures out.old) self.new.engine (S.bytes out.new) (S.failures out.new) }
+        ensures grown { GrowsAs (ReadThen now (ActsOn manner request result self.new.engine.engine)) self.old.engine (S.bytes out.old) (S.failures out.old) self.new.engine (S.bytes out.new) (S.failures out.new) }
+        ensures answers { S.answers out.new ≡ S.answers out.old }
     {
-        self.read_due(out)?;
-        let served = self.carry_out(request, reports, out)?;
-        if let Served::Refused(fault) = served {
-            reports.refused(fault, number);
+        match self.read_due(now, out) {
+            Ok(rest) => self.serve_rest(manner, request, number, rest, reports, out),
+            Err(fault) => Err(fault),
         }
-        Ok(served)
     }
 
-    // Takes the reading that is pending, if a timer is due then.
-    fn read_due<S: Sink>(&mut self, out: &mut S) -> Result<(), HostFault>
-        ensures { Grows self.old.engine (S.bytes out.old) (S.failures out.old) self.new.engine (S.bytes out.new) (S.failures out.new) }
+    // The same, where that is left to be read.
+    fn serve_rest<N: Reports, S: Outlet>(
+        &mut self,
+        manner: Manner,
+        request: Option<Request>,
+        number: usize,
+        now: Option<u64>,
+        reports: &mut N,
+        out: &mut S,
+    ) -> Result<Served, HostFault>
+        ensures grown { GrowsAs (ReadThen now (ActsOn manner request result self.new.engine.engine)) self.old.engine (S.bytes out.old) (S.failures out.old) self.new.engine (S.bytes out.new) (S.failures out.new) }
+        ensures answers { S.answers out.new ≡ S.answers out.old }
     {
-        if self.is_due() {
-            self.read_pending(out)
+        match self.carry_out(manner, request, now, reports, out) {
+            Ok(served) => {
+                report_refused(served, number, reports);
+                Ok(served)
+            }
+            Err(fault) => Err(fault),
+        }
+    }
+
+    // Takes the reading, if a timer is due then. What is left to be read.
+    fn read_due<S: Outlet>(
+        &mut self,
+        now: Option<u64>,
+        out: &mut S,
+    ) -> Result<Option<u64>, HostFault>
+        ensures grown { GrowsAs (ReadsDue now result) self.old.engine (S.bytes out.old) (S.failures out.old) self.new.engine (S.bytes out.new) (S.failures out.new) }
+        ensures answers { S.answers out.new ≡ S.answers out.old }
+    {
+        if self.is_due(now) {
+            match self.read(now, out) {
+                Ok(()) => Ok(None),
+                Err(fault) => Err(fault),
+            }
         } else {
-            Ok(())
+            Ok(now)
         }
     }
 
-    /// Takes a clock reading, in milliseconds.
-    pub(crate) fn read_clock<S: Sink>(&mut self, reading: u64, out: &mut S) -> Result<(), HostFault>
-        ensures { Grows self.old.engine (S.bytes out.old) (S.failures out.old) self.new.engine (S.bytes out.new) (S.failures out.new) }
-    {
-        self.pending = Some(reading);
-        self.read_pending(out)
+    /// What the engine's clock reads, in milliseconds.
+    pub(crate) fn clock(&self) -> u64 {
+        self.engine.clock()
     }
 
     /// When the next timer is due, in milliseconds of the clock; none where time stands still.
@@ -183,69 +276,136 @@ impl<'a> Host<'a> {
         self.engine.next_due()
     }
 
-    // Whether a timer is due at the reading that is pending.
-    fn is_due(&self) -> bool {
-        match (self.pending, self.next_due()) {
+    // Whether a timer is due at that reading.
+    fn is_due(&self, now: Option<u64>) -> bool {
+        match (now, self.next_due()) {
             (Some(reading), Some(due)) => due <= reading,
             _ => false,
         }
     }
 
-    // Takes the reading that is pending, if one is.
-    fn read_pending<S: Sink>(&mut self, out: &mut S) -> Result<(), HostFault>
-        ensures { Grows self.old.engine (S.bytes out.old) (S.failures out.old) self.new.engine (S.bytes out.new) (S.failures out.new) }
+    // Takes the reading, if there is one.
+    fn read<S: Outlet>(&mut self, now: Option<u64>, out: &mut S) -> Result<(), HostFault>
+        ensures grown { GrowsAs (IsReading now) self.old.engine (S.bytes out.old) (S.failures out.old) self.new.engine (S.bytes out.new) (S.failures out.new) }
+        ensures answers { S.answers out.new ≡ S.answers out.old }
     {
-        let Some(reading) = self.pending.take() else {
-            return Ok(());
-        };
+        match now {
+            Some(reading) => self.read_clock(reading, out),
+            None => Ok(()),
+        }
+    }
+
+    /// Takes a clock reading, in milliseconds.
+    pub(crate) fn read_clock<S: Outlet>(
+        &mut self,
+        reading: u64,
+        out: &mut S,
+    ) -> Result<(), HostFault>
+        ensures grown { GrowsAs (IsReading (Some reading)) self.old.engine (S.bytes out.old) (S.failures out.old) self.new.engine (S.bytes out.new) (S.failures out.new) }
+        ensures answers { S.answers out.new ≡ S.answers out.old }
+    {
         if self.is_over {
             return Ok(());
         }
         self.is_over = reading > LAST_READING;
-        let _ = self.answered(Call::Clock { reading }, out)?;
-        Ok(())
+        match self.answered(Call::Clock { reading }, out) {
+            Ok(_) => Ok(()),
+            Err(fault) => Err(fault),
+        }
     }
 
     // Carries a request out, if it is one here.
-    fn carry_out<N: Reports, S: Sink>(
+    fn carry_out<N: Reports, S: Outlet>(
         &mut self,
+        manner: Manner,
         request: Option<Request>,
+        now: Option<u64>,
         reports: &mut N,
         out: &mut S,
     ) -> Result<Served, HostFault>
-        ensures { Grows self.old.engine (S.bytes out.old) (S.failures out.old) self.new.engine (S.bytes out.new) (S.failures out.new) }
+        ensures grown { GrowsAs (ReadThen now (ActsOn manner request result self.new.engine.engine)) self.old.engine (S.bytes out.old) (S.failures out.old) self.new.engine (S.bytes out.new) (S.failures out.new) }
+        ensures answers { S.answers out.new ≡ S.answers out.old }
     {
-        let Some(request) = request else {
-            return Ok(Served::Refused(LineFault::Form));
-        };
-        if !self.manner.is_stepped && is_of_steps(&request) {
-            return Ok(Served::Refused(LineFault::Form));
-        }
         match request {
-            Request::Call(call) => self.call(call, out),
-            Request::Step(run) => self.step(run, out),
-            Request::Drive(run) => self.drive(run, out),
-            request => {
-                self.read_pending(out)?;
-                Ok(self.tell(&request, reports))
-            }
+            Some(request) => self.act_here(manner, request, now, reports, out),
+            None => Ok(Served::Refused(LineFault::Form)),
         }
     }
 
-    // Tells what is asked for that makes no record.
-    fn tell<N: Reports>(&self, request: &Request, reports: &mut N) -> Served {
-        match request {
-            Request::Totals => reports.sums(self.engine.totals()),
-            Request::Ccbs => self.tell_ccbs(reports),
-            Request::Help => reports.help(),
-            Request::Quit => return Served::Quit,
-            Request::Call(_) | Request::Step(_) | Request::Drive(_) | Request::Drain => {}
+    // Carries a request out, but one of steps only where runs stay out.
+    fn act_here<N: Reports, S: Outlet>(
+        &mut self,
+        manner: Manner,
+        request: Request,
+        now: Option<u64>,
+        reports: &mut N,
+        out: &mut S,
+    ) -> Result<Served, HostFault>
+        ensures grown { GrowsAs (ReadThen now (ActsHere manner request result self.new.engine.engine)) self.old.engine (S.bytes out.old) (S.failures out.old) self.new.engine (S.bytes out.new) (S.failures out.new) }
+        ensures answers { S.answers out.new ≡ S.answers out.old }
+    {
+        if !manner.is_stepped && is_of_steps(&request) {
+            return Ok(Served::Refused(LineFault::Form));
         }
-        Served::Done
+        self.act(manner, request, now, reports, out)
+    }
+
+    // Carries a request out.
+    fn act<N: Reports, S: Outlet>(
+        &mut self,
+        manner: Manner,
+        request: Request,
+        now: Option<u64>,
+        reports: &mut N,
+        out: &mut S,
+    ) -> Result<Served, HostFault>
+        ensures grown { GrowsAs (ReadThen now (Acts manner request result self.new.engine.engine)) self.old.engine (S.bytes out.old) (S.failures out.old) self.new.engine (S.bytes out.new) (S.failures out.new) }
+        ensures answers { S.answers out.new ≡ S.answers out.old }
+    {
+        match request {
+            Request::Call(call) => self.call(manner, call, now, out),
+            Request::Step(run) => self.step(run, now, out),
+            Request::Drive(run) => self.drive(run, now, out),
+            Request::Drain => self.tell(Told::Nothing, Served::Done, now, reports, out),
+            Request::Totals => self.tell(Told::Totals, Served::Done, now, reports, out),
+            Request::Ccbs => self.tell(Told::Ccbs, Served::Done, now, reports, out),
+            Request::Help => self.tell(Told::Requests, Served::Done, now, reports, out),
+            Request::Quit => self.tell(Told::Nothing, Served::Quit, now, reports, out),
+        }
+    }
+
+    // Takes the reading, and tells what is asked for that makes no record. That became of the line.
+    fn tell<N: Reports, S: Outlet>(
+        &mut self,
+        told: Told,
+        became: Served,
+        now: Option<u64>,
+        reports: &mut N,
+        out: &mut S,
+    ) -> Result<Served, HostFault>
+        ensures grown { GrowsAs (ReadThen now (Tells became result)) self.old.engine (S.bytes out.old) (S.failures out.old) self.new.engine (S.bytes out.new) (S.failures out.new) }
+        ensures answers { S.answers out.new ≡ S.answers out.old }
+    {
+        match self.read(now, out) {
+            Ok(()) => {
+                self.report(told, reports);
+                Ok(became)
+            }
+            Err(fault) => Err(fault),
+        }
+    }
+
+    fn report<N: Reports>(&self, told: Told, reports: &mut N) {
+        match told {
+            Told::Nothing => {}
+            Told::Totals => reports.sums(self.engine.totals()),
+            Told::Ccbs => self.report_ccbs(reports),
+            Told::Requests => reports.help(),
+        }
     }
 
     // Tells of each live CCB, by rising number.
-    fn tell_ccbs<N: Reports>(&self, reports: &mut N) {
+    fn report_ccbs<N: Reports>(&self, reports: &mut N) {
         for place in 0..usize::MAX {
             match self.engine.ccb_at(place) {
                 Some(live) => reports.ccb(&live),
@@ -254,22 +414,62 @@ impl<'a> Host<'a> {
         }
     }
 
-    // Carries a call out. A run that it starts is driven to its end, unless runs stay out.
-    fn call<S: Sink>(&mut self, call: Call, out: &mut S) -> Result<Served, HostFault>
-        ensures { Grows self.old.engine (S.bytes out.old) (S.failures out.old) self.new.engine (S.bytes out.new) (S.failures out.new) }
+    // Carries a call out, behind the reading.
+    fn call<S: Outlet>(
+        &mut self,
+        manner: Manner,
+        call: Call,
+        now: Option<u64>,
+        out: &mut S,
+    ) -> Result<Served, HostFault>
+        ensures grown { GrowsAs (ReadThen now (Acts manner (asks.Call call) result self.new.engine.engine)) self.old.engine (S.bytes out.old) (S.failures out.old) self.new.engine (S.bytes out.new) (S.failures out.new) }
+        ensures answers { S.answers out.new ≡ S.answers out.old }
     {
         if !self.is_held(&call) {
             return Ok(Served::Refused(LineFault::NotHeld));
         }
-        self.read_pending(out)?;
-        match self.answered(call, out)? {
-            CallAnswer::Started { run, .. } if !self.manner.is_stepped => self.drive(run, out),
-            _ => Ok(Served::Done),
+        match self.read(now, out) {
+            Ok(()) => self.call_here(manner, call, out),
+            Err(fault) => Err(fault),
+        }
+    }
+
+    // Carries a call out. A run that it starts is driven to its end, unless runs stay out.
+    fn call_here<S: Outlet>(
+        &mut self,
+        manner: Manner,
+        call: Call,
+        out: &mut S,
+    ) -> Result<Served, HostFault>
+        ensures grown { GrowsAs (Acts manner (asks.Call call) result self.new.engine.engine) self.old.engine (S.bytes out.old) (S.failures out.old) self.new.engine (S.bytes out.new) (S.failures out.new) }
+        ensures answers { S.answers out.new ≡ S.answers out.old }
+    {
+        match self.answered(call, out) {
+            Ok(answer) => self.drive_started(manner, answer, out),
+            Err(fault) => Err(fault),
+        }
+    }
+
+    // Drives the run that a call started to its end, unless runs stay out.
+    fn drive_started<S: Outlet>(
+        &mut self,
+        manner: Manner,
+        answer: CallAnswer,
+        out: &mut S,
+    ) -> Result<Served, HostFault>
+        ensures grown { GrowsAs (DrivesStarted manner answer result self.new.engine.engine) self.old.engine (S.bytes out.old) (S.failures out.old) self.new.engine (S.bytes out.new) (S.failures out.new) }
+        ensures answers { S.answers out.new ≡ S.answers out.old }
+    {
+        match run_to_drive(manner, answer) {
+            Some(run) => self.drive_here(run, out),
+            None => Ok(Served::Done),
         }
     }
 
     // Whether the run is out that a call parks, or a guest holds the freeze that it gives back.
-    fn is_held(&self, call: &Call) -> bool {
+    fn is_held(&self, call: &Call) -> bool
+        ensures { result ≡ false → IsNotHeld call.now self.now.engine.engine }
+    {
         match call {
             Call::Park { run } => self.engine.is_out(*run),
             Call::GuestRelease { freeze } => self.engine.is_guests(*freeze),
@@ -277,53 +477,111 @@ impl<'a> Host<'a> {
         }
     }
 
-    // Drives a run that is out to its next stop.
-    fn step<S: Sink>(&mut self, run: u32, out: &mut S) -> Result<Served, HostFault>
-        ensures { Grows self.old.engine (S.bytes out.old) (S.failures out.old) self.new.engine (S.bytes out.new) (S.failures out.new) }
+    // Drives a run that is out to its next stop, behind the reading.
+    fn step<S: Outlet>(
+        &mut self,
+        run: u32,
+        now: Option<u64>,
+        out: &mut S,
+    ) -> Result<Served, HostFault>
+        ensures grown { GrowsAs (ReadThen now (λ acts. (manner : TheManner) → Acts manner (asks.Step run) result self.new.engine.engine acts)) self.old.engine (S.bytes out.old) (S.failures out.old) self.new.engine (S.bytes out.new) (S.failures out.new) }
+        ensures answers { S.answers out.new ≡ S.answers out.old }
     {
-        match self.advance(run, out)? {
-            Advanced::NotOut => Ok(Served::Refused(LineFault::NotHeld)),
-            Advanced::Goes | Advanced::Ended => Ok(Served::Done),
+        if !self.engine.is_out(run) {
+            return Ok(Served::Refused(LineFault::NotHeld));
+        }
+        match self.read(now, out) {
+            Ok(()) => self.step_here(run, out),
+            Err(fault) => Err(fault),
         }
     }
 
-    // Drives a run that is out to its end.
-    fn drive<S: Sink>(&mut self, run: u32, out: &mut S) -> Result<Served, HostFault>
-        ensures { Grows self.old.engine (S.bytes out.old) (S.failures out.old) self.new.engine (S.bytes out.new) (S.failures out.new) }
+    // Drives a run that is out to its next stop.
+    fn step_here<S: Outlet>(&mut self, run: u32, out: &mut S) -> Result<Served, HostFault>
+        ensures grown { GrowsAs (λ acts. (manner : TheManner) → Acts manner (asks.Step run) result self.new.engine.engine acts) self.old.engine (S.bytes out.old) (S.failures out.old) self.new.engine (S.bytes out.new) (S.failures out.new) }
+        ensures answers { S.answers out.new ≡ S.answers out.old }
+    {
+        match self.advance(run, out) {
+            Ok(advanced) => Ok(stepped(advanced)),
+            Err(fault) => Err(fault),
+        }
+    }
+
+    // Drives a run that is out to its end, behind the reading.
+    fn drive<S: Outlet>(
+        &mut self,
+        run: u32,
+        now: Option<u64>,
+        out: &mut S,
+    ) -> Result<Served, HostFault>
+        ensures grown { GrowsAs (ReadThen now (λ acts. (manner : TheManner) → Acts manner (asks.Drive run) result self.new.engine.engine acts)) self.old.engine (S.bytes out.old) (S.failures out.old) self.new.engine (S.bytes out.new) (S.failures out.new) }
+        ensures answers { S.answers out.new ≡ S.answers out.old }
+    {
+        if !self.engine.is_out(run) {
+            return Ok(Served::Refused(LineFault::NotHeld));
+        }
+        match self.read(now, out) {
+            Ok(()) => self.drive_here(run, out),
+            Err(fault) => Err(fault),
+        }
+    }
+
+    // Drives a run to its end, while it is out.
+    fn drive_here<S: Outlet>(&mut self, run: u32, out: &mut S) -> Result<Served, HostFault>
+        ensures grown { GrowsAs (DrivesTo run result self.new.engine.engine) self.old.engine (S.bytes out.old) (S.failures out.old) self.new.engine (S.bytes out.new) (S.failures out.new) }
+        ensures answers { S.answers out.new ≡ S.answers out.old }
+    {
+        match self.drive_out(run, out) {
+            Ok(()) => Ok(Served::Done),
+            Err(fault) => Err(fault),
+        }
+    }
+
+    // Drives a run to its end, while it is out.
+    fn drive_out<S: Outlet>(&mut self, run: u32, out: &mut S) -> Result<(), HostFault>
+        ensures grown { GrowsAs (Drives run result self.new.engine.engine) self.old.engine (S.bytes out.old) (S.failures out.old) self.new.engine (S.bytes out.new) (S.failures out.new) }
+        ensures answers { S.answers out.new ≡ S.answers out.old }
     {
         for _ in 0..u64::MAX {
-            match self.advance(run, out)? {
-                Advanced::NotOut => return Ok(Served::Refused(LineFault::NotHeld)),
-                Advanced::Goes => {}
-                Advanced::Ended => break,
+            match self.advance(run, out) {
+                Ok(Advanced::Goes) => {}
+                Ok(Advanced::NotOut) => return Ok(()),
+                Ok(Advanced::Ended) => return Ok(()),
+                Err(fault) => return Err(fault),
             }
         }
-        Ok(Served::Done)
+        Err(HostFault::InternalError)
     }
 
     /// Drives the runs that are out to their ends, in the order of their numbers.
-    pub(crate) fn drive_all<S: Sink>(&mut self, out: &mut S) -> Result<(), HostFault>
-        ensures { Grows self.old.engine (S.bytes out.old) (S.failures out.old) self.new.engine (S.bytes out.new) (S.failures out.new) }
+    pub(crate) fn drive_all<S: Outlet>(&mut self, out: &mut S) -> Result<(), HostFault>
+        ensures grown { GrowsAs (DrivesAll result self.new.engine.engine) self.old.engine (S.bytes out.old) (S.failures out.old) self.new.engine (S.bytes out.new) (S.failures out.new) }
+        ensures answers { S.answers out.new ≡ S.answers out.old }
     {
         for _ in 0..u64::MAX {
-            let Some(run) = self.engine.first_out() else {
-                break;
-            };
-            let _ = self.drive(run, out)?;
+            match self.engine.first_out() {
+                Some(run) => match self.drive_out(run, out) {
+                    Ok(()) => {}
+                    Err(fault) => return Err(fault),
+                },
+                None => return Ok(()),
+            }
         }
-        Ok(())
+        Err(HostFault::InternalError)
     }
 
-    // Takes the reading that is pending, and lets a run go on to its next stop. If it is not out nothing changes.
-    fn advance<S: Sink>(&mut self, run: u32, out: &mut S) -> Result<Advanced, HostFault>
-        ensures { Grows self.old.engine (S.bytes out.old) (S.failures out.old) self.new.engine (S.bytes out.new) (S.failures out.new) }
+    // Lets a run go on to its next stop. If it is not out nothing changes.
+    fn advance<S: Outlet>(&mut self, run: u32, out: &mut S) -> Result<Advanced, HostFault>
+        ensures grown { GrowsAs (MakesOne run result self.new.engine.engine) self.old.engine (S.bytes out.old) (S.failures out.old) self.new.engine (S.bytes out.new) (S.failures out.new) }
+        ensures answers { S.answers out.new ≡ S.answers out.old }
     {
         if !self.engine.is_out(run) {
             return Ok(Advanced::NotOut);
         }
-        self.read_pending(out)?;
         match self.engine.advance(run, out) {
-            Ok(advanced) => Ok(advanced),
+            Ok(Advanced::NotOut) => Err(HostFault::InternalError),
+            Ok(Advanced::Goes) => Ok(Advanced::Goes),
+            Ok(Advanced::Ended) => Ok(Advanced::Ended),
             Err(AllocError) => Err(HostFault::OutOfMemory),
         }
     }
@@ -335,16 +593,15 @@ impl<'a> Host<'a> {
         let Host {
             alloc: _,
             engine,
-            manner: _,
-            pending: _,
             is_over: _,
         } = self;
         engine
     }
 
     // What a call is answered. A refusal is recorded and no fault.
-    fn answered<S: Sink>(&mut self, call: Call, out: &mut S) -> Result<CallAnswer, HostFault>
-        ensures { Grows self.old.engine (S.bytes out.old) (S.failures out.old) self.new.engine (S.bytes out.new) (S.failures out.new) }
+    fn answered<S: Outlet>(&mut self, call: Call, out: &mut S) -> Result<CallAnswer, HostFault>
+        ensures grown { GrowsBy (record_of_answer call result) self.old.engine (S.bytes out.old) (S.failures out.old) self.new.engine (S.bytes out.new) (S.failures out.new) }
+        ensures answers { S.answers out.new ≡ S.answers out.old }
     {
         match self.engine.call(call, out) {
             Ok(Some(answer)) => Ok(answer),

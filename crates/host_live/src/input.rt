@@ -1,6 +1,6 @@
 // Where bytes come from, and what a clock reads meanwhile. It relies on nothing.
 
-ghost use Rattle.std.specs.Prelude.{◌≡◌, ◌≢◌, Bool, IsTrue};
+ghost use Rattle.std.specs.Prelude.{◌≡◌, ◌≢◌, Bool, IfSome, IsTrue};
 ghost use Rattle.host_live.specs.declared.input.Came.TheVariants.{End, Failed};
 
 /// What came.
@@ -16,11 +16,17 @@ pub enum Came {
     Failed,
 }
 
-/// Bytes that come piece by piece, and a clock, if there is one. Contracts see whether it could not be read, and whether it is at its end.
+/// Bytes that come piece by piece, and a clock, if there is one. Contracts see whether it could not be read, whether it is at its end, and the
+/// bytes that came so far, where these are known (a list's are, a terminal's are not).
 pub trait Input {
+    ghost use Rattle.std.specs.Prelude.{Option};
+    ghost use Rattle.host_live.specs.Inputs.{CameState, Comes};
+
     ghost has_failed: { Self → Bool };
 
     ghost has_ended: { Self → Bool };
+
+    ghost came: { Self → Option CameState };
 
     /// Waits for bytes, which then stand in place of those that came before, and not longer than until the clock reads `until`, in
     /// milliseconds, if there is a clock and that is given.
@@ -29,10 +35,13 @@ pub trait Input {
         // A read that fails is told by nothing else.
         ensures still { result ≢ Failed → has_failed self.new ≡ has_failed self.old }
         // So is the end.
-        ensures ended { result ≡ End → IsTrue (has_ended self.new) };
+        ensures ended { result ≡ End → IsTrue (has_ended self.new) }
+        // A piece more came, or nothing.
+        ensures comes { Comes (came self.old) result (came self.new) };
 
     /// The bytes that came last.
-    fn bytes(&self) -> &[u8];
+    fn bytes(&self) -> &[u8]
+        ensures { IfSome (came self.now) (λ known. result.now ≡ known.piece) };
 
     /// What the clock reads, in milliseconds since the beginning; `None` where there is no clock.
     fn now(&self) -> Option<u64>;

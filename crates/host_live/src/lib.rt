@@ -6,6 +6,7 @@
 mod draft;
 mod host;
 mod input;
+mod lending;
 mod lines;
 mod manner;
 mod outlet;

@@ -1,6 +1,9 @@
 // The lines of an input, one by one. It relies on `draft` for the line that comes, and on `input` for bytes.
 
-ghost use Rattle.std.specs.Prelude.{◌≡◌, ◌≢◌, false, IsTrue};
+ghost use Rattle.std.specs.Prelude.{◌≡◌, ◌≢◌, ◌<◌, ◌^◌, ◌-◌, ◌+◌, ◌≤◌, ◌∷◌, ℕ, List, [], None, Option, false, true, length, take, drop, IfSome, IsTrue, MatchOption};
+ghost use Rattle.host_live.specs.Drafts.{IsDraftOf};
+ghost use Rattle.host_live.specs.Inputs.{CameState, known_of};
+ghost use Rattle.host_live.specs.LinesCome.{IsOver, IsTaken, IsText, IsOneLine, Stands, Takes, Waits};
 ghost use Rattle.host_live.specs.declared.lines.Next.TheVariants.{End, Failed};
 
 use crate::draft::Draft;
@@ -9,8 +12,12 @@ use crate::input::{Came, Input};
 /// What comes next.
 #[derive(Clone, Copy, Debug, PartialEq, Eq)]
 pub(crate) enum Next {
-    /// A line, with its line feed; or at the end of the input one without, which is cut off.
+    /// A line, with its line feed.
     Line,
+    /// At the end of the input a line without a line feed, which is cut off.
+    Cut,
+    /// No whole line as yet.
+    Nothing,
     /// Nothing, until the clock read that, in milliseconds.
     Due(u64),
     End,
@@ -20,105 +27,159 @@ pub(crate) enum Next {
 /// The lines of an input.
 #[derive(Drop)]
 pub(crate) struct Lines {
-    // how many of the input's bytes were taken
-    taken: usize,
-    draft: Draft,
+    // how many bytes of the piece that came last were taken
+    pub(crate) taken: usize,
+    pub(crate) draft: Draft,
     // of the line that was told last
-    number: usize,
-    // the line that was told last, of which nothing more comes
-    is_whole: bool,
+    pub(crate) number: usize,
+    // the draft is of the line that was told last, of which nothing more comes
+    pub(crate) is_told: bool,
     // no bytes come any more
     pub(crate) is_ended: bool,
+    // what the engine's clock read where that of the input began, in milliseconds
+    pub(crate) begun: u64,
 }
 
 impl Lines {
-    /// The lines of an input of which no bytes came yet.
-    pub(crate) fn of<I: Input>(input: &I) -> Self
-        ensures { result.is_ended ≡ false }
+    /// The lines of an input of which what came before is let go, for an engine whose clock reads that.
+    pub(crate) fn of<I: Input>(input: &I, begun: u64) -> Self
+        ensures ended { result.is_ended ≡ false }
+        ensures number { result.number ≡ 0 }
+        ensures stands { Stands (known_of (I.came input.now)) (I.came input.now) result [] }
     {
         Lines {
             taken: input.bytes().len(),
             draft: Draft::none(),
             number: 0,
-            is_whole: false,
+            is_told: false,
             is_ended: false,
+            begun,
         }
     }
 
     /// Takes the next line, if it is there. Whether it is.
     pub(crate) fn take_next<I: Input>(&mut self, input: &I) -> bool
-        ensures { self.new.is_ended ≡ self.old.is_ended }
+        requires room { self.old.number < 2 ^ 64 - 1 }
+        ensures ended { self.new.is_ended ≡ self.old.is_ended }
+        ensures untold { result ≡ false → self.new.is_ended ≡ false → self.new.is_told ≡ false }
+        ensures number { result ≡ false → self.new.number ≡ self.old.number }
+        ensures takes { (base told : List ℕ) → Stands base (I.came input.now) self.old told → Takes base (I.came input.now) self.old told result self.new }
     {
-        if self.is_whole {
+        if self.is_ended {
+            return false;
+        }
+        if self.is_told {
             self.draft.clear();
-            self.is_whole = false;
+            self.is_told = false;
+            return self.take(input);
         }
-        let is_there = self.take(input);
-        if is_there {
-            self.number = self.number.saturating_add(1);
-        }
-        is_there
+        self.take(input)
     }
 
     /// The line that came, if it is of the form of a line: of 1,024 bytes at most, in UTF-8, without NUL, and with its line feed.
-    pub(crate) fn line(&self) -> Option<&str> {
-        if self.is_whole {
-            self.draft.text()
-        } else {
+    pub(crate) fn line(&self) -> Option<&str>
+        ensures cut { self.now.is_ended ≡ true → result ≡ None }
+        ensures line { self.now.is_ended ≡ false → (line : List ℕ) → IsDraftOf line self.now.draft → MatchOption result (IsText line → ⊥) (λ text. (text.now ≡ line) × IsText line) }
+    {
+        if self.is_ended {
             None
+        } else {
+            self.draft.text()
         }
     }
 
     /// The number of the line that came, the first being 1.
-    pub(crate) fn number(&self) -> usize {
+    pub(crate) fn number(&self) -> usize
+        ensures { result ≡ self.now.number }
+    {
         self.number
     }
 
-    /// Waits for the next line, which is not there yet, and not longer than until the clock reads `until`, if there is one.
+    /// What the engine's clock is to read now, in milliseconds; `None` if the input has no clock.
+    pub(crate) fn now<I: Input>(&self, input: &I) -> Option<u64> {
+        match input.now() {
+            Some(now) => Some(now.saturating_add(self.begun)),
+            None => None,
+        }
+    }
+
+    // What the input's clock reads when the engine's reads that.
+    fn of_input(&self, until: Option<u64>) -> Option<u64> {
+        match until {
+            Some(until) => Some(until.saturating_sub(self.begun)),
+            None => None,
+        }
+    }
+
+    /// Waits for what comes next, where no line is there yet, and not longer than until the engine's clock is to read `until`, if there is one.
     pub(crate) fn wait_next<I: Input>(&mut self, input: &mut I, until: Option<u64>) -> Next
+        requires room { self.old.number < 2 ^ 64 - 1 }
+        requires untold { self.old.is_ended ≡ false → self.old.is_told ≡ false }
         requires ended { IsTrue self.old.is_ended → IsTrue (I.has_ended input.old) }
         ensures failed { result ≡ Failed → IsTrue (I.has_failed input.new) }
         ensures still { result ≢ Failed → I.has_failed input.new ≡ I.has_failed input.old }
         ensures ended { IsTrue self.new.is_ended → IsTrue (I.has_ended input.new) }
         ensures end { result ≡ End → IsTrue (I.has_ended input.new) }
+        ensures waits { (base told : List ℕ) → Stands base (I.came input.old) self.old told → IsTaken (I.came input.old) self.old → Waits base self.old told result (I.came input.new) self.new }
     {
-        for _ in 0..u64::MAX {
-            if self.is_ended {
-                return Next::End;
-            }
-            match input.wait(until) {
-                Came::Bytes => self.taken = 0,
-                Came::Due(reading) => return Next::Due(reading),
-                Came::Failed => return Next::Failed,
-                Came::End => {
-                    self.is_ended = true;
-                    if !self.draft.is_empty() {
-                        break;
-                    }
+        if self.is_ended {
+            return Next::End;
+        }
+        match input.wait(self.of_input(until)) {
+            Came::Bytes => {
+                self.taken = 0;
+                if self.take(input) {
+                    Next::Line
+                } else {
+                    Next::Nothing
                 }
             }
-            if self.take(input) {
-                break;
-            }
+            Came::Due(reading) => Next::Due(reading.saturating_add(self.begun)),
+            Came::Failed => Next::Failed,
+            Came::End => self.end(),
         }
-        self.number = self.number.saturating_add(1);
-        Next::Line
+    }
+
+    // The input is at its end. Whether a line is cut off there.
+    fn end(&mut self) -> Next
+        requires room { self.old.number < 2 ^ 64 - 1 }
+        requires untold { self.old.is_told ≡ false }
+        requires going { self.old.is_ended ≡ false }
+        ensures ended { self.new.is_ended ≡ true }
+        ensures read { result ≢ Failed }
+        ensures waits { (base told : List ℕ) (came : Option CameState) → Stands base came self.old told → IsTaken came self.old → IsOver came → Waits base self.old told result came self.new }
+    {
+        self.is_ended = true;
+        if self.draft.is_empty() {
+            return Next::End;
+        }
+        self.is_told = true;
+        self.number += 1;
+        Next::Cut
     }
 
     // Takes what came up to a line feed, and whether there was one.
     fn take<I: Input>(&mut self, input: &I) -> bool
-        ensures { self.new.is_ended ≡ self.old.is_ended }
+        requires room { self.old.number < 2 ^ 64 - 1 }
+        requires untold { self.old.is_told ≡ false }
+        requires going { self.old.is_ended ≡ false }
+        ensures ended { self.new.is_ended ≡ false }
+        ensures untold { result ≡ false → self.new.is_ended ≡ false → self.new.is_told ≡ false }
+        ensures number { result ≡ false → self.new.number ≡ self.old.number }
+        ensures takes { (base told : List ℕ) → Stands base (I.came input.now) self.old told → Takes base (I.came input.now) self.old told result self.new }
     {
         let taken = self.taken;
-        let rest = match input.bytes().get(taken..) {
-            Some(rest) => rest,
-            None => return false,
-        };
-        match rest.iter().position(|byte| *byte == b'\n') {
+        let bytes = input.bytes();
+        if taken > bytes.len() {
+            return false;
+        }
+        let rest = rest_of(bytes, taken);
+        match first_feed(rest) {
             Some(place) => {
                 self.draft.add(&rest[..place]);
                 self.taken = taken + place + 1;
-                self.is_whole = true;
+                self.is_told = true;
+                self.number += 1;
                 true
             }
             None => {
@@ -128,4 +189,26 @@ impl Lines {
             }
         }
     }
+}
+
+// What stands behind so many bytes.
+fn rest_of(bytes: &[u8], taken: usize) -> &[u8]
+    requires { taken ≤ length bytes.now }
+    ensures { result.now ≡ drop taken bytes.now }
+{
+    &bytes[taken..]
+}
+
+// Where the first line feed stands.
+fn first_feed(bytes: &[u8]) -> Option<usize>
+    ensures { MatchOption result (IsOneLine bytes.now) (λ place. (place < length bytes.now) × IsOneLine (take place bytes.now) × (drop place bytes.now ≡ 10 ∷ drop (place + 1) bytes.now)) }
+{
+    let mut place = 0;
+    while place < bytes.len() {
+        if bytes[place] == b'\n' {
+            return Some(place);
+        }
+        place += 1;
+    }
+    None
 }

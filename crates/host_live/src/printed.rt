@@ -2,8 +2,10 @@
 
 ghost use Rattle.std.specs.Prelude.{◌≡◌, ◌-◌, ◌<◌, ◌^◌, ◌∷◌, [], None, false, true, IfErr, OnOk};
 ghost use Rattle.trace.specs.HasText.{HasText};
+ghost use Rattle.host_live.specs.Answering.{Answers};
 ghost use Rattle.host_live.specs.Growth.{PrintsAll, begun, resumed};
 
+use crate::lending::{hand_on, print_next};
 use crate::outlet::Outlet;
 use crate::reports::LineFault;
 use trace::{Growing, Sink, WriteFailed};
@@ -42,16 +44,17 @@ impl Printed {
     }
 
     /// Counts a record, and prints its line.
-    pub(crate) fn print<S: Sink>(&mut self, entry: &Record, out: &mut S)
+    pub(crate) fn print<S: Outlet>(&mut self, entry: &Record, out: &mut S)
         requires spelled { HasText self.old.lines.version entry.now }
         requires few { self.old.count < 2 ^ 64 - 1 }
-        ensures { PrintsAll self.old (S.bytes out.old) (S.failures out.old) (entry.now ∷ []) self.new (S.bytes out.new) (S.failures out.new) }
+        ensures printed { PrintsAll self.old (S.bytes out.old) (S.failures out.old) (entry.now ∷ []) self.new (S.bytes out.new) (S.failures out.new) }
+        ensures answers { S.answers out.new ≡ S.answers out.old }
     {
         self.count += 1;
         if self.has_failed {
             return;
         }
-        match self.lines.print_next(entry, out) {
+        match print_next(&mut self.lines, entry, out) {
             Ok(()) => {}
             Err(WriteFailed) => self.has_failed = true,
         }
@@ -63,6 +66,7 @@ impl Printed {
         ensures all { OnOk result (self.new.lines.waiting ≡ []) }
         ensures whole { OnOk result (self.new.has_failed ≡ false) }
         ensures failed { IfErr result (λ _. self.new.has_failed ≡ true) }
+        ensures answers { S.answers out.new ≡ S.answers out.old }
     {
         self.hand_on(out)?;
         self.tell_settled(out)
@@ -78,6 +82,8 @@ impl Printed {
         ensures printed { PrintsAll self.old (S.bytes out.old) (S.failures out.old) [] self.new (S.bytes out.new) (S.failures out.new) }
         ensures whole { OnOk result (self.new.has_failed ≡ false) }
         ensures failed { IfErr result (λ _. self.new.has_failed ≡ true) }
+        ensures all { OnOk result (self.new.lines.waiting ≡ []) }
+        ensures answers { Answers (S.answers out.old) line fault (S.bytes out.new) result (S.answers out.new) }
     {
         match self.hand_on(out) {
             Ok(()) => self.tell_answer(line, fault, out),
@@ -86,16 +92,17 @@ impl Printed {
     }
 
     // Hands on what waits. It reports a write that fails, or failed before.
-    fn hand_on<S: Sink>(&mut self, out: &mut S) -> Result<(), WriteFailed>
+    fn hand_on<S: Outlet>(&mut self, out: &mut S) -> Result<(), WriteFailed>
         ensures printed { PrintsAll self.old (S.bytes out.old) (S.failures out.old) [] self.new (S.bytes out.new) (S.failures out.new) }
         ensures all { OnOk result (self.new.lines.waiting ≡ []) }
         ensures whole { OnOk result (self.new.has_failed ≡ false) }
         ensures failed { IfErr result (λ _. self.new.has_failed ≡ true) }
+        ensures answers { S.answers out.new ≡ S.answers out.old }
     {
         if self.has_failed {
             return Err(WriteFailed);
         }
-        match self.lines.hand_on(out) {
+        match hand_on(&mut self.lines, out) {
             Ok(()) => Ok(()),
             Err(failed) => {
                 self.has_failed = true;
@@ -112,6 +119,7 @@ impl Printed {
         ensures all { self.new.lines.waiting ≡ [] }
         ensures whole { OnOk result (self.new.has_failed ≡ false) }
         ensures failed { IfErr result (λ _. self.new.has_failed ≡ true) }
+        ensures answers { S.answers out.new ≡ S.answers out.old }
     {
         match out.settle() {
             Ok(()) => Ok(()),
@@ -135,6 +143,8 @@ impl Printed {
         ensures printed { PrintsAll self.old (S.bytes out.old) (S.failures out.old) [] self.new (S.bytes out.new) (S.failures out.new) }
         ensures whole { OnOk result (self.new.has_failed ≡ false) }
         ensures failed { IfErr result (λ _. self.new.has_failed ≡ true) }
+        ensures all { OnOk result (self.new.lines.waiting ≡ []) }
+        ensures answers { Answers (S.answers out.old) line fault (S.bytes out.new) result (S.answers out.new) }
     {
         match out.answered(line, fault) {
             Ok(()) => Ok(()),

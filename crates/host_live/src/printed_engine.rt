@@ -5,21 +5,23 @@ ghost use Rattle.std.specs.Prelude.{◌≡◌, ◌<◌, ◌↔◌, [], ℕ, List
 ghost use Rattle.freeze_ledger.specs.Deadlines.{some_timer};
 ghost use Rattle.freeze_ledger.specs.Freezes.{entry_of};
 ghost use Rattle.engine_core.specs.ByNumber.{guests_of, sums_behind};
-ghost use Rattle.engine_core.specs.Looking.{first_out};
+ghost use Rattle.engine_core.specs.Looking.{HasRunOut, first_out};
 ghost use Rattle.engine_transport.specs.Freezing.{IsNextDue};
 ghost use Rattle.trace.specs.Sinks.{HasFailed};
 ghost use Rattle.world.specs.World.{Setup};
 ghost use Rattle.world_calls.specs.declared.record.Record.{Record as TheRecord};
-ghost use Rattle.host_live.specs.Growth.{GrowsBy, Grows, IsMadeBy, StandsBehind, opened_printed, record_of_call, resumed_printed};
-ghost use Rattle.host_live.specs.Telling.{Serves};
+ghost use Rattle.host_live.specs.Answering.{Answers};
+ghost use Rattle.host_live.specs.Growth.{GrowsBy, IsExit, IsMadeBy, StandsBehind, opened_printed, record_of_call, resumed_printed};
+ghost use Rattle.host_live.specs.Served.{ServesBy};
 
+use crate::lending::end;
 use crate::outlet::Outlet;
 use crate::printed::Printed;
 use crate::reports::LineFault;
 use engine_core::{Config, LiveCcb, NumberedEngine};
 use std::alloc::{AllocError, Global};
 use std::marker::Model;
-use trace::{Sink, WriteFailed};
+use trace::WriteFailed;
 use world_calls::{Call, CallAnswer, Record, StoppedAt, Totals, Version};
 
 /// What became of a run that was to go on.
@@ -51,7 +53,9 @@ impl<'a> Model for PrintedEngine<'a> {
 }
 
 // Whether that record is of a run's exit.
-fn is_exit(entry: &Record) -> bool {
+fn is_exit(entry: &Record) -> bool
+    ensures { result ≡ true → IsExit entry.now }
+{
     match entry {
         Record::Advance { stop, .. } => matches!(stop, StoppedAt::Exit),
         Record::Called { .. } => false,
@@ -82,12 +86,13 @@ impl<'a> PrintedEngine<'a> {
 
     /// Carries a call out, or refuses it, and prints its record: the answer. `None`, which changes nothing, if the call is no event here.
     /// If memory is refused, or records cannot be counted any more, nothing changes.
-    pub(crate) fn call<S: Sink>(
+    pub(crate) fn call<S: Outlet>(
         &mut self,
         call: Call,
         out: &mut S,
     ) -> Result<Option<CallAnswer>, AllocError>
-        ensures { GrowsBy (record_of_call call result) self.old (S.bytes out.old) (S.failures out.old) self.new (S.bytes out.new) (S.failures out.new) }
+        ensures grown { GrowsBy (record_of_call call result) self.old (S.bytes out.old) (S.failures out.old) self.new (S.bytes out.new) (S.failures out.new) }
+        ensures answers { S.answers out.new ≡ S.answers out.old }
     {
         if self.printed.count >= u64::MAX {
             return Err(AllocError);
@@ -105,9 +110,14 @@ impl<'a> PrintedEngine<'a> {
 
     /// Lets a run go on to its next stop, and prints the record of that. If memory is refused, or records cannot be counted any more, nothing
     /// changes.
-    pub(crate) fn advance<S: Sink>(&mut self, run: u32, out: &mut S) -> Result<Advanced, AllocError>
+    pub(crate) fn advance<S: Outlet>(
+        &mut self,
+        run: u32,
+        out: &mut S,
+    ) -> Result<Advanced, AllocError>
         ensures made { IfOk result (λ advanced. (more : List TheRecord) × IsMadeBy run advanced more × GrowsBy more self.old (S.bytes out.old) (S.failures out.old) self.new (S.bytes out.new) (S.failures out.new)) }
         ensures refused { OnErr result (GrowsBy [] self.old (S.bytes out.old) (S.failures out.old) self.new (S.bytes out.new) (S.failures out.new)) }
+        ensures answers { S.answers out.new ≡ S.answers out.old }
     {
         if self.printed.count >= u64::MAX {
             return Err(AllocError);
@@ -127,7 +137,10 @@ impl<'a> PrintedEngine<'a> {
     }
 
     /// Whether a run of that number is out.
-    pub(crate) fn is_out(&self, run: u32) -> bool {
+    pub(crate) fn is_out(&self, run: u32) -> bool
+        ensures there { result ≡ true → HasRunOut self.now.engine.runs.list run }
+        ensures none { result ≡ false → HasRunOut self.now.engine.runs.list run → ⊥ }
+    {
         match self.engine.run(run) {
             Some(told) => told.is_out,
             None => false,
@@ -147,6 +160,13 @@ impl<'a> PrintedEngine<'a> {
         ensures { result ≡ first_out self.now.engine.runs.list }
     {
         self.engine.first_out()
+    }
+
+    /// What its clock reads, in milliseconds.
+    pub(crate) fn clock(&self) -> u64
+        ensures { result ≡ self.now.engine.transport.clock }
+    {
+        self.engine.clock()
     }
 
     /// When the next timer is due, in milliseconds of the clock; `None` exactly if no timer holds a freeze.
@@ -178,6 +198,7 @@ impl<'a> PrintedEngine<'a> {
         ensures all { OnOk result (self.new.printed.lines.waiting ≡ []) }
         ensures whole { OnOk result (self.new.printed.has_failed ≡ false) }
         ensures failed { IfErr result (λ _. self.new.printed.has_failed ≡ true) }
+        ensures answers { S.answers out.new ≡ S.answers out.old }
     {
         self.printed.settle(out)
     }
@@ -190,8 +211,11 @@ impl<'a> PrintedEngine<'a> {
         out: &mut S,
     ) -> Result<(), WriteFailed>
         ensures printed { GrowsBy [] self.old (S.bytes out.old) (S.failures out.old) self.new (S.bytes out.new) (S.failures out.new) }
+        ensures engine { self.new.engine ≡ self.old.engine }
         ensures whole { OnOk result (self.new.printed.has_failed ≡ false) }
         ensures failed { IfErr result (λ _. self.new.printed.has_failed ≡ true) }
+        ensures all { OnOk result (self.new.printed.lines.waiting ≡ []) }
+        ensures answers { Answers (S.answers out.old) line fault (S.bytes out.new) result (S.answers out.new) }
     {
         self.printed.answer(line, fault, out)
     }
@@ -206,8 +230,9 @@ impl<'a> PrintedEngine<'a> {
 
     /// Prints the last line, hands all on, and says that nothing more comes. It reports a write that fails, or failed before.
     pub(crate) fn end<S: Outlet>(self, out: &mut S) -> Result<(), WriteFailed>
-        ensures told { (setup : Setup) (base : Option (List ℕ)) (failed : ℕ) → Grows (opened_printed setup) base failed self.entry (S.bytes out.old) (S.failures out.old) → Serves setup base result (S.bytes out.new) }
-        ensures failed { (setup : Setup) (base : Option (List ℕ)) (failed : ℕ) → Grows (opened_printed setup) base failed self.entry (S.bytes out.old) (S.failures out.old) → IfErr result (λ _. HasFailed failed (S.failures out.new)) }
+        ensures told { (setup : Setup) (base : Option (List ℕ)) (failed : ℕ) (records : List TheRecord) → GrowsBy records (opened_printed setup) base failed self.entry (S.bytes out.old) (S.failures out.old) → ServesBy setup base records result (S.bytes out.new) }
+        ensures failed { (setup : Setup) (base : Option (List ℕ)) (failed : ℕ) (records : List TheRecord) → GrowsBy records (opened_printed setup) base failed self.entry (S.bytes out.old) (S.failures out.old) → IfErr result (λ _. HasFailed failed (S.failures out.new)) }
+        ensures answers { S.answers out.new ≡ S.answers out.old }
     {
         let totals = self.totals();
         let PrintedEngine { engine: _, printed } = self;
@@ -219,7 +244,7 @@ impl<'a> PrintedEngine<'a> {
         if has_failed {
             return Err(WriteFailed);
         }
-        match lines.end(totals, out) {
+        match end(lines, totals, out) {
             Ok(()) => out.settle(),
             Err(failed) => Err(failed),
         }

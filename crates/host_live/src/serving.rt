@@ -1,15 +1,20 @@
 // A live engine from its opening, or from where it stands, to the end of its input. It relies on `host` for what lines ask, on `lines` for lines, and on
 // `printed_engine` for what goes out.
 
-ghost use Rattle.std.specs.Prelude.{◌≡◌, ◌≢◌, ℕ, [], Option, List, Ok, Err, IfErr, IfOk, IsTrue, OnOk, false, true};
+ghost use Rattle.std.specs.Prelude.{◌≡◌, ◌≢◌, ◌<◌, ◌^◌, ◌-◌, ℕ, [], Option, List, Ok, Err, IfErr, IfOk, IsTrue, OnErr, OnOk, false, true};
 ghost use Rattle.engine_core.specs.ByNumber.{IsBehind, NumberedState};
 ghost use Rattle.trace.specs.Sinks.{HasFailed};
 ghost use Rattle.world.specs.World.{Setup};
 ghost use Rattle.world_calls.specs.declared.record.Record.{Record as TheRecord};
-ghost use Rattle.host_live.specs.Growth.{Grows, StandsBehind, opened_printed, resumed_printed};
+ghost use Rattle.host_live.specs.Drafts.{IsDraftOf};
+ghost use Rattle.host_live.specs.Growth.{GrowsAs, GrowsBy, StandsBehind, opened_printed, resumed_printed};
+ghost use Rattle.host_live.specs.Inputs.{known_of};
+ghost use Rattle.host_live.specs.LinesCome.{IsTaken, Stands, Waits};
+ghost use Rattle.host_live.specs.Served.{AnswersTurn, Carries, CarriesCut, CarriesLine, CarriesReading, ContinuesTurns, DrivesFirst, EndsOr, EndsOrPart, GoesOnOr, GrowsWith, IsLineNow, IsPrintedBehind, NextIs, ServesBy, ServesTurns, TurnsOr};
 ghost use Rattle.host_live.specs.Telling.{Continues, Serves};
+ghost use Rattle.host_live.specs.Turns.{DrivesAll};
 ghost use Rattle.host_live.specs.declared.lines.Next.TheVariants.{End, Failed};
-ghost use Rattle.host_live.specs.declared.serving.Turn.TheVariants.{End as AtEnd};
+ghost use Rattle.host_live.specs.declared.serving.Turn.TheVariants.{End as AtEnd, Line as LineTurn};
 ghost use Rattle.host_live.specs.declared.serving.LiveFault.TheVariants.{Unread, Unwritten};
 
 use crate::host::{Host, HostFault, Served};
@@ -21,7 +26,7 @@ use crate::printed_engine::PrintedEngine;
 use crate::reports::Reports;
 use engine_core::{Config, NumberedEngine};
 use std::alloc::Global;
-use trace::{Sink, WriteFailed};
+use trace::WriteFailed;
 
 /// Why a live engine stopped before the end of its input.
 #[derive(Clone, Copy, Debug, PartialEq, Eq)]
@@ -59,7 +64,7 @@ impl From<HostFault> for LiveFault {
 enum Turn {
     /// A line.
     Line(Served),
-    /// A timer was due.
+    /// A timer was due, or no whole line came as yet.
     Timer,
     /// The input is at its end.
     End,
@@ -80,6 +85,8 @@ pub fn serve<I: Input, S: Outlet, N: Reports>(
 ) -> Result<(), LiveFault>
     // All that went out is the trace of an engine of this configuration; where it stopped, it is a front of one.
     ensures told { Serves config.now (S.bytes out.old) result (S.bytes out.new) }
+    // It is that of what the lines that came asked for, one by one up to the end of the input, and each was answered so.
+    ensures turned { ServesTurns config.now manner (I.came input.old) (I.came input.new) (S.bytes out.old) (S.answers out.old) result (S.bytes out.new) (S.answers out.new) }
     ensures unread { result ≡ Err Unread → IsTrue (I.has_failed input.new) }
     // The end of the input is no read that failed.
     ensures still { OnOk result (I.has_failed input.new ≡ I.has_failed input.old) }
@@ -89,7 +96,7 @@ pub fn serve<I: Input, S: Outlet, N: Reports>(
 {
     match PrintedEngine::open(alloc, config) {
         Ok(engine) => {
-            let host = Host::new(alloc, engine, manner);
+            let host = Host::new(alloc, engine);
             serve_all(host, manner, input, out, reports)
         }
         Err(_) => Err(LiveFault::OutOfMemory),
@@ -98,7 +105,7 @@ pub fn serve<I: Input, S: Outlet, N: Reports>(
 
 /// The same for an engine of this configuration that stands behind a history of so many records, of which the trace went out before: neither
 /// its first line goes out nor its last one. Unless runs stay out, those that are out are driven to their ends before a line is read. At the
-/// end of the input none is driven.
+/// end of the input none is driven. The input's clock goes on from what the engine's reads.
 pub fn serve_on<I: Input, S: Outlet, N: Reports>(
     alloc: Global,
     config: &Config,
@@ -113,13 +120,15 @@ pub fn serve_on<I: Input, S: Outlet, N: Reports>(
     requires behind { StandsBehind count engine }
     // All that went out continues the trace of each history that the engine stood behind; where it stopped, it is a front of what does.
     ensures told { (records : List TheRecord) → IsBehind records engine.entry → Continues config.now records (S.bytes out.old) result (S.bytes out.new) }
+    // It is that of the runs that were out, unless runs stay out, and then of what the lines that came asked for; and each was answered so.
+    ensures turned { (records : List TheRecord) → IsBehind records engine.entry → ContinuesTurns engine.entry manner (I.came input.old) (I.came input.new) records (S.bytes out.old) (S.answers out.old) result (S.bytes out.new) (S.answers out.new) }
     ensures unread { result ≡ Err Unread → IsTrue (I.has_failed input.new) }
     ensures still { OnOk result (I.has_failed input.new ≡ I.has_failed input.old) }
     ensures ended { manner.is_told ≡ false → OnOk result (IsTrue (I.has_ended input.new)) }
     ensures unwritten { result ≡ Err Unwritten → HasFailed (S.failures out.old) (S.failures out.new) }
 {
     let engine = PrintedEngine::resumed(config, engine, count);
-    let mut host = Host::new(alloc, engine, manner);
+    let mut host = Host::new(alloc, engine);
     serve_resumed(&mut host, manner, input, out, reports)
 }
 
@@ -131,11 +140,12 @@ fn serve_all<I: Input, S: Outlet, N: Reports>(
     out: &mut S,
     reports: &mut N,
 ) -> Result<(), LiveFault>
-    ensures told { (setup : Setup) (base : Option (List ℕ)) (failed : ℕ) → Grows (opened_printed setup) base failed host.entry.engine (S.bytes out.old) (S.failures out.old) → Serves setup base result (S.bytes out.new) }
+    ensures told { (setup : Setup) → host.entry.engine ≡ opened_printed setup → Serves setup (S.bytes out.old) result (S.bytes out.new) }
+    ensures turned { (setup : Setup) → host.entry.engine ≡ opened_printed setup → ServesTurns setup manner (I.came input.old) (I.came input.new) (S.bytes out.old) (S.answers out.old) result (S.bytes out.new) (S.answers out.new) }
     ensures unread { result ≡ Err Unread → IsTrue (I.has_failed input.new) }
     ensures still { OnOk result (I.has_failed input.new ≡ I.has_failed input.old) }
     ensures ended { manner.is_told ≡ false → OnOk result (IsTrue (I.has_ended input.new)) }
-    ensures unwritten { (setup : Setup) (base : Option (List ℕ)) (failed : ℕ) → Grows (opened_printed setup) base failed host.entry.engine (S.bytes out.old) (S.failures out.old) → result ≡ Err Unwritten → HasFailed failed (S.failures out.new) }
+    ensures unwritten { (setup : Setup) → host.entry.engine ≡ opened_printed setup → result ≡ Err Unwritten → HasFailed (S.failures out.old) (S.failures out.new) }
 {
     match serve_input(&mut host, manner, input, out, reports) {
         Ok(()) => end(host, out),
@@ -151,15 +161,17 @@ fn serve_input<I: Input, S: Outlet, N: Reports>(
     out: &mut S,
     reports: &mut N,
 ) -> Result<(), LiveFault>
-    ensures grown { Grows host.old.engine (S.bytes out.old) (S.failures out.old) host.new.engine (S.bytes out.new) (S.failures out.new) }
+    ensures grown { GrowsWith (TurnsOr manner host.old.engine.engine (IsPrintedBehind host.old.engine.printed (S.bytes out.old)) (known_of (I.came input.old)) (I.came input.new) result host.new.engine.engine) host.old.engine (S.bytes out.old) (S.failures out.old) (S.answers out.old) host.new.engine (S.bytes out.new) (S.failures out.new) (S.answers out.new) }
     ensures unread { result ≡ Err Unread → IsTrue (I.has_failed input.new) }
     ensures still { OnOk result (I.has_failed input.new ≡ I.has_failed input.old) }
     ensures ended { manner.is_told ≡ false → OnOk result (IsTrue (I.has_ended input.new)) }
     ensures unwritten { result ≡ Err Unwritten → host.new.engine.printed.has_failed ≡ true }
 {
-    let mut lines = Lines::of(input);
-    serve_lines(host, manner, input, &mut lines, out, reports)?;
-    drive_all(host, out)
+    let mut lines = Lines::of(input, host.clock());
+    match serve_lines(host, manner, input, &mut lines, out, reports) {
+        Ok(()) => drive_all(host, out),
+        Err(fault) => Err(fault),
+    }
 }
 
 // Drives the runs that are out, unless runs stay out, and serves the lines up to the input's end. All is handed on then.
@@ -170,7 +182,7 @@ fn serve_resumed<I: Input, S: Outlet, N: Reports>(
     out: &mut S,
     reports: &mut N,
 ) -> Result<(), LiveFault>
-    ensures grown { Grows host.old.engine (S.bytes out.old) (S.failures out.old) host.new.engine (S.bytes out.new) (S.failures out.new) }
+    ensures grown { GrowsWith (GoesOnOr manner host.old.engine.engine (IsPrintedBehind host.old.engine.printed (S.bytes out.old)) (known_of (I.came input.old)) (I.came input.new) result) host.old.engine (S.bytes out.old) (S.failures out.old) (S.answers out.old) host.new.engine (S.bytes out.new) (S.failures out.new) (S.answers out.new) }
     ensures unread { result ≡ Err Unread → IsTrue (I.has_failed input.new) }
     ensures still { OnOk result (I.has_failed input.new ≡ I.has_failed input.old) }
     ensures ended { manner.is_told ≡ false → OnOk result (IsTrue (I.has_ended input.new)) }
@@ -178,9 +190,44 @@ fn serve_resumed<I: Input, S: Outlet, N: Reports>(
     ensures all { OnOk result (host.new.engine.printed.lines.waiting ≡ []) }
     ensures whole { OnOk result (host.new.engine.printed.has_failed ≡ false) }
 {
-    drive_first(host, manner, out)?;
-    let mut lines = Lines::of(input);
-    serve_lines(host, manner, input, &mut lines, out, reports)?;
+    match drive_first(host, manner, out) {
+        Ok(()) => serve_behind(host, manner, input, out, reports),
+        Err(fault) => Err(fault),
+    }
+}
+
+// Serves the lines up to the input's end. All is handed on then.
+fn serve_behind<I: Input, S: Outlet, N: Reports>(
+    host: &mut Host<'_>,
+    manner: Manner,
+    input: &mut I,
+    out: &mut S,
+    reports: &mut N,
+) -> Result<(), LiveFault>
+    ensures grown { GrowsWith (EndsOrPart manner host.old.engine.engine (IsPrintedBehind host.old.engine.printed (S.bytes out.old)) (known_of (I.came input.old)) (I.came input.new) result) host.old.engine (S.bytes out.old) (S.failures out.old) (S.answers out.old) host.new.engine (S.bytes out.new) (S.failures out.new) (S.answers out.new) }
+    ensures unread { result ≡ Err Unread → IsTrue (I.has_failed input.new) }
+    ensures still { OnOk result (I.has_failed input.new ≡ I.has_failed input.old) }
+    ensures ended { manner.is_told ≡ false → OnOk result (IsTrue (I.has_ended input.new)) }
+    ensures unwritten { result ≡ Err Unwritten → host.new.engine.printed.has_failed ≡ true }
+    ensures all { OnOk result (host.new.engine.printed.lines.waiting ≡ []) }
+    ensures whole { OnOk result (host.new.engine.printed.has_failed ≡ false) }
+{
+    let mut lines = Lines::of(input, host.clock());
+    match serve_lines(host, manner, input, &mut lines, out, reports) {
+        Ok(()) => settle(host, out),
+        Err(fault) => Err(fault),
+    }
+}
+
+// Hands all on.
+fn settle<S: Outlet>(host: &mut Host<'_>, out: &mut S) -> Result<(), LiveFault>
+    ensures grown { GrowsBy [] host.old.engine (S.bytes out.old) (S.failures out.old) host.new.engine (S.bytes out.new) (S.failures out.new) }
+    ensures answers { S.answers out.new ≡ S.answers out.old }
+    ensures unread { result ≢ Err Unread }
+    ensures unwritten { result ≡ Err Unwritten → host.new.engine.printed.has_failed ≡ true }
+    ensures all { OnOk result (host.new.engine.printed.lines.waiting ≡ []) }
+    ensures whole { OnOk result (host.new.engine.printed.has_failed ≡ false) }
+{
     match host.engine.settle(out) {
         Ok(()) => Ok(()),
         Err(failed) => Err(LiveFault::from(failed)),
@@ -189,7 +236,8 @@ fn serve_resumed<I: Input, S: Outlet, N: Reports>(
 
 // Drives the runs that are out to their ends, unless runs stay out.
 fn drive_first<S: Outlet>(host: &mut Host<'_>, manner: Manner, out: &mut S) -> Result<(), LiveFault>
-    ensures grown { Grows host.old.engine (S.bytes out.old) (S.failures out.old) host.new.engine (S.bytes out.new) (S.failures out.new) }
+    ensures grown { GrowsAs (DrivesFirst manner result host.new.engine.engine) host.old.engine (S.bytes out.old) (S.failures out.old) host.new.engine (S.bytes out.new) (S.failures out.new) }
+    ensures answers { S.answers out.new ≡ S.answers out.old }
     ensures unread { result ≢ Err Unread }
     ensures unwritten { result ≡ Err Unwritten → host.new.engine.printed.has_failed ≡ true }
 {
@@ -202,7 +250,8 @@ fn drive_first<S: Outlet>(host: &mut Host<'_>, manner: Manner, out: &mut S) -> R
 
 // Drives the runs that are out to their ends.
 fn drive_all<S: Outlet>(host: &mut Host<'_>, out: &mut S) -> Result<(), LiveFault>
-    ensures grown { Grows host.old.engine (S.bytes out.old) (S.failures out.old) host.new.engine (S.bytes out.new) (S.failures out.new) }
+    ensures grown { GrowsAs (DrivesAll result host.new.engine.engine) host.old.engine (S.bytes out.old) (S.failures out.old) host.new.engine (S.bytes out.new) (S.failures out.new) }
+    ensures answers { S.answers out.new ≡ S.answers out.old }
     ensures unread { result ≢ Err Unread }
     ensures unwritten { result ≡ Err Unwritten → host.new.engine.printed.has_failed ≡ true }
 {
@@ -222,15 +271,25 @@ fn serve_lines<I: Input, S: Outlet, N: Reports>(
     reports: &mut N,
 ) -> Result<(), LiveFault>
     requires begun { IsTrue lines.old.is_ended → IsTrue (I.has_ended input.old) }
-    ensures grown { Grows host.old.engine (S.bytes out.old) (S.failures out.old) host.new.engine (S.bytes out.new) (S.failures out.new) }
+    requires number { lines.old.number ≡ 0 }
+    requires stands { Stands (known_of (I.came input.old)) (I.came input.old) lines.old [] }
+    ensures grown { GrowsWith (EndsOr manner host.old.engine.engine (IsPrintedBehind host.old.engine.printed (S.bytes out.old)) (known_of (I.came input.old)) (I.came input.new) result) host.old.engine (S.bytes out.old) (S.failures out.old) (S.answers out.old) host.new.engine (S.bytes out.new) (S.failures out.new) (S.answers out.new) }
     ensures unread { result ≡ Err Unread → IsTrue (I.has_failed input.new) }
     ensures still { OnOk result (I.has_failed input.new ≡ I.has_failed input.old) }
     ensures ended { manner.is_told ≡ false → OnOk result (IsTrue (I.has_ended input.new)) }
     ensures unwritten { result ≡ Err Unwritten → host.new.engine.printed.has_failed ≡ true }
 {
     for _ in 0..u64::MAX {
-        if !serve_next(host, manner, input, lines, out, reports)? {
-            return Ok(());
+        if lines.number() == usize::MAX {
+            return Err(LiveFault::InternalError);
+        }
+        match serve_next(host, manner, input, lines, out, reports) {
+            Ok(is_more) => {
+                if !is_more {
+                    return Ok(());
+                }
+            }
+            Err(fault) => return Err(fault),
         }
     }
     Err(LiveFault::InternalError)
@@ -246,17 +305,20 @@ fn serve_next<I: Input, S: Outlet, N: Reports>(
     reports: &mut N,
 ) -> Result<bool, LiveFault>
     requires begun { IsTrue lines.old.is_ended → IsTrue (I.has_ended input.old) }
-    ensures grown { Grows host.old.engine (S.bytes out.old) (S.failures out.old) host.new.engine (S.bytes out.new) (S.failures out.new) }
+    requires room { lines.old.number < 2 ^ 64 - 1 }
+    ensures turned { (base told : List ℕ) → Stands base (I.came input.old) lines.old told → GrowsWith (NextIs manner base told lines.old.number (I.came input.new) lines.new result host.new.engine.engine host.new.engine.printed (S.bytes out.new)) host.old.engine (S.bytes out.old) (S.failures out.old) (S.answers out.old) host.new.engine (S.bytes out.new) (S.failures out.new) (S.answers out.new) }
     ensures unread { result ≡ Err Unread → IsTrue (I.has_failed input.new) }
     ensures still { OnOk result (I.has_failed input.new ≡ I.has_failed input.old) }
     ensures going { IsTrue lines.new.is_ended → IsTrue (I.has_ended input.new) }
     ensures ended { manner.is_told ≡ false → IfOk result (λ is_more. is_more ≡ false → IsTrue (I.has_ended input.new)) }
     ensures unwritten { result ≡ Err Unwritten → host.new.engine.printed.has_failed ≡ true }
 {
-    let next = take_next(host, input, lines, out)?;
-    match carry_out(host, next, input, lines, out, reports) {
-        Ok(turn) => answer(host, manner, lines.number(), turn, out),
-        Err(fault) => Err(stop(host, out, fault)),
+    match take_next(host, input, lines, out) {
+        Ok(next) => match carry_out(host, manner, next, input, lines, out, reports) {
+            Ok(turn) => answer(host, manner, lines.number(), turn, out),
+            Err(fault) => Err(stop(host, out, fault)),
+        },
+        Err(fault) => Err(fault),
     }
 }
 
@@ -268,7 +330,11 @@ fn take_next<I: Input, S: Outlet>(
     out: &mut S,
 ) -> Result<Next, LiveFault>
     requires begun { IsTrue lines.old.is_ended → IsTrue (I.has_ended input.old) }
-    ensures grown { Grows host.old.engine (S.bytes out.old) (S.failures out.old) host.new.engine (S.bytes out.new) (S.failures out.new) }
+    requires room { lines.old.number < 2 ^ 64 - 1 }
+    ensures grown { GrowsBy [] host.old.engine (S.bytes out.old) (S.failures out.old) host.new.engine (S.bytes out.new) (S.failures out.new) }
+    ensures answers { S.answers out.new ≡ S.answers out.old }
+    ensures taken { (base told : List ℕ) → Stands base (I.came input.old) lines.old told → IfOk result (λ next. Waits base lines.old told next (I.came input.new) lines.new) }
+    ensures unmoved { OnErr result (I.came input.new ≡ I.came input.old) }
     ensures failed { result ≡ Ok Failed → IsTrue (I.has_failed input.new) }
     ensures still { result ≢ Ok Failed → I.has_failed input.new ≡ I.has_failed input.old }
     ensures going { IsTrue lines.new.is_ended → IsTrue (I.has_ended input.new) }
@@ -291,7 +357,10 @@ fn take_next<I: Input, S: Outlet>(
 // Waits for the next line, or for the next timer. Nothing waits to go out meanwhile.
 fn wait_next<I: Input>(host: &Host<'_>, input: &mut I, lines: &mut Lines) -> Next
     requires all { host.now.engine.printed.lines.waiting ≡ [] }
+    requires room { lines.old.number < 2 ^ 64 - 1 }
+    requires untold { lines.old.is_ended ≡ false → lines.old.is_told ≡ false }
     requires begun { IsTrue lines.old.is_ended → IsTrue (I.has_ended input.old) }
+    ensures waits { (base told : List ℕ) → Stands base (I.came input.old) lines.old told → IsTaken (I.came input.old) lines.old → Waits base lines.old told result (I.came input.new) lines.new }
     ensures failed { result ≡ Failed → IsTrue (I.has_failed input.new) }
     ensures still { result ≢ Failed → I.has_failed input.new ≡ I.has_failed input.old }
     ensures going { IsTrue lines.new.is_ended → IsTrue (I.has_ended input.new) }
@@ -301,31 +370,96 @@ fn wait_next<I: Input>(host: &Host<'_>, input: &mut I, lines: &mut Lines) -> Nex
 }
 
 // Carries out what the line asks that came, or takes the reading at which a timer is due.
-fn carry_out<I: Input, S: Sink, N: Reports>(
+fn carry_out<I: Input, S: Outlet, N: Reports>(
     host: &mut Host<'_>,
+    manner: Manner,
     next: Next,
     input: &I,
     lines: &Lines,
     out: &mut S,
     reports: &mut N,
 ) -> Result<Turn, LiveFault>
-    ensures grown { Grows host.old.engine (S.bytes out.old) (S.failures out.old) host.new.engine (S.bytes out.new) (S.failures out.new) }
+    ensures carried { (line : List ℕ) → IsLineNow next lines.now line → GrowsAs (Carries manner next line result host.new.engine.engine) host.old.engine (S.bytes out.old) (S.failures out.old) host.new.engine (S.bytes out.new) (S.failures out.new) }
+    ensures answers { S.answers out.new ≡ S.answers out.old }
     ensures unread { result ≡ Err Unread → next ≡ Failed }
     ensures read { OnOk result (next ≢ Failed) }
     ensures ended { result ≡ Ok AtEnd → next ≡ End }
     ensures written { result ≢ Err Unwritten }
 {
     match next {
-        Next::Line => {
-            let served = host.serve_line(lines.line(), lines.number(), input.now(), reports, out)?;
-            Ok(Turn::Line(served))
-        }
-        Next::Due(reading) => {
-            host.read_clock(reading, out)?;
-            Ok(Turn::Timer)
-        }
+        Next::Line => carry_line(host, manner, input, lines, out, reports),
+        Next::Cut => carry_cut(host, manner, input, lines, out, reports),
+        Next::Nothing => Ok(Turn::Timer),
+        Next::Due(reading) => carry_reading(host, reading, out),
         Next::End => Ok(Turn::End),
         Next::Failed => Err(LiveFault::Unread),
+    }
+}
+
+// Carries out what the line asks that came.
+fn carry_line<I: Input, S: Outlet, N: Reports>(
+    host: &mut Host<'_>,
+    manner: Manner,
+    input: &I,
+    lines: &Lines,
+    out: &mut S,
+    reports: &mut N,
+) -> Result<Turn, LiveFault>
+    ensures carried { (line : List ℕ) → IsDraftOf line lines.now.draft → lines.now.is_ended ≡ false → GrowsAs (CarriesLine manner line result host.new.engine.engine) host.old.engine (S.bytes out.old) (S.failures out.old) host.new.engine (S.bytes out.new) (S.failures out.new) }
+    ensures answers { S.answers out.new ≡ S.answers out.old }
+    ensures unread { result ≢ Err Unread }
+    ensures ended { result ≢ Ok AtEnd }
+    ensures written { result ≢ Err Unwritten }
+{
+    match host.serve_line(
+        manner,
+        lines.line(),
+        lines.number(),
+        lines.now(input),
+        reports,
+        out,
+    ) {
+        Ok(served) => Ok(Turn::Line(served)),
+        Err(fault) => Err(LiveFault::from(fault)),
+    }
+}
+
+// A line that is cut off asks for nothing.
+fn carry_cut<I: Input, S: Outlet, N: Reports>(
+    host: &mut Host<'_>,
+    manner: Manner,
+    input: &I,
+    lines: &Lines,
+    out: &mut S,
+    reports: &mut N,
+) -> Result<Turn, LiveFault>
+    ensures carried { GrowsAs (CarriesCut result) host.old.engine (S.bytes out.old) (S.failures out.old) host.new.engine (S.bytes out.new) (S.failures out.new) }
+    ensures answers { S.answers out.new ≡ S.answers out.old }
+    ensures unread { result ≢ Err Unread }
+    ensures ended { result ≢ Ok AtEnd }
+    ensures written { result ≢ Err Unwritten }
+{
+    match host.serve_asked(manner, None, lines.number(), lines.now(input), reports, out) {
+        Ok(served) => Ok(Turn::Line(served)),
+        Err(fault) => Err(LiveFault::from(fault)),
+    }
+}
+
+// Takes the reading at which a timer is due.
+fn carry_reading<S: Outlet>(
+    host: &mut Host<'_>,
+    reading: u64,
+    out: &mut S,
+) -> Result<Turn, LiveFault>
+    ensures carried { GrowsAs (CarriesReading reading result) host.old.engine (S.bytes out.old) (S.failures out.old) host.new.engine (S.bytes out.new) (S.failures out.new) }
+    ensures answers { S.answers out.new ≡ S.answers out.old }
+    ensures unread { result ≢ Err Unread }
+    ensures ended { result ≢ Ok AtEnd }
+    ensures written { result ≢ Err Unwritten }
+{
+    match host.read_clock(reading, out) {
+        Ok(()) => Ok(Turn::Timer),
+        Err(fault) => Err(LiveFault::from(fault)),
     }
 }
 
@@ -337,7 +471,9 @@ fn answer<S: Outlet>(
     turn: Turn,
     out: &mut S,
 ) -> Result<bool, LiveFault>
-    ensures grown { Grows host.old.engine (S.bytes out.old) (S.failures out.old) host.new.engine (S.bytes out.new) (S.failures out.new) }
+    ensures grown { GrowsBy [] host.old.engine (S.bytes out.old) (S.failures out.old) host.new.engine (S.bytes out.new) (S.failures out.new) }
+    ensures engine { host.new.engine.engine ≡ host.old.engine.engine }
+    ensures answers { AnswersTurn manner line turn (S.answers out.old) result (S.answers out.new) host.new.engine.printed (S.bytes out.new) }
     ensures unread { result ≢ Err Unread }
     ensures ended { manner.is_told ≡ false → IfOk result (λ is_more. is_more ≡ false → turn ≡ AtEnd) }
     ensures unwritten { result ≡ Err Unwritten → host.new.engine.printed.has_failed ≡ true }
@@ -357,7 +493,9 @@ fn answer_line<S: Outlet>(
     served: Served,
     out: &mut S,
 ) -> Result<bool, LiveFault>
-    ensures grown { Grows host.old.engine (S.bytes out.old) (S.failures out.old) host.new.engine (S.bytes out.new) (S.failures out.new) }
+    ensures grown { GrowsBy [] host.old.engine (S.bytes out.old) (S.failures out.old) host.new.engine (S.bytes out.new) (S.failures out.new) }
+    ensures engine { host.new.engine.engine ≡ host.old.engine.engine }
+    ensures answers { AnswersTurn manner line (LineTurn served) (S.answers out.old) result (S.answers out.new) host.new.engine.printed (S.bytes out.new) }
     ensures unread { result ≢ Err Unread }
     ensures more { manner.is_told ≡ false → IfOk result (λ is_more. is_more ≡ true) }
     ensures unwritten { result ≡ Err Unwritten → host.new.engine.printed.has_failed ≡ true }
@@ -374,7 +512,8 @@ fn answer_line<S: Outlet>(
 // Hands all on where the engine stops for that fault, or for the one that this meets.
 fn stop<S: Outlet>(host: &mut Host<'_>, out: &mut S, fault: LiveFault) -> LiveFault
     requires written { fault ≢ Unwritten }
-    ensures grown { Grows host.old.engine (S.bytes out.old) (S.failures out.old) host.new.engine (S.bytes out.new) (S.failures out.new) }
+    ensures grown { GrowsBy [] host.old.engine (S.bytes out.old) (S.failures out.old) host.new.engine (S.bytes out.new) (S.failures out.new) }
+    ensures answers { S.answers out.new ≡ S.answers out.old }
     ensures unread { result ≡ Unread → fault ≡ Unread }
     ensures unwritten { result ≡ Unwritten → host.new.engine.printed.has_failed ≡ true }
 {
@@ -386,9 +525,10 @@ fn stop<S: Outlet>(host: &mut Host<'_>, out: &mut S, fault: LiveFault) -> LiveFa
 
 // Prints the last line.
 fn end<S: Outlet>(host: Host<'_>, out: &mut S) -> Result<(), LiveFault>
-    ensures told { (setup : Setup) (base : Option (List ℕ)) (failed : ℕ) → Grows (opened_printed setup) base failed host.entry.engine (S.bytes out.old) (S.failures out.old) → Serves setup base result (S.bytes out.new) }
+    ensures told { (setup : Setup) (base : Option (List ℕ)) (failed : ℕ) (records : List TheRecord) → GrowsBy records (opened_printed setup) base failed host.entry.engine (S.bytes out.old) (S.failures out.old) → ServesBy setup base records result (S.bytes out.new) }
+    ensures answers { S.answers out.new ≡ S.answers out.old }
     ensures failed { IfErr result (λ fault. fault ≡ Unwritten) }
-    ensures unwritten { (setup : Setup) (base : Option (List ℕ)) (failed : ℕ) → Grows (opened_printed setup) base failed host.entry.engine (S.bytes out.old) (S.failures out.old) → IfErr result (λ _. HasFailed failed (S.failures out.new)) }
+    ensures unwritten { (setup : Setup) (base : Option (List ℕ)) (failed : ℕ) (records : List TheRecord) → GrowsBy records (opened_printed setup) base failed host.entry.engine (S.bytes out.old) (S.failures out.old) → IfErr result (λ _. HasFailed failed (S.failures out.new)) }
 {
     match host.into_engine().end(out) {
         Ok(()) => Ok(()),

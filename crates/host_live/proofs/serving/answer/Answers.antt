@@ -1,8 +1,8 @@
-use Rattle.host_live.proofs.Growing.{grows_none}
+use Rattle.host_live.proofs.Growing.{by_none}
 use Rattle.host_live.proofs.serving.answer.Goals as goal
 
 pub returns-in-Timer-clause-grown : goal.returns-in-Timer-clause-grown
-returns-in-Timer-clause-grown g c = grows_none _ _ _
+returns-in-Timer-clause-grown g c = by_none _ _ _
 
 pub returns-in-End-clause-grown : goal.returns-in-End-clause-grown
-returns-in-End-clause-grown g c = grows_none _ _ _
+returns-in-End-clause-grown g c = by_none _ _ _

@@ -1,8 +1,21 @@
-use Rattle.host_live.proofs.Growing.{grows_none}
+use Rattle.std.proofs.Common.{refl}
+use Rattle.host_live.proofs.Growing.{as_none}
 use Rattle.host_live.proofs.serving.carry_out.Goals as goal
 
-pub returns-in-End-clause-grown : goal.returns-in-End-clause-grown
-returns-in-End-clause-grown g c = grows_none _ _ _
+pub returns-in-Line-clause-carried : goal.returns-in-Line-clause-carried
+returns-in-Line-clause-carried g c = λ line it. rw c.in-Line.is (let now = rw c.in-Line.is at it in c.carry_line.ensures.carried line now.0 now.1)
 
-pub returns-in-Failed-clause-grown : goal.returns-in-Failed-clause-grown
-returns-in-Failed-clause-grown g c = grows_none _ _ _
+pub returns-in-Cut-clause-carried : goal.returns-in-Cut-clause-carried
+returns-in-Cut-clause-carried g c = λ line it. rw c.in-Cut.is (c.carry_cut.ensures.carried)
+
+pub returns-in-Nothing-clause-carried : goal.returns-in-Nothing-clause-carried
+returns-in-Nothing-clause-carried g c = λ line it. rw c.in-Nothing.is (as_none _ _ _ refl)
+
+pub returns-in-Due-clause-carried : goal.returns-in-Due-clause-carried
+returns-in-Due-clause-carried g c = λ line it. rw c.in-Due.is (c.carry_reading.ensures.carried)
+
+pub returns-in-End-clause-carried : goal.returns-in-End-clause-carried
+returns-in-End-clause-carried g c = λ line it. rw c.in-End.is (as_none _ _ _ refl)
+
+pub returns-in-Failed-clause-carried : goal.returns-in-Failed-clause-carried
+returns-in-Failed-clause-carried g c = λ line it. rw c.in-Failed.is (as_none _ _ _ refl)

@@ -1,5 +1,5 @@
-use Rattle.host_live.proofs.Growing.{grows_both}
+use Rattle.host_live.proofs.Growing.{as_then}
 use Rattle.host_live.proofs.serving.drive_all.Goals as goal
 
 pub returns-in-Err-clause-grown : goal.returns-in-Err-clause-grown
-returns-in-Err-clause-grown g c = grows_both _ _ _ _ _ _ _ _ _ c.drive_all.ensures c.stop.ensures.grown
+returns-in-Err-clause-grown g c = as_then _ _ _ _ _ _ _ _ _ c.in-Err.ensures.grown c.stop.ensures.grown

@@ -1,17 +1,15 @@
-use Rattle.host_live.proofs.Growing.{grows_both, grows_none}
+use Rattle.std.proofs.Common.{◌≡◌, false, [], rules}
+use Rattle.host_live.proofs.Growing.{as_both, as_none, as_these}
+use Rattle.host_live.specs.Turns.{not_held, part_none}
+use Rattle.host_live.specs.declared.request.Request.TheVariants as asks
+use Rattle.host_live.proofs.Turning.{read_and, read_none, read_only}
 use Rattle.host_live.proofs.host.Host.call.Goals as goal
 
-pub returns-then-not-is_held : goal.returns-then-not-is_held
-returns-then-not-is_held g c = grows_none _ _ _
+pub returns-then-not-is_held-clause-grown : goal.returns-then-not-is_held-clause-grown
+returns-then-not-is_held-clause-grown g c = let none : c.is_held.result ≡ false = search (rules, c.if-not-is_held.true) in as_none _ _ _ (read_none c.args.now [] (not_held c.args.call c.args.self.now.engine.engine (c.is_held.ensures none)))
 
-pub returns-in-Started : goal.returns-in-Started
-returns-in-Started g c = grows_both _ _ _ _ _ _ _ _ _ (grows_both _ _ _ _ _ _ _ _ _ c.read_pending.ensures c.answered.ensures) c.drive.ensures
+pub returns-in-Ok-clause-grown : goal.returns-in-Ok-clause-grown
+returns-in-Ok-clause-grown g c = as_both _ _ _ _ _ _ _ _ _ (λ more others read acts. read_and c.args.now more others read acts) c.in-Ok.ensures.grown c.call_here.ensures.grown
 
-pub returns-in_default : goal.returns-in_default
-returns-in_default g c = grows_both _ _ _ _ _ _ _ _ _ c.read_pending.ensures c.answered.ensures
-
-pub returns-in_err-run : goal.returns-in_err-run
-returns-in_err-run g c = grows_both _ _ _ _ _ _ _ _ _ c.read_pending.ensures c.answered.ensures
-
-pub returns-in_default-2 : goal.returns-in_default-2
-returns-in_default-2 g c = grows_both _ _ _ _ _ _ _ _ _ c.read_pending.ensures c.answered.ensures
+pub returns-in-Err-clause-grown : goal.returns-in-Err-clause-grown
+returns-in-Err-clause-grown g c = as_these _ _ _ _ _ _ (λ more read. read_only c.args.now more (part_none (asks.Call c.args.call)) read) c.in-Err.ensures.grown

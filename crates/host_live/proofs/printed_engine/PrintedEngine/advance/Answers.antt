@@ -16,12 +16,12 @@ returns-then-self-ge18446744073709551615-clause-refused g c = by_none c.args.sel
 pub returns-then-is_exit-clause-made : goal.returns-then-is_exit-clause-made
 returns-then-is_exit-clause-made g c =
     let told = subst (λ (o : Option Record). Advances c.self.inside.engine c.args.run o c.advance.new.self) c.in-Ok-Some.field-0-is c.in-Ok-Some.ensures.advanced in
-    (c.in-Ok-Some.entry ∷ [], (c.in-Ok-Some.entry, told.0, refl), rw (← c.self.view_is) (by_one c.self.inside.engine c.advance.new.self c.self.inside.printed c.print.new.self _ _ _ _ c.in-Ok-Some.entry told.1 c.advance.ensures.setup c.print.ensures))
+    (c.in-Ok-Some.entry ∷ [], (c.in-Ok-Some.entry, told.0, c.is_exit.ensures c.if-is_exit.true, refl), rw (← c.self.view_is) (by_one c.self.inside.engine c.advance.new.self c.self.inside.printed c.print.new.self _ _ _ _ c.in-Ok-Some.entry told.1 c.advance.ensures.setup c.print.ensures.printed))
 
 pub returns-in-Ok-Some-clause-made : goal.returns-in-Ok-Some-clause-made
 returns-in-Ok-Some-clause-made g c =
     let told = subst (λ (o : Option Record). Advances c.self.inside.engine c.args.run o c.advance.new.self) c.in-Ok-Some.field-0-is c.in-Ok-Some.ensures.advanced in
-    (c.in-Ok-Some.entry ∷ [], (c.in-Ok-Some.entry, told.0, refl), rw (← c.self.view_is) (by_one c.self.inside.engine c.advance.new.self c.self.inside.printed c.print.new.self _ _ _ _ c.in-Ok-Some.entry told.1 c.advance.ensures.setup c.print.ensures))
+    (c.in-Ok-Some.entry ∷ [], (c.in-Ok-Some.entry, told.0, refl), rw (← c.self.view_is) (by_one c.self.inside.engine c.advance.new.self c.self.inside.printed c.print.new.self _ _ _ _ c.in-Ok-Some.entry told.1 c.advance.ensures.setup c.print.ensures.printed))
 
 pub returns-in-Ok-None-clause-made : goal.returns-in-Ok-None-clause-made
 returns-in-Ok-None-clause-made g c =

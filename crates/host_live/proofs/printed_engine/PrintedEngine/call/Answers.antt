@@ -15,10 +15,10 @@ print-requires-clause-spelled g c =
 pub invariant_of-self : goal.invariant_of-self
 invariant_of-self g c =
     let follows = subst (λ (o : Option CallAnswer). AnswersCall c.self.inside.engine c.args.call o c.call-2.new.self) c.in-Ok-Some.field-0-is c.in-Ok-Some.ensures.answered in
-    underway_on c.self.inside.engine c.call-2.new.self c.self.inside.printed c.print.new.self (Called c.in-Ok-Some.answer c.args.call) c.self.invariant follows c.call-2.ensures.setup c.print.ensures.version
+    underway_on c.self.inside.engine c.call-2.new.self c.self.inside.printed c.print.new.self (Called c.in-Ok-Some.answer c.args.call) c.self.invariant follows c.call-2.ensures.setup c.print.ensures.printed.version
 
-pub returns-in-Ok-Some : goal.returns-in-Ok-Some
-returns-in-Ok-Some g c =
+pub returns-in-Ok-Some-clause-grown : goal.returns-in-Ok-Some-clause-grown
+returns-in-Ok-Some-clause-grown g c =
     let follows = subst (λ (o : Option CallAnswer). AnswersCall c.self.inside.engine c.args.call o c.call-2.new.self) c.in-Ok-Some.field-0-is c.in-Ok-Some.ensures.answered in
     let same : c.match-entry.self ≡ record { engine = c.call-2.new.self; printed = c.print.new.self } = elim c.match-entry.branch [
       | in-Called+in-Complete+in-Whole-1 w ↦ w.self-is
@@ -27,13 +27,13 @@ returns-in-Ok-Some g c =
       | in-Advance+in-Trace-1 w ↦ w.self-is
       | in-Advance+in-Helper-1 w ↦ w.self-is
     ] in
-    rw (same, ← c.self.view_is) (by_one c.self.inside.engine c.call-2.new.self c.self.inside.printed c.print.new.self _ _ _ _ (Called c.in-Ok-Some.answer c.args.call) follows c.call-2.ensures.setup c.print.ensures)
+    rw (same, ← c.self.view_is) (by_one c.self.inside.engine c.call-2.new.self c.self.inside.printed c.print.new.self _ _ _ _ (Called c.in-Ok-Some.answer c.args.call) follows c.call-2.ensures.setup c.print.ensures.printed)
 
-pub returns-then-self-ge18446744073709551615 : goal.returns-then-self-ge18446744073709551615
-returns-then-self-ge18446744073709551615 g c = by_none c.args.self.now _ _
+pub returns-then-self-ge18446744073709551615-clause-grown : goal.returns-then-self-ge18446744073709551615-clause-grown
+returns-then-self-ge18446744073709551615-clause-grown g c = by_none c.args.self.now _ _
 
-pub returns-in-Ok-None : goal.returns-in-Ok-None
-returns-in-Ok-None g c =
+pub returns-in-Ok-None-clause-grown : goal.returns-in-Ok-None-clause-grown
+returns-in-Ok-None-clause-grown g c =
     let none = subst (λ (o : Option CallAnswer). AnswersCall c.self.inside.engine c.args.call o c.call-2.new.self) c.in-Ok-None.field-0-is c.in-Ok-None.ensures.answered in
     let same : c.match-call-5.self ≡ record { engine = c.call-2.new.self; printed = c.self.inside.printed } = elim c.match-call-5.branch [
       | in-Complete+in-Whole-2 w ↦ w.self-is
@@ -42,8 +42,8 @@ returns-in-Ok-None g c =
     ] in
     rw (same, ← c.self.view_is) (by_still c.self.inside.engine c.call-2.new.self c.self.inside.printed _ _ none.0)
 
-pub returns-in-Err : goal.returns-in-Err
-returns-in-Err g c =
+pub returns-in-Err-clause-grown : goal.returns-in-Err-clause-grown
+returns-in-Err-clause-grown g c =
     let same : c.match-call-7.self ≡ record { engine = c.call-2.new.self; printed = c.self.inside.printed } = elim c.match-call-7.branch [
       | in-Complete+in-Whole-3 w ↦ w.self-is
       | in-Complete+in-WithoutSense-3 w ↦ w.self-is

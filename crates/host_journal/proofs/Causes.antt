@@ -1,6 +1,6 @@
 -- Why a start was refused, told of more steps, and of what the folder holds.
 use Rattle.std.proofs.Common.{◌≡◌, ◌≢◌, ◌∙◌, ◌⊎◌, inl, inr, ◌≤◌, ℕ, true, false, Option, Some, None, Result, Ok, Err, List, [], length, ap, refl, sym, subst, arith, IsUtf8}
-use Rattle.std.specs.Prelude.{IfErr, IfSome}
+use Rattle.std.specs.Prelude.{IfErr, IfSome, MatchResult, OnErr}
 use Rattle.base.specs.declared.or_memory.OrMemory.{OrMemory}
 use Rattle.base.specs.declared.or_memory.OrMemory.TheVariants.{OutOfMemory, Fault}
 use Rattle.manifest.specs.Meaning.{HasFault}
@@ -9,10 +9,10 @@ use Rattle.host_recovery.specs.Sources.{IsAll}
 use Rattle.host_recovery.specs.declared.fault.RecoveryFault.{RecoveryFault}
 use Rattle.host_recovery.specs.declared.recovering.TheConstants.{MOST_WHOLE}
 use Rattle.world.specs.World.{Setup}
-use Rattle.host_journal.specs.Disks.{CutTo, EndsIn, Failed, FolderMade, Held, HoldsNothing, IsFailed, IsRefused, IsText, Locked, Opened, Step, with_step}
+use Rattle.host_journal.specs.Disks.{CutTo, EndsIn, Failed, FolderMade, Held, HoldsNothing, IsFailed, IsFailedBy, IsFolderMade, IsQuiet, IsRefused, IsText, Locked, Opened, Step, with_step}
 use Rattle.host_journal.specs.Faults.{file_error}
 use Rattle.host_journal.specs.Listings.{IsEmptyJournal}
-use Rattle.host_journal.specs.Starts.{AreNoSegment, Cuts, CutsOff, Fails, HasCause, IsEntered, IsFileFault, IsGivenOther, IsItsManifest, IsNewest, IsNoFirst, IsOther, IsOwnFault, IsToldOf, IsUnfit, IsUnmade, IsUnread, IsUnreadSegment, OpensNext, Replays, missing}
+use Rattle.host_journal.specs.Starts.{AreNoSegment, Cuts, CutsOff, Fails, HasCause, HasEntered, HasEnteredFor, IsAccepted, IsEntered, IsFileFault, IsGivenOther, IsItsManifest, IsMadeOrNot, IsNewest, IsNoFirst, IsNotMadeFor, IsOther, IsOwnFault, IsShutOut, IsShutOutFor, IsTextFault, IsToldOf, IsUnfit, IsUnmade, IsUnmadeFor, IsUnread, IsUnreadSegment, OpensNext, Replays, missing}
 use Rattle.host_journal.specs.declared.disk.DiskFault.{DiskFault}
 use Rattle.host_journal.specs.declared.disk.DiskFault.TheVariants as disk
 use Rattle.host_journal.specs.declared.fault.JournalFault.{JournalFault}
@@ -23,14 +23,15 @@ use Rattle.host_journal.proofs.Quiet.{WentOn, ends_on, ends_step, quiet_same, qu
 
 -- ---- of more steps
 
-pub unread_on : (known : Option (List ℕ)) (old mid new : Option (List Step)) → WentOn old mid → IsUnread known mid new → IsUnread known old new
-unread_on known old mid new went unread = elim unread [ inl ends ↦ inl (ends_on IsFailed old mid new went ends) | inr none ↦ inr none ]
+pub unread_on : (number : ℕ) (known : Option (List ℕ)) (old mid new : Option (List Step)) → WentOn old mid → IsUnread number known mid new → IsUnread number known old new
+unread_on number known old mid new went unread = elim unread [ inl ends ↦ inl (ends_on (IsFailed (files.Segment number)) old mid new went ends) | inr none ↦ inr none ]
 
 file_on : (held : Held) (file : JournalFile) (old mid new : Option (List Step)) → WentOn old mid → IsFileFault held file mid new → IsFileFault held file old new
-file_on held files.Folder old mid new went fails = ends_on IsFailed old mid new went fails
-file_on held files.Lock old mid new went fails = ends_on IsFailed old mid new went fails
-file_on held (files.Manifest number) old mid new went fails = (fails.0, elim fails.1 [ inl ends ↦ inl (ends_on IsFailed old mid new went ends) | inr bad ↦ inr bad ])
-file_on held (files.Segment number) old mid new went fails = (fails.0, unread_on (held.segments number) old mid new went fails.1)
+file_on held files.Folder old mid new went fails = ends_on (IsFailed files.Folder) old mid new went fails
+file_on held files.Lock old mid new went fails =
+    elim fails [ inl ends ↦ inl (ends_on (IsFailedBy files.Lock disk.Failed) old mid new went ends) | inr its ↦ inr (its.0, ends_on IsFolderMade old mid its.0 went its.1, its.2) ]
+file_on held (files.Manifest number) old mid new went fails = (fails.0, elim fails.1 [ inl ends ↦ inl (ends_on (IsFailed (files.Manifest number)) old mid new went ends) | inr bad ↦ inr bad ])
+file_on held (files.Segment number) old mid new went fails = (fails.0, unread_on number (held.segments number) old mid new went fails.1)
 
 pub fails_on : (held : Held) (given : Option (List ℕ)) (old mid new : Option (List Step)) (error : OrMemory JournalFault) → WentOn old mid → Fails held given mid new error → Fails held given old new error
 fails_on held given old mid new OutOfMemory went fails = tt
@@ -100,7 +101,7 @@ pub own_refused : (held : Held) (number : ℕ) (given : Option (List ℕ)) (byte
     → IsOwnFault number bytes error → Fails held given old new error
 own_refused held number given bytes old new OutOfMemory newest is own = tt
 own_refused held number given bytes old new (Fault (faults.File (files.Manifest other))) newest is own =
-    subst (λ (n : ℕ). IfSome held.names (λ names. IsNewest names n) × (EndsIn IsFailed old new ⊎ IfSome (held.manifests n) (λ its. IsUtf8 its → ⊥))) (sym own.0) (newest, inr (at_known (λ (its : List ℕ). IsUtf8 its → ⊥) (held.manifests number) bytes is own.1))
+    subst (λ (n : ℕ). IfSome held.names (λ names. IsNewest names n) × (EndsIn (IsFailed (files.Manifest n)) old new ⊎ IfSome (held.manifests n) (λ its. IsUtf8 its → ⊥))) (sym own.0) (newest, inr (at_known (λ (its : List ℕ). IsUtf8 its → ⊥) (held.manifests number) bytes is own.1))
 own_refused held number given bytes old new (Fault (faults.Manifest other fault)) newest is own =
     subst (λ (n : ℕ). IfSome held.names (λ names. IsNewest names n) × IfSome (held.manifests n) (λ its. HasFault its fault)) (sym own.0) (newest, at_known (λ (its : List ℕ). HasFault its fault) (held.manifests number) bytes is own.1)
 own_refused held number given bytes old new (Fault fault) newest is own = absurd own
@@ -109,7 +110,7 @@ pub unread_refused : (held : Held) (number : ℕ) (given : Option (List ℕ)) (o
     → IsUnreadSegment number (held.segments number) mid new error → Fails held given old new error
 unread_refused held number given old mid new OutOfMemory newest went unread = tt
 unread_refused held number given old mid new (Fault (faults.File (files.Segment other))) newest went unread =
-    subst (λ (n : ℕ). IfSome held.names (λ names. IsNewest names n) × IsUnread (held.segments n) old new) (sym unread.0) (newest, unread_on (held.segments number) old mid new went unread.1)
+    subst (λ (n : ℕ). IfSome held.names (λ names. IsNewest names n) × IsUnread n (held.segments n) old new) (sym unread.0) (newest, unread_on number (held.segments number) old mid new went unread.1)
 unread_refused held number given old mid new (Fault fault) newest went unread = absurd unread
 
 -- ---- of what comes after
@@ -123,22 +124,28 @@ fails_after held given old mid new step result is fails = fails_after_all held g
 
 -- ---- a call that failed
 
-pub unmade : (old mid new : Option (List Step)) (fault : DiskFault) (file : JournalFile) → WentOn old mid → new ≡ with_step mid (Failed fault) → IsUnmade old new (file_error fault file)
+pub unmade : (old mid new : Option (List Step)) (fault : DiskFault) (file : JournalFile) → WentOn old mid → new ≡ with_step mid (Failed file fault) → IsUnmade old new (file_error fault file)
 unmade old mid new disk.OutOfMemory file went is = tt
-unmade old mid new disk.Missing file went is = ends_on IsFailed old mid new went (ends_step IsFailed mid new (Failed disk.Missing) tt is)
-unmade old mid new disk.Failed file went is = ends_on IsFailed old mid new went (ends_step IsFailed mid new (Failed disk.Failed) tt is)
+unmade old mid new disk.Missing file went is = ends_on (IsFailed file) old mid new went (ends_step (IsFailed file) mid new (Failed file disk.Missing) refl is)
+unmade old mid new disk.Failed file went is = ends_on (IsFailed file) old mid new went (ends_step (IsFailed file) mid new (Failed file disk.Failed) refl is)
 
-pub cut_failed : (number : ℕ) (recovered : Recovered) (old new : Option (List Step)) (fault : DiskFault) → new ≡ with_step old (Failed fault) → CutsOff number recovered old (Err (file_error fault (files.Segment number))) new
-cut_failed number recovered old new disk.OutOfMemory is = quiet_step old new (Failed disk.OutOfMemory) refl is
-cut_failed number recovered old new disk.Missing is = (refl, quiet_step old new (Failed disk.Missing) refl is, ends_step IsFailed old new (Failed disk.Missing) tt is)
-cut_failed number recovered old new disk.Failed is = (refl, quiet_step old new (Failed disk.Failed) refl is, ends_step IsFailed old new (Failed disk.Failed) tt is)
+-- that of the lock, where the folder was made before
+pub unlocked_after : (held : Held) (given : Option (List ℕ)) (old mid new : Option (List Step)) (fault : DiskFault) → mid ≡ with_step old FolderMade → new ≡ with_step mid (Failed files.Lock fault) → Fails held given old new (file_error fault files.Lock)
+unlocked_after held given old mid new disk.OutOfMemory made is = tt
+unlocked_after held given old mid new disk.Missing made is = inr (mid, ends_step IsFolderMade old mid FolderMade tt made, ends_step (IsFailed files.Lock) mid new (Failed files.Lock disk.Missing) refl is)
+unlocked_after held given old mid new disk.Failed made is = inr (mid, ends_step IsFolderMade old mid FolderMade tt made, ends_step (IsFailed files.Lock) mid new (Failed files.Lock disk.Failed) refl is)
+
+pub cut_failed : (number : ℕ) (recovered : Recovered) (old new : Option (List Step)) (fault : DiskFault) → new ≡ with_step old (Failed (files.Segment number) fault) → CutsOff number recovered old (Err (file_error fault (files.Segment number))) new
+cut_failed number recovered old new disk.OutOfMemory is = quiet_step old new (Failed (files.Segment number) disk.OutOfMemory) refl is
+cut_failed number recovered old new disk.Missing is = (refl, quiet_step old new (Failed (files.Segment number) disk.Missing) refl is, ends_step (IsFailed (files.Segment number)) old new (Failed (files.Segment number) disk.Missing) refl is)
+cut_failed number recovered old new disk.Failed is = (refl, quiet_step old new (Failed (files.Segment number) disk.Failed) refl is, ends_step (IsFailed (files.Segment number)) old new (Failed (files.Segment number) disk.Failed) refl is)
 
 -- ---- a segment that was not replayed
 
-pub told_cause : (number : ℕ) (known : Option (List ℕ)) (fault : RecoveryFault) (old mid new : Option (List Step)) (told : JournalFault) → WentOn old mid → IsToldOf number known fault mid new told → HasCause known old new (Fault told)
-told_cause number known fault old mid new (faults.File (files.Segment other)) went told = unread_on known old mid new went told.1
-told_cause number known fault old mid new (faults.File file) went told = absurd told
-told_cause number known fault old mid new other went told = tt
+pub told_cause : (number : ℕ) (known : Option (List ℕ)) (fault : RecoveryFault) (old mid new : Option (List Step)) (told : JournalFault) → IsTextFault fault → WentOn old mid → IsToldOf number known fault mid new told → HasCause number known old new (Fault told)
+told_cause number known fault old mid new (faults.File (files.Segment other)) of_text went told = unread_on number known old mid new went told.1
+told_cause number known fault old mid new (faults.Segment other own) of_text went told = subst IsTextFault (sym told.1) of_text
+told_cause number known fault old mid new other of_text went told = absurd told
 
 pub too_long : (known : Option (List ℕ)) (text : List ℕ) → IsAll known text → MOST_WHOLE ≤ length text → AreNoSegment known
 too_long None text is many = tt
@@ -153,7 +160,7 @@ opens_next setup number known old mid new recovered (Ok cut) opened replays cuts
     (ap (λ (r : Recovered). r.is_ended) cuts.0 ∙ cuts.1, its)
 opens_next setup number known old mid new recovered (Err OutOfMemory) opened replays cuts = (tt, tt)
 opens_next setup number known old mid new recovered (Err (Fault (faults.Ended other))) opened replays cuts = (cuts.0, recovered, cuts.1, replays)
-opens_next setup number known old mid new recovered (Err (Fault (faults.File (files.Segment other)))) opened replays cuts = (cuts.0, inl (ends_on IsFailed old mid new (went_step old mid (Opened number) opened) cuts.2))
+opens_next setup number known old mid new recovered (Err (Fault (faults.File (files.Segment other)))) opened replays cuts = (cuts.0, inl (ends_on (IsFailed (files.Segment number)) old mid new (went_step old mid (Opened number) opened) cuts.2))
 opens_next setup number known old mid new recovered (Err (Fault fault)) opened replays cuts = absurd cuts
 
 pub cuts_next : (number : ℕ) (old mid new : Option (List Step)) (recovered : Recovered) (result : Result Recovered (OrMemory JournalFault)) → mid ≡ with_step old (Opened number) → CutsOff number recovered mid result new → Cuts number old result new
@@ -163,3 +170,69 @@ cuts_next number old mid new recovered (Err OutOfMemory) opened cuts = quiet_tra
 cuts_next number old mid new recovered (Err (Fault (faults.Ended other))) opened cuts = quiet_trans old mid new (quiet_step old mid (Opened number) refl opened) (quiet_same mid new cuts.2)
 cuts_next number old mid new recovered (Err (Fault (faults.File (files.Segment other)))) opened cuts = quiet_trans old mid new (quiet_step old mid (Opened number) refl opened) cuts.1
 cuts_next number old mid new recovered (Err (Fault fault)) opened cuts = absurd cuts
+
+-- ---- the lock, by the fault
+
+pub entered_for : (given : Option (List ℕ)) (old new : Option (List Step)) (error : OrMemory JournalFault) → HasEntered given old new → HasEnteredFor given old new error
+entered_for given old new OutOfMemory entered = inr entered
+entered_for given old new (Fault faults.InUse) entered = inr entered
+entered_for given old new (Fault (faults.File files.Folder)) entered = inr entered
+entered_for given old new (Fault (faults.File files.Lock)) entered = inr entered
+entered_for given old new (Fault faults.Foreign) entered = inr entered
+entered_for given old new (Fault faults.Unreadable) entered = inr entered
+entered_for given old new (Fault (faults.Given fault)) entered = inr entered
+entered_for given old new (Fault fault) entered = entered
+
+pub shut_out_for : (given : Option (List ℕ)) (old new : Option (List Step)) (error : OrMemory JournalFault) → IsShutOutFor given old new error → HasEnteredFor given old new error
+shut_out_for given old new OutOfMemory out = inl out
+shut_out_for given old new (Fault faults.InUse) out = inl out
+shut_out_for given old new (Fault (faults.File files.Folder)) out = inl out
+shut_out_for given old new (Fault (faults.File files.Lock)) out = inl out
+shut_out_for given old new (Fault faults.Foreign) out = inl out
+shut_out_for given old new (Fault faults.Unreadable) out = inl out
+shut_out_for given old new (Fault (faults.Given fault)) out = inl out
+shut_out_for given old new (Fault fault) out = absurd out
+
+-- found with the lock taken
+pub found_for : {T : Type 0} (given : Option (List ℕ)) (old mid new : Option (List Step)) (result : Result T (OrMemory JournalFault)) → IsEntered given old mid → IsQuiet mid new → MatchResult result (λ done. HasEntered given old new) (HasEnteredFor given old new)
+found_for given old mid new (Ok done) entered quiet = (mid, entered, quiet)
+found_for given old mid new (Err error) entered quiet = entered_for given old new error (mid, entered, quiet)
+
+-- of a manifest that was not accepted nothing is made
+pub no_first_for : (given : Option (List ℕ)) (steps : Option (List Step)) (error : OrMemory JournalFault) → IsNoFirst given error → IsNotMadeFor given steps steps error
+no_first_for None steps error none = subst (λ (e : OrMemory JournalFault). IsNotMadeFor None steps steps e) (sym none) (quiet_same steps steps refl)
+no_first_for (Some bytes) steps OutOfMemory none = inl (quiet_same steps steps refl)
+no_first_for (Some bytes) steps (Fault faults.Unreadable) none = quiet_same steps steps refl
+no_first_for (Some bytes) steps (Fault (faults.Given fault)) none = quiet_same steps steps refl
+no_first_for (Some bytes) steps (Fault fault) none = absurd none
+
+made_or_not : (given : Option (List ℕ)) (old new : Option (List Step)) → IsAccepted given → IsQuiet old new ⊎ IsQuiet (with_step old FolderMade) new → IsMadeOrNot given old new
+made_or_not given old new accepted steps = elim steps [ inl quiet ↦ inl quiet | inr made ↦ inr (accepted, made) ]
+
+-- of one that was, no more than the folder
+pub unmade_for : {T : Type 0} (given : Option (List ℕ)) (old new : Option (List Step)) (result : Result T (OrMemory JournalFault)) → IsAccepted given → IfErr result IsUnmadeFor → OnErr result (IsQuiet old new ⊎ IsQuiet (with_step old FolderMade) new)
+    → IfErr result (IsNotMadeFor given old new)
+unmade_for given old new (Ok done) accepted which steps = tt
+unmade_for given old new (Err OutOfMemory) accepted which steps = made_or_not given old new accepted steps
+unmade_for given old new (Err (Fault faults.InUse)) accepted which steps = made_or_not given old new accepted steps
+unmade_for given old new (Err (Fault (faults.File files.Folder))) accepted which steps = made_or_not given old new accepted steps
+unmade_for given old new (Err (Fault (faults.File files.Lock))) accepted which steps = made_or_not given old new accepted steps
+unmade_for given old new (Err (Fault fault)) accepted which steps = absurd which
+
+shut_out : (given : Option (List ℕ)) (old mid new : Option (List Step)) → mid ≡ missing old → IsMadeOrNot given mid new → IsShutOut given old new
+shut_out given old mid new is out = elim out [
+  | inl quiet ↦ inl (quiet_trans old mid new (quiet_step old mid (Failed files.Lock disk.Missing) refl is) quiet)
+  | inr made ↦ inr (made.0, subst (λ (s : Option (List Step)). IsQuiet (with_step s FolderMade) new) is made.1)
+]
+
+-- where the lock said that the folder is missing
+pub missing_for : {T : Type 0} (given : Option (List ℕ)) (old mid new : Option (List Step)) (result : Result T (OrMemory JournalFault)) → mid ≡ missing old → IfErr result (IsNotMadeFor given mid new) → IfErr result (IsShutOutFor given old new)
+missing_for given old mid new (Ok done) is out = tt
+missing_for given old mid new (Err OutOfMemory) is out = shut_out given old mid new is out
+missing_for given old mid new (Err (Fault faults.InUse)) is out = shut_out given old mid new is out
+missing_for given old mid new (Err (Fault (faults.File files.Folder))) is out = shut_out given old mid new is out
+missing_for given old mid new (Err (Fault (faults.File files.Lock))) is out = shut_out given old mid new is out
+missing_for given old mid new (Err (Fault faults.Foreign)) is out = subst (λ (s : Option (List Step)). IsQuiet s new) is out
+missing_for given old mid new (Err (Fault faults.Unreadable)) is out = subst (λ (s : Option (List Step)). IsQuiet s new) is out
+missing_for given old mid new (Err (Fault (faults.Given fault))) is out = subst (λ (s : Option (List Step)). IsQuiet s new) is out
+missing_for given old mid new (Err (Fault fault)) is out = absurd out

@@ -10,7 +10,7 @@ use Rattle.trace.specs.declared.laws.TheConstants.{LONGEST_LINE}
 use Rattle.host_recovery.specs.LinesRead.{IsOneLine, is_in_line}
 use Rattle.host_recovery.specs.declared.recovering.TheConstants.{MOST_WHOLE}
 use Rattle.host_recovery.proofs.Cutting.{shown_line}
-use Rattle.host_journal.specs.Order.{EndsALine}
+use Rattle.host_live.specs.LinesCome.{EndsALine}
 use Rattle.host_journal.specs.Texts.{AreTooMany, EndsInSums, IsKept, IsLastLine, IsScanned, Says, Tells}
 use Rattle.host_journal.proofs.Numbers.{both, both_so}
 

@@ -11,6 +11,7 @@ use Rattle.host_recovery.specs.declared.recovering.Recovered.{Recovered}
 use Rattle.host_journal.specs.Disks.{EndsIn, Failed, IsFailed, IsQuiet, Step, is_quiet, with_step}
 use Rattle.host_journal.specs.Starts.{ReadsSince, after_failed}
 use Rattle.host_journal.specs.declared.disk.DiskFault.TheVariants.{Failed as NotDone}
+use Rattle.host_journal.specs.declared.fault.JournalFile.TheVariants.{Segment}
 use Rattle.host_journal.proofs.Numbers.{both_so}
 
 pub quiet_same : (old new : Option (List Step)) → new ≡ old → IsQuiet old new
@@ -70,36 +71,40 @@ ends_on Is (Some steps) mid new went ends =
 
 -- ---- reads that fail
 
-quiet_after : (failed : ℕ) (old new : Option (List Step)) → new ≡ after_failed failed old → IsQuiet old new
-quiet_after zero old new is = quiet_same old new is
-quiet_after (suc n) old new is = quiet_trans old (after_failed n old) new (quiet_after n old (after_failed n old) refl) (quiet_step (after_failed n old) new (Failed NotDone) refl is)
+quiet_after : (number failed : ℕ) (old new : Option (List Step)) → new ≡ after_failed number failed old → IsQuiet old new
+quiet_after number zero old new is = quiet_same old new is
+quiet_after number (suc n) old new is =
+    quiet_trans old (after_failed number n old) new (quiet_after number n old (after_failed number n old) refl) (quiet_step (after_failed number n old) new (Failed (Segment number) NotDone) refl is)
 
-ends_after : (failed : ℕ) (old new : Option (List Step)) → 0 < failed → new ≡ after_failed failed old → EndsIn IsFailed old new
-ends_after zero old new some is = absurd (omega (arith, some))
-ends_after (suc n) old new some is = ends_on IsFailed old (after_failed n old) new (went_quiet old (after_failed n old) (quiet_after n old (after_failed n old) refl)) (ends_step IsFailed (after_failed n old) new (Failed NotDone) tt is)
+ends_after : (number failed : ℕ) (old new : Option (List Step)) → 0 < failed → new ≡ after_failed number failed old → EndsIn (IsFailed (Segment number)) old new
+ends_after number zero old new some is = absurd (omega (arith, some))
+ends_after number (suc n) old new some is =
+    ends_on (IsFailed (Segment number)) old (after_failed number n old) new (went_quiet old (after_failed number n old) (quiet_after number n old (after_failed number n old) refl))
+    (ends_step (IsFailed (Segment number)) (after_failed number n old) new (Failed (Segment number) NotDone) refl is)
 
--- one read more failed
-pub one_more_failed : (failed : ℕ) (old mid new : Option (List Step)) → mid ≡ after_failed failed old → new ≡ with_step mid (Failed NotDone) → new ≡ after_failed (failed + 1) old
-one_more_failed failed old mid new is step =
+-- one read more failed, of the segment that is open
+pub one_more_failed : (number others failed : ℕ) (old mid new : Option (List Step)) → others ≡ number → mid ≡ after_failed number failed old → new ≡ with_step mid (Failed (Segment others) NotDone) → new ≡ after_failed number (failed + 1) old
+one_more_failed number others failed old mid new same is step =
     let next : suc failed ≡ failed + 1 = omega arith in
-    step ∙ (ap (λ (s : Option (List Step)). with_step s (Failed NotDone)) is ∙ ap (λ (n : ℕ). after_failed n old) next)
+    step ∙ (ap (λ (n : ℕ). with_step mid (Failed (Segment n) NotDone)) same
+    ∙ (ap (λ (s : Option (List Step)). with_step s (Failed (Segment number) NotDone)) is ∙ ap (λ (n : ℕ). after_failed number n old) next))
 
-none_failed : (failed : ℕ) (old new : Option (List Step)) → failed ≡ 0 → new ≡ after_failed failed old → new ≡ old
-none_failed failed old new none is = is ∙ ap (λ (n : ℕ). after_failed n old) none
+none_failed : (number failed : ℕ) (old new : Option (List Step)) → failed ≡ 0 → new ≡ after_failed number failed old → new ≡ old
+none_failed number failed old new none is = is ∙ ap (λ (n : ℕ). after_failed number n old) none
 
 -- what a reader said that counts the reads that failed
-pub since_result : (failed : ℕ) (old new : Option (List Step)) (result : Result Recovered (OrMemory RecoveryFault)) → ReadsBy 0 result failed → new ≡ after_failed failed old → ReadsSince old result new
-since_result failed old new (Ok recovered) by is = none_failed failed old new by is
-since_result failed old new (Err OutOfMemory) by is = none_failed failed old new by is
-since_result failed old new (Err (Fault Unread)) by is = (quiet_after failed old new is, ends_after failed old new (by (omega arith)) is)
-since_result failed old new (Err (Fault TooLong)) by is = none_failed failed old new by is
-since_result failed old new (Err (Fault (Form fault))) by is = none_failed failed old new by is
-since_result failed old new (Err (Fault (Unfollowed fault))) by is = none_failed failed old new by is
+pub since_result : (number failed : ℕ) (old new : Option (List Step)) (result : Result Recovered (OrMemory RecoveryFault)) → ReadsBy 0 result failed → new ≡ after_failed number failed old → ReadsSince number old result new
+since_result number failed old new (Ok recovered) by is = none_failed number failed old new by is
+since_result number failed old new (Err OutOfMemory) by is = none_failed number failed old new by is
+since_result number failed old new (Err (Fault Unread)) by is = (quiet_after number failed old new is, ends_after number failed old new (by (omega arith)) is)
+since_result number failed old new (Err (Fault TooLong)) by is = none_failed number failed old new by is
+since_result number failed old new (Err (Fault (Form fault))) by is = none_failed number failed old new by is
+since_result number failed old new (Err (Fault (Unfollowed fault))) by is = none_failed number failed old new by is
 
-pub quiet_result : (old new : Option (List Step)) (result : Result Recovered (OrMemory RecoveryFault)) → ReadsSince old result new → IsQuiet old new
-quiet_result old new (Ok recovered) since = quiet_same old new since
-quiet_result old new (Err OutOfMemory) since = quiet_same old new since
-quiet_result old new (Err (Fault Unread)) since = since.0
-quiet_result old new (Err (Fault TooLong)) since = quiet_same old new since
-quiet_result old new (Err (Fault (Form fault))) since = quiet_same old new since
-quiet_result old new (Err (Fault (Unfollowed fault))) since = quiet_same old new since
+pub quiet_result : (number : ℕ) (old new : Option (List Step)) (result : Result Recovered (OrMemory RecoveryFault)) → ReadsSince number old result new → IsQuiet old new
+quiet_result number old new (Ok recovered) since = quiet_same old new since
+quiet_result number old new (Err OutOfMemory) since = quiet_same old new since
+quiet_result number old new (Err (Fault Unread)) since = since.0
+quiet_result number old new (Err (Fault TooLong)) since = quiet_same old new since
+quiet_result number old new (Err (Fault (Form fault))) since = quiet_same old new since
+quiet_result number old new (Err (Fault (Unfollowed fault))) since = quiet_same old new since

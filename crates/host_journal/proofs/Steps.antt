@@ -1,7 +1,9 @@
 -- What steps append to segments.
 use Rattle.std.proofs.Common.{◌≡◌, ◌∙◌, ℕ, Option, Some, None, List, [], ◌∷◌, ◌++◌, refl, sym, ap, append_assoc, append-nil}
-use Rattle.std.specs.Io.KnownBytes.{Appends}
-use Rattle.host_journal.specs.Disks.{Step, Locked, FolderMade, ManifestMade, SegmentMade, Opened, CutTo, Kept, Synced, Out, Refused, Failed, with_step, kept_by, kept_so_far}
+use Rattle.std.specs.Io.KnownBytes.{Appends, Keeps}
+use Rattle.host_journal.specs.declared.disk.DiskFault.{DiskFault}
+use Rattle.host_journal.specs.declared.fault.JournalFile.{JournalFile}
+use Rattle.host_journal.specs.Disks.{Step, Locked, FolderMade, ManifestMade, SegmentMade, Opened, CutTo, Kept, Synced, NotOut, Out, Refused, Failed, with_step, kept_by, kept_so_far}
 
 pub kept_both : (first second : List Step) → kept_by (first ++ second) ≡ kept_by first ++ kept_by second
 kept_both [] second = refl
@@ -15,7 +17,8 @@ kept_both (Kept bytes ∷ first) second = ap (λ (t : List ℕ). bytes ++ t) (ke
 kept_both (Synced ∷ first) second = kept_both first second
 kept_both (Out bytes ∷ first) second = kept_both first second
 kept_both (Refused ∷ first) second = kept_both first second
-kept_both (Failed fault ∷ first) second = kept_both first second
+kept_both (Failed file fault ∷ first) second = kept_both first second
+kept_both (NotOut ∷ first) second = kept_both first second
 
 -- a step that keeps nothing
 pub nothing_kept : (steps : List Step) (step : Step) → kept_by (step ∷ []) ≡ [] → kept_by (steps ++ step ∷ []) ≡ kept_by steps
@@ -37,3 +40,14 @@ synced_keeps old new is = ap kept_so_far is ∙ still_kept old Synced refl
 
 pub put_keeps : (old new : Option (List Step)) (bytes : List ℕ) → new ≡ with_step old (Out bytes) → kept_so_far new ≡ kept_so_far old
 put_keeps old new bytes is = ap kept_so_far is ∙ still_kept old (Out bytes) refl
+
+pub failed_keeps : (old new : Option (List Step)) (file : JournalFile) (fault : DiskFault) → new ≡ with_step old (Failed file fault) → kept_so_far new ≡ kept_so_far old
+failed_keeps old new file fault is = ap kept_so_far is ∙ still_kept old (Failed file fault) refl
+
+pub unput_keeps : (old new : Option (List Step)) → new ≡ with_step old NotOut → kept_so_far new ≡ kept_so_far old
+unput_keeps old new is = ap kept_so_far is ∙ still_kept old NotOut refl
+
+pub stays_kept : (old new : Option (List ℕ)) → new ≡ old → Keeps old new
+stays_kept None new is = tt
+stays_kept (Some bytes) None is = cc
+stays_kept (Some bytes) (Some after) is = cc

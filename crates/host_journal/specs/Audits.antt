@@ -1,5 +1,5 @@
 -- What an audit says of a journal.
-use Rattle.std.specs.Prelude.{◌≡◌, ◌⊎◌, ◌<◌, ◌≤◌, ◌+◌, ◌-◌, ◌^◌, ℕ, Bool, false, not, min, IfSome, Ok, Err, List, ⊤, IsUtf8, Option}
+use Rattle.std.specs.Prelude.{◌≡◌, ◌⊎◌, ◌<◌, ◌≤◌, ◌+◌, ◌-◌, ◌^◌, ℕ, Bool, true, false, not, min, IfSome, Ok, Err, List, ⊤, IsUtf8, Option}
 use Rattle.base.specs.declared.or_memory.OrMemory.{OrMemory}
 use Rattle.base.specs.declared.or_memory.OrMemory.TheVariants.{OutOfMemory, Fault}
 use Rattle.manifest.specs.Meaning.{HasFault}
@@ -12,7 +12,7 @@ use Rattle.host_recovery.specs.declared.recovering.Recovered.{Recovered}
 use Rattle.host_journal.specs.Disks.{EndsIn, Held, IsFailed, Step}
 use Rattle.host_journal.specs.Journals.{IsConfigured}
 use Rattle.host_journal.specs.Listings.{IsEmptyJournal, IsForeign, IsJournal}
-use Rattle.host_journal.specs.Starts.{IsUnread, Replays}
+use Rattle.host_journal.specs.Starts.{IsTextFault, IsUnread, Replays}
 use Rattle.host_journal.specs.declared.auditing.Audited.{Audited}
 use Rattle.host_journal.specs.declared.fault.JournalFault.{JournalFault}
 use Rattle.host_journal.specs.declared.fault.JournalFault.TheVariants as faults
@@ -56,6 +56,7 @@ pub record IsFaulty (held : Held) (number : ℕ) (fault : RecoveryFault) : Type 
   pub setup : Setup
   pub configured : IfSome (held.manifests number) (λ bytes. IsConfigured bytes setup)
   pub told : Replays setup number (held.segments number) (Err (Fault (faults.Segment number fault)))
+  pub of_text : IsTextFault fault
 
 -- the segment lacks its last line
 abbrev pub IsUnended : Held → ℕ → RecoveryFault → Type 0
@@ -71,27 +72,35 @@ HasOwnFault held number fault = IfSome (held.manifests number) (λ bytes. HasFau
 -- why the segment of that number is not sound
 abbrev pub FailsToReplay : Held → ℕ → (old new : Option (List Step)) → OrMemory JournalFault → Type 0
 FailsToReplay held number old new OutOfMemory = ⊤
-FailsToReplay held number old new (Fault (faults.File (files.Manifest other))) = (other ≡ number) × (EndsIn IsFailed old new ⊎ IsNoText held number)
-FailsToReplay held number old new (Fault (faults.File (files.Segment other))) = (other ≡ number) × IsUnread (held.segments number) old new
+FailsToReplay held number old new (Fault (faults.File (files.Manifest other))) = (other ≡ number) × (EndsIn (IsFailed (files.Manifest number)) old new ⊎ IsNoText held number)
+FailsToReplay held number old new (Fault (faults.File (files.Segment other))) = (other ≡ number) × IsUnread number (held.segments number) old new
 FailsToReplay held number old new (Fault (faults.Manifest other fault)) = (other ≡ number) × HasOwnFault held number fault
 FailsToReplay held number old new (Fault (faults.Segment other fault)) = (other ≡ number) × IsFaulty held number fault
 FailsToReplay held number old new (Fault fault) = ⊥
 
--- why the segment of that number is not sound, among those from that number to that one
+-- Of the segments from that number to that one the audit came to this one: each one before it is sound and has its last line, and there is
+-- one at most, since no segment goes on from another one.
+pub record IsReached (held : Held) (first last number : ℕ) : Type 0 where
+  pub above : first ≤ number
+  pub within : number ≤ last
+  pub few : number ≤ first + 1
+  pub sound : (before : ℕ) → first ≤ before → before < number → (records : ℕ) × IsSound held before records true
+
+-- which of the segments from that number to that one is the first that is not sound, and why
 abbrev pub FailsAt : Held → (first last : ℕ) → (old new : Option (List Step)) → OrMemory JournalFault → Type 0
 FailsAt held first last old new OutOfMemory = ⊤
-FailsAt held first last old new (Fault (faults.File (files.Manifest number))) = (first ≤ number) × (number ≤ last) × (EndsIn IsFailed old new ⊎ IsNoText held number)
-FailsAt held first last old new (Fault (faults.File (files.Segment number))) = (first ≤ number) × (number ≤ last) × IsUnread (held.segments number) old new
-FailsAt held first last old new (Fault (faults.Manifest number fault)) = (first ≤ number) × (number ≤ last) × HasOwnFault held number fault
-FailsAt held first last old new (Fault (faults.Segment number fault)) = (first ≤ number) × (number ≤ last) × (IsFaulty held number fault ⊎ ((number < last) × IsUnended held number fault))
-FailsAt held first last old new (Fault (faults.NotContinued number)) = (first < number) × (number ≤ last) × (records : ℕ) × (is_ended : Bool) × IsSound held number records is_ended
+FailsAt held first last old new (Fault (faults.File (files.Manifest number))) = IsReached held first last number × (EndsIn (IsFailed (files.Manifest number)) old new ⊎ IsNoText held number)
+FailsAt held first last old new (Fault (faults.File (files.Segment number))) = IsReached held first last number × IsUnread number (held.segments number) old new
+FailsAt held first last old new (Fault (faults.Manifest number fault)) = IsReached held first last number × HasOwnFault held number fault
+FailsAt held first last old new (Fault (faults.Segment number fault)) = IsReached held first last number × (IsFaulty held number fault ⊎ ((number < last) × IsUnended held number fault))
+FailsAt held first last old new (Fault (faults.NotContinued number)) = IsReached held first last number × (first < number) × (records : ℕ) × (is_ended : Bool) × IsSound held number records is_ended × (number < last → is_ended ≡ true)
 FailsAt held first last old new (Fault fault) = ⊥
 
 -- why an audit is refused
 abbrev pub FailsToAudit : Held → (old new : Option (List Step)) → OrMemory JournalFault → Type 0
 FailsToAudit held old new OutOfMemory = ⊤
 FailsToAudit held old new (Fault faults.Foreign) = IfSome held.names IsForeign
-FailsToAudit held old new (Fault (faults.File files.Folder)) = EndsIn IsFailed old new
+FailsToAudit held old new (Fault (faults.File files.Folder)) = EndsIn (IsFailed files.Folder) old new
 FailsToAudit held old new error = IfSome held.names (λ names. (first : ℕ) × (last : ℕ) × IsJournal names first last × FailsAt held first last old new error)
 
 -- ---- inside

@@ -1,3 +1,4 @@
+pub mod Answered
 pub mod Disks
 pub mod Order
 pub mod Journals

@@ -9,10 +9,10 @@ use Rattle.engine_core.specs.ByNumber.{opened_numbered}
 use Rattle.host_recovery.specs.Recovering.{IsRecovered, Recovers}
 use Rattle.host_recovery.specs.Sources.{IsAll}
 use Rattle.host_recovery.specs.declared.fault.RecoveryFault.{RecoveryFault}
-use Rattle.host_recovery.specs.declared.fault.RecoveryFault.TheVariants.{Unread}
+use Rattle.host_recovery.specs.declared.fault.RecoveryFault.TheVariants.{TooLong, Unread}
 use Rattle.host_recovery.specs.declared.recovering.TheConstants.{MOST_WHOLE}
 use Rattle.host_recovery.specs.declared.recovering.Recovered.{Recovered}
-use Rattle.host_journal.specs.Disks.{CutTo, EndsIn, FolderMade, Failed, Held, IsFailed, IsQuiet, IsRefused, Locked, ManifestMade, Opened, SegmentMade, Step, with_step}
+use Rattle.host_journal.specs.Disks.{CutTo, EndsIn, FolderMade, Failed, Held, IsFailed, IsFailedBy, IsFolderMade, IsQuiet, IsRefused, Locked, ManifestMade, Opened, SegmentMade, Step, with_step}
 use Rattle.host_journal.specs.Journals.{IsConfigured}
 use Rattle.host_journal.specs.Listings.{IsEmptyJournal, IsForeign, IsJournal, Lists}
 use Rattle.host_journal.specs.Texts.{EndsInSums}
@@ -46,14 +46,14 @@ IsOwnFault number bytes (Fault fault) = ⊥
 abbrev pub AreNoSegment : Option (List ℕ) → Type 0
 AreNoSegment known = IfSome known (λ bytes. (IsUtf8 bytes → ⊥) ⊎ (MOST_WHOLE ≤ length bytes))
 
--- why a segment of these bytes, if they are known, is not read: a call failed, or they are none
-abbrev pub IsUnread : Option (List ℕ) → (old new : Option (List Step)) → Type 0
-IsUnread known old new = EndsIn IsFailed old new ⊎ AreNoSegment known
+-- why the segment of that number, of these bytes, if they are known, is not read: a call about it failed, or they are none
+abbrev pub IsUnread : (number : ℕ) → Option (List ℕ) → (old new : Option (List Step)) → Type 0
+IsUnread number known old new = EndsIn (IsFailed (files.Segment number)) old new ⊎ AreNoSegment known
 
 -- memory; or why the segment of that number is not read
 abbrev pub IsUnreadSegment : ℕ → Option (List ℕ) → (old new : Option (List Step)) → OrMemory JournalFault → Type 0
 IsUnreadSegment number known old new OutOfMemory = ⊤
-IsUnreadSegment number known old new (Fault (faults.File (files.Segment other))) = (other ≡ number) × IsUnread known old new
+IsUnreadSegment number known old new (Fault (faults.File (files.Segment other))) = (other ≡ number) × IsUnread number known old new
 IsUnreadSegment number known old new (Fault fault) = ⊥
 
 -- ---- which segment
@@ -76,12 +76,16 @@ Finds held given begun =
     MatchOption begun.manifest (IfSome held.names (λ names. IsNewest names begun.number) × IfSome (held.manifests begun.number) (λ bytes. IsConfigured bytes begun.config) × IsItsManifest held begun.number given)
     (λ bytes. IfSome held.names IsEmptyJournal × (begun.number ≡ 1) × (given ≡ Some bytes.now) × IsConfigured bytes.now begun.config)
 
--- why a file was not read or written: a call failed; or it is the newest segment or its manifest, and no text
+-- why the lock cannot be taken: a call about its file failed, and not since the folder is missing; or one failed after the folder was made
+abbrev pub CannotLock : (old new : Option (List Step)) → Type 0
+CannotLock old new = EndsIn (IsFailedBy files.Lock NotDone) old new ⊎ ((made : Option (List Step)) × EndsIn IsFolderMade old made × EndsIn (IsFailed files.Lock) made new)
+
+-- why a file was not read or written: a call about it failed; or it is the newest segment or its manifest, and no text
 abbrev pub IsFileFault : Held → JournalFile → (old new : Option (List Step)) → Type 0
-IsFileFault held files.Folder old new = EndsIn IsFailed old new
-IsFileFault held files.Lock old new = EndsIn IsFailed old new
-IsFileFault held (files.Manifest number) old new = IfSome held.names (λ names. IsNewest names number) × (EndsIn IsFailed old new ⊎ IfSome (held.manifests number) (λ bytes. IsUtf8 bytes → ⊥))
-IsFileFault held (files.Segment number) old new = IfSome held.names (λ names. IsNewest names number) × IsUnread (held.segments number) old new
+IsFileFault held files.Folder old new = EndsIn (IsFailed files.Folder) old new
+IsFileFault held files.Lock old new = CannotLock old new
+IsFileFault held (files.Manifest number) old new = IfSome held.names (λ names. IsNewest names number) × (EndsIn (IsFailed (files.Manifest number)) old new ⊎ IfSome (held.manifests number) (λ bytes. IsUtf8 bytes → ⊥))
+IsFileFault held (files.Segment number) old new = IfSome held.names (λ names. IsNewest names number) × IsUnread number (held.segments number) old new
 
 -- J1 of these names: they are those of no journal; or there is no segment, and no manifest is given
 abbrev pub IsUnfit : List (List ℕ) → (given : Option (List ℕ)) → Type 0
@@ -109,7 +113,7 @@ IsAccepted given = (bytes : List ℕ) × (setup : Setup) × (given ≡ Some byte
 
 -- the folder is not there
 abbrev pub missing : Option (List Step) → Option (List Step)
-missing steps = with_step steps (Failed Missing)
+missing steps = with_step steps (Failed files.Lock Missing)
 
 -- the folder is made, if there was none, once the manifest that is given was accepted; and the lock is taken
 abbrev pub IsEntered : (given : Option (List ℕ)) → (old new : Option (List Step)) → Type 0
@@ -127,12 +131,28 @@ HasEntered given old new = (mid : Option (List Step)) × IsEntered given old mid
 abbrev pub HasNotEntered : (given : Option (List ℕ)) → (old new : Option (List Step)) → Type 0
 HasNotEntered given old new = IsShutOut given old new ⊎ HasEntered given old new
 
+-- The folder is not there, and nothing is done; or the lock is taken first.
+abbrev pub IsMissingOrEntered : (given : Option (List ℕ)) → (old new : Option (List Step)) → Type 0
+IsMissingOrEntered given old new = IsQuiet (missing old) new ⊎ HasEntered given old new
+
+-- What a refused start has done, by its fault: whatever is told of a segment or its manifest is told with the lock taken, and so is what is
+-- told of the names of a folder that is there.
+abbrev pub HasEnteredFor : (given : Option (List ℕ)) → (old new : Option (List Step)) → OrMemory JournalFault → Type 0
+HasEnteredFor given old new OutOfMemory = HasNotEntered given old new
+HasEnteredFor given old new (Fault faults.InUse) = HasNotEntered given old new
+HasEnteredFor given old new (Fault (faults.File files.Folder)) = HasNotEntered given old new
+HasEnteredFor given old new (Fault (faults.File files.Lock)) = HasNotEntered given old new
+HasEnteredFor given old new (Fault faults.Foreign) = IsMissingOrEntered given old new
+HasEnteredFor given old new (Fault faults.Unreadable) = IsMissingOrEntered given old new
+HasEnteredFor given old new (Fault (faults.Given fault)) = IsMissingOrEntered given old new
+HasEnteredFor given old new (Fault fault) = HasEntered given old new
+
 -- ---- a segment that is there
 
 -- that is told of a segment of these bytes, if they are known, that has this fault: the fault, of a segment that is text; else why it is not read
 abbrev pub IsToldOf : ℕ → Option (List ℕ) → RecoveryFault → (old new : Option (List Step)) → JournalFault → Type 0
 IsToldOf number known fault old new (faults.Segment other told) = (other ≡ number) × (told ≡ fault) × IfSome known IsUtf8
-IsToldOf number known fault old new (faults.File (files.Segment other)) = (other ≡ number) × IsUnread known old new
+IsToldOf number known fault old new (faults.File (files.Segment other)) = (other ≡ number) × IsUnread number known old new
 IsToldOf number known fault old new other = ⊥
 
 -- what is told of the segment of that number, whose bytes these are, if they are known
@@ -148,10 +168,17 @@ abbrev pub IsReplay : ℕ → Option (List Step) → Result Recovered (OrMemory 
 IsReplay number old (Ok recovered) new = new ≡ with_step old (Opened number)
 IsReplay number old (Err fault) new = IsQuiet old new
 
--- why a segment of these bytes, if they are known, was not read, if it was not
-abbrev pub HasCause : Option (List ℕ) → (old new : Option (List Step)) → OrMemory JournalFault → Type 0
-HasCause known old new (Fault (faults.File file)) = IsUnread known old new
-HasCause known old new error = ⊤
+-- the fault is one of the text: a line of it is no line of a trace, or does not follow
+abbrev pub IsTextFault : RecoveryFault → Type 0
+IsTextFault Unread = ⊥
+IsTextFault TooLong = ⊥
+IsTextFault fault = ⊤
+
+-- why the segment of that number, of these bytes, if they are known, was not read, if it was not; else the fault is one of its text
+abbrev pub HasCause : (number : ℕ) → Option (List ℕ) → (old new : Option (List Step)) → OrMemory JournalFault → Type 0
+HasCause number known old new (Fault (faults.File file)) = IsUnread number known old new
+HasCause number known old new (Fault (faults.Segment other fault)) = IsTextFault fault
+HasCause number known old new error = ⊤
 
 -- ---- what is opened
 
@@ -159,10 +186,10 @@ HasCause known old new error = ⊤
 abbrev pub IsFirst : Setup → Recovered → Type 0
 IsFirst setup recovered = (recovered.engine ≡ opened_numbered setup) × (recovered.records ≡ 0) × (recovered.whole ≡ length (header (version_of setup))) × (recovered.is_ended ≡ false)
 
--- why no segment is made: memory, or a call that failed
+-- why no segment is made: memory, or a call about that file that failed
 abbrev pub IsUnmade : (old new : Option (List Step)) → OrMemory JournalFault → Type 0
 IsUnmade old new OutOfMemory = ⊤
-IsUnmade old new (Fault (faults.File file)) = EndsIn IsFailed old new
+IsUnmade old new (Fault (faults.File file)) = EndsIn (IsFailed file) old new
 IsUnmade old new (Fault fault) = ⊥
 
 -- what is opened of a segment that was made
@@ -175,7 +202,7 @@ OpensFirst setup old new (Err error) = IsUnmade old new error
 abbrev pub OpensNext : Setup → (number : ℕ) → Option (List ℕ) → (old new : Option (List Step)) → Result Recovered (OrMemory JournalFault) → Type 0
 OpensNext setup number known old new (Ok recovered) = (recovered.is_ended ≡ false) × Replays setup number known (Ok recovered)
 OpensNext setup number known old new (Err (Fault (faults.Ended other))) = (other ≡ number) × (recovered : Recovered) × (recovered.is_ended ≡ true) × Replays setup number known (Ok recovered)
-OpensNext setup number known old new (Err error) = Replays setup number known (Err error) × HasCause known old new error
+OpensNext setup number known old new (Err error) = Replays setup number known (Err error) × HasCause number known old new error
 
 abbrev pub Opens : Begun → Held → (old new : Option (List Step)) → Result Recovered (OrMemory JournalFault) → Type 0
 Opens begun held old new result = MatchOption begun.manifest (OpensNext begun.config begun.number (held.segments begun.number) old new result) (λ bytes. OpensFirst begun.config old new result)
@@ -204,7 +231,7 @@ abbrev pub CutsOff : ℕ → Recovered → Option (List Step) → Result Recover
 CutsOff number recovered old (Ok cut) new = (cut ≡ recovered) × (recovered.is_ended ≡ false) × (new ≡ with_step old (CutTo recovered.whole))
 CutsOff number recovered old (Err OutOfMemory) new = IsQuiet old new
 CutsOff number recovered old (Err (Fault (faults.Ended other))) new = (other ≡ number) × (recovered.is_ended ≡ true) × (new ≡ old)
-CutsOff number recovered old (Err (Fault (faults.File (files.Segment other)))) new = (other ≡ number) × IsQuiet old new × EndsIn IsFailed old new
+CutsOff number recovered old (Err (Fault (faults.File (files.Segment other)))) new = (other ≡ number) × IsQuiet old new × EndsIn (IsFailed (files.Segment number)) old new
 CutsOff number recovered old (Err (Fault fault)) new = ⊥
 
 -- a first segment, with the manifest that is given
@@ -219,7 +246,7 @@ IsNoFirst (Some bytes) error = IsGivenFault bytes error
 -- why there are no names
 abbrev pub IsUnlisted : (old new : Option (List Step)) → OrMemory JournalFault → Type 0
 IsUnlisted old new OutOfMemory = ⊤
-IsUnlisted old new (Fault (faults.File files.Folder)) = EndsIn IsFailed old new
+IsUnlisted old new (Fault (faults.File files.Folder)) = EndsIn (IsFailed files.Folder) old new
 IsUnlisted old new (Fault fault) = ⊥
 
 -- whether a manifest of other bytes than these is given for a segment without a last line
@@ -229,19 +256,50 @@ IsGivenOther segment None own false = ⊤
 IsGivenOther segment (Some bytes) own true = (bytes ≢ own) × IfSome segment (λ its. EndsInSums its → ⊥)
 IsGivenOther segment (Some bytes) own false = (bytes ≡ own) ⊎ IfSome segment EndsInSums
 
--- the segment was read, and nothing was done; or why it was not recovered
-abbrev pub ReadsSince : Option (List Step) → Result Recovered (OrMemory RecoveryFault) → Option (List Step) → Type 0
-ReadsSince old (Err (Fault Unread)) new = IsQuiet old new × EndsIn IsFailed old new
-ReadsSince old result new = new ≡ old
+-- the segment of that number was read, and nothing was done; or why it was not recovered
+abbrev pub ReadsSince : (number : ℕ) → Option (List Step) → Result Recovered (OrMemory RecoveryFault) → Option (List Step) → Type 0
+ReadsSince number old (Err (Fault Unread)) new = IsQuiet old new × EndsIn (IsFailed (files.Segment number)) old new
+ReadsSince number old result new = new ≡ old
 
--- the steps, after so many reads that failed
-abbrev pub after_failed : ℕ → Option (List Step) → Option (List Step)
-after_failed zero old = old
-after_failed (suc n) old = with_step (after_failed n old) (Failed NotDone)
+-- the steps, after so many reads of the segment of that number that failed
+abbrev pub after_failed : (number count : ℕ) → Option (List Step) → Option (List Step)
+after_failed number zero old = old
+after_failed number (suc n) old = with_step (after_failed number n old) (Failed (files.Segment number) NotDone)
 
--- of a folder that was missing: it is made, and the lock is taken; or the lock is not taken, and no more is made than the folder
-abbrev pub IsMadeAndLocked : (given : Option (List ℕ)) → (old new : Option (List Step)) → Type 0
-IsMadeAndLocked given old new = IsAccepted given × (new ≡ with_step (with_step old FolderMade) Locked)
+-- why the lock was not taken, and what was done then
+abbrev pub IsShutOutFor : (given : Option (List ℕ)) → (old new : Option (List Step)) → OrMemory JournalFault → Type 0
+IsShutOutFor given old new OutOfMemory = IsShutOut given old new
+IsShutOutFor given old new (Fault faults.InUse) = IsShutOut given old new
+IsShutOutFor given old new (Fault (faults.File files.Folder)) = IsShutOut given old new
+IsShutOutFor given old new (Fault (faults.File files.Lock)) = IsShutOut given old new
+IsShutOutFor given old new (Fault faults.Foreign) = IsQuiet (missing old) new
+IsShutOutFor given old new (Fault faults.Unreadable) = IsQuiet (missing old) new
+IsShutOutFor given old new (Fault (faults.Given fault)) = IsQuiet (missing old) new
+IsShutOutFor given old new (Fault fault) = ⊥
 
+-- no more is made than the folder, once the manifest that is given was accepted
 abbrev pub IsMadeOrNot : (given : Option (List ℕ)) → (old new : Option (List Step)) → Type 0
 IsMadeOrNot given old new = IsQuiet old new ⊎ (IsAccepted given × IsQuiet (with_step old FolderMade) new)
+
+-- the same of a folder that was missing, whose making may have failed, or the lock after it
+abbrev pub IsNotMadeFor : (given : Option (List ℕ)) → (old new : Option (List Step)) → OrMemory JournalFault → Type 0
+IsNotMadeFor given old new OutOfMemory = IsMadeOrNot given old new
+IsNotMadeFor given old new (Fault faults.InUse) = IsMadeOrNot given old new
+IsNotMadeFor given old new (Fault (faults.File files.Folder)) = IsMadeOrNot given old new
+IsNotMadeFor given old new (Fault (faults.File files.Lock)) = IsMadeOrNot given old new
+IsNotMadeFor given old new (Fault faults.Foreign) = IsQuiet old new
+IsNotMadeFor given old new (Fault faults.Unreadable) = IsQuiet old new
+IsNotMadeFor given old new (Fault (faults.Given fault)) = IsQuiet old new
+IsNotMadeFor given old new (Fault fault) = ⊥
+
+-- why a folder that is to be made was not, or its lock was not taken
+abbrev pub IsUnmadeFor : OrMemory JournalFault → Type 0
+IsUnmadeFor OutOfMemory = ⊤
+IsUnmadeFor (Fault faults.InUse) = ⊤
+IsUnmadeFor (Fault (faults.File files.Folder)) = ⊤
+IsUnmadeFor (Fault (faults.File files.Lock)) = ⊤
+IsUnmadeFor (Fault fault) = ⊥
+
+-- of a folder that was missing: it is made, and the lock is taken
+abbrev pub IsMadeAndLocked : (given : Option (List ℕ)) → (old new : Option (List Step)) → Type 0
+IsMadeAndLocked given old new = IsAccepted given × (new ≡ with_step (with_step old FolderMade) Locked)

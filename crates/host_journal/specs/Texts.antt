@@ -7,7 +7,8 @@ use Rattle.host_recovery.specs.LinesRead.{IsOneLine}
 use Rattle.host_recovery.specs.declared.recovering.TheConstants.{MOST_WHOLE}
 use Rattle.host_journal.specs.Disks.{Failed, Step, with_step}
 use Rattle.host_journal.specs.declared.disk.DiskFault.TheVariants.{Failed as NotDone}
-use Rattle.host_journal.specs.Order.{EndsALine}
+use Rattle.host_journal.specs.declared.fault.JournalFile.TheVariants.{Segment}
+use Rattle.host_live.specs.LinesCome.{EndsALine}
 
 -- ---- the last line
 
@@ -40,10 +41,10 @@ Says P (Some bytes) (Err fault) = ⊤
 abbrev pub AreTooMany : Option (List ℕ) → Type 0
 AreTooMany known = IfSome known (λ bytes. MOST_WHOLE ≤ length bytes)
 
--- all bytes were read, and nothing was done; or a read failed, or they are too many
-abbrev pub ReadsAll : {T E : Type 0} → Option (List ℕ) → Option (List Step) → Result T E → Option (List Step) → Type 0
-ReadsAll known old (Ok said) new = new ≡ old
-ReadsAll known old (Err fault) new = (new ≡ with_step old (Failed NotDone)) ⊎ ((new ≡ old) × AreTooMany known)
+-- all bytes of the segment of that number were read, and nothing was done; or a read failed, or they are too many
+abbrev pub ReadsAll : {T E : Type 0} → (number : ℕ) → Option (List ℕ) → Option (List Step) → Result T E → Option (List Step) → Type 0
+ReadsAll number known old (Ok said) new = new ≡ old
+ReadsAll number known old (Err fault) new = (new ≡ with_step old (Failed (Segment number) NotDone)) ⊎ ((new ≡ old) × AreTooMany known)
 
 -- ---- inside
 

@@ -1,7 +1,7 @@
 // All segments of a journal, replayed one after the other. It relies on `beginning` for which there are, and on `replaying` for each.
 
-ghost use Rattle.std.specs.Prelude.{◌≡◌, ◌≤◌, IfErr, IfOk, not};
-ghost use Rattle.host_journal.specs.Audits.{AreSound, FailsAt, FailsToAudit, FailsToReplay, IsAudited, IsSound, line_behind};
+ghost use Rattle.std.specs.Prelude.{◌≡◌, ◌≤◌, ◌<◌, IfErr, IfOk, OnOk, not, true};
+ghost use Rattle.host_journal.specs.Audits.{AreSound, FailsAt, FailsToAudit, FailsToReplay, IsAudited, IsReached, IsSound, line_behind};
 ghost use Rattle.host_journal.specs.Disks.{IsQuiet};
 ghost use Rattle.base.specs.declared.or_memory.OrMemory.TheVariants.{Fault};
 ghost use Rattle.host_journal.specs.declared.fault.JournalFault.TheVariants.{Segment};
@@ -40,7 +40,7 @@ struct Checked {
 pub fn audit<D: Disk>(alloc: Global, disk: &mut D) -> Result<Audited, JournalError>
     // Each segment is one over its manifest, and what is counted are its records.
     ensures audited { IfOk result (IsAudited (D.held disk.old)) }
-    // J1 exactly if the names are not those of a journal; and each other refusal for its cause.
+    // J1 exactly if the names are not those of a journal; and each other refusal for its cause, which is the first one.
     ensures refused { IfErr result (FailsToAudit (D.held disk.old) (D.steps disk.old) (D.steps disk.new)) }
     ensures quiet { IsQuiet (D.steps disk.old) (D.steps disk.new) }
 {
@@ -83,6 +83,7 @@ fn audit_before<D: Disk>(
 ) -> Result<u64, JournalError>
     requires { first ≤ last }
     ensures none { IfOk result (λ records. first ≡ last → records ≡ 0) }
+    ensures reached { OnOk result (IsReached (D.held disk.new) first last last) }
     ensures refused { IfErr result (FailsAt (D.held disk.old) first last (D.steps disk.old) (D.steps disk.new)) }
     ensures held { D.held disk.new ≡ D.held disk.old }
     ensures quiet { IsQuiet (D.steps disk.old) (D.steps disk.new) }
@@ -105,7 +106,7 @@ fn audit_newest<D: Disk>(
     last: u64,
     records: u64,
 ) -> Result<Audited, JournalError>
-    requires some { first ≤ last }
+    requires reached { IsReached (D.held disk.old) first last last }
     requires none { first ≡ last → records ≡ 0 }
     ensures sound { IfOk result (AreSound (D.held disk.old) first last) }
     ensures refused { IfErr result (FailsAt (D.held disk.old) first last (D.steps disk.old) (D.steps disk.new)) }
@@ -132,7 +133,7 @@ fn counted(first: u64, last: u64, records: u64, more: u64, is_ended: bool) -> Au
     }
 }
 
-// Replays the segment of that number, among those from that number to that one.
+// Replays the segment of that number, to which the audit of those from that number to that one came.
 fn audit_segment<D: Disk>(
     alloc: Global,
     disk: &mut D,
@@ -140,10 +141,10 @@ fn audit_segment<D: Disk>(
     first: u64,
     last: u64,
 ) -> Result<Checked, JournalError>
-    requires above { first ≤ number }
-    requires within { number ≤ last }
+    requires { IsReached (D.held disk.old) first last number }
     ensures sound { IfOk result (λ its. IsSound (D.held disk.old) number its.records its.is_ended) }
     ensures first { IfOk result (λ _. number ≡ first) }
+    ensures ended { IfOk result (λ its. number < last → its.is_ended ≡ true) }
     ensures refused { IfErr result (FailsAt (D.held disk.old) first last (D.steps disk.old) (D.steps disk.new)) }
     ensures held { D.held disk.new ≡ D.held disk.old }
     ensures quiet { IsQuiet (D.steps disk.old) (D.steps disk.new) }

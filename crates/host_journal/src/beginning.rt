@@ -4,7 +4,7 @@
 ghost use Rattle.std.specs.Prelude.{◌≡◌, ◌⊎◌, ℕ, List, Option, IfErr, IfOk, IfSome, MatchResult, OnErr, OnOk, Some, option_map};
 ghost use Rattle.host_journal.specs.Disks.{FolderMade, HoldsNothing, IsQuiet, Locked, with_step};
 ghost use Rattle.host_journal.specs.Audits.{IsOrdered};
-ghost use Rattle.host_journal.specs.Starts.{Fails, Finds, FindsFirst, HasEntered, HasNotEntered, IsAccepted, IsEntered, IsGivenOther, IsMadeAndLocked, IsMadeOrNot, IsNewest, IsNoFirst, IsShutOut, IsUnlisted, IsUnreadSegment, ListsHeld};
+ghost use Rattle.host_journal.specs.Starts.{Fails, Finds, FindsFirst, HasEntered, HasEnteredFor, IsAccepted, IsEntered, IsGivenOther, IsMadeAndLocked, IsNewest, IsNoFirst, IsNotMadeFor, IsShutOutFor, IsUnlisted, IsUnmadeFor, IsUnreadSegment, ListsHeld};
 
 use crate::disk::{Disk, DiskFault};
 use crate::fault::{JournalError, JournalFault, JournalFile, of_file};
@@ -35,10 +35,12 @@ pub fn begin<'m, D: Disk>(
 ) -> Result<Begun<'m>, JournalError>
     // Which segment it is: the newest one, of a folder that holds a journal; or the first one, with the manifest that is given.
     ensures found { IfOk result (Finds (D.held disk.new) (option_map (λ bytes. bytes.now) manifest.entry)) }
+    // What the folder holds stays.
+    ensures held { D.held disk.new ≡ D.held disk.old }
     // J1 exactly if the names are not those of a journal, or if there is no segment and no manifest; and each other refusal for its cause.
     ensures refused { IfErr result (Fails (D.held disk.new) (option_map (λ bytes. bytes.now) manifest.entry) (D.steps disk.old) (D.steps disk.new)) }
     // The lock is taken first, and then nothing is written.
-    ensures steps { MatchResult result (λ _. HasEntered (option_map (λ bytes. bytes.now) manifest.entry) (D.steps disk.old) (D.steps disk.new)) (λ _. HasNotEntered (option_map (λ bytes. bytes.now) manifest.entry) (D.steps disk.old) (D.steps disk.new)) }
+    ensures steps { MatchResult result (λ _. HasEntered (option_map (λ bytes. bytes.now) manifest.entry) (D.steps disk.old) (D.steps disk.new)) (HasEnteredFor (option_map (λ bytes. bytes.now) manifest.entry) (D.steps disk.old) (D.steps disk.new)) }
 {
     match take_lock(alloc, disk, manifest) {
         Ok(()) => find(alloc, disk, manifest),
@@ -54,6 +56,7 @@ fn find<'m, D: Disk>(
 ) -> Result<Begun<'m>, JournalError>
     ensures found { IfOk result (Finds (D.held disk.new) (option_map (λ bytes. bytes.now) manifest.entry)) }
     ensures refused { IfErr result (Fails (D.held disk.new) (option_map (λ bytes. bytes.now) manifest.entry) (D.steps disk.old) (D.steps disk.new)) }
+    ensures held { D.held disk.new ≡ D.held disk.old }
     ensures quiet { IsQuiet (D.steps disk.old) (D.steps disk.new) }
 {
     match list_folder(alloc, disk) {
@@ -72,13 +75,15 @@ fn take_lock<D: Disk>(
 ) -> Result<(), JournalError>
     ensures taken { OnOk result (IsEntered (option_map (λ bytes. bytes.now) manifest.entry) (D.steps disk.old) (D.steps disk.new)) }
     ensures refused { IfErr result (Fails (D.held disk.new) (option_map (λ bytes. bytes.now) manifest.entry) (D.steps disk.old) (D.steps disk.new)) }
-    ensures steps { OnErr result (IsShutOut (option_map (λ bytes. bytes.now) manifest.entry) (D.steps disk.old) (D.steps disk.new)) }
+    ensures held { D.held disk.new ≡ D.held disk.old }
+    ensures steps { IfErr result (IsShutOutFor (option_map (λ bytes. bytes.now) manifest.entry) (D.steps disk.old) (D.steps disk.new)) }
 {
     match disk.lock() {
         Ok(true) => Ok(()),
         Ok(false) => Err(OrMemory::Fault(JournalFault::InUse)),
         Err(DiskFault::Missing) => make_folder(alloc, disk, manifest),
-        Err(fault) => Err(of_file(fault, JournalFile::Lock)),
+        Err(DiskFault::Failed) => Err(OrMemory::Fault(JournalFault::File(JournalFile::Lock))),
+        Err(DiskFault::OutOfMemory) => Err(OrMemory::OutOfMemory),
     }
 }
 
@@ -91,7 +96,8 @@ fn make_folder<D: Disk>(
     requires { HoldsNothing (D.held disk.old) }
     ensures taken { OnOk result (IsMadeAndLocked (option_map (λ bytes. bytes.now) manifest.entry) (D.steps disk.old) (D.steps disk.new)) }
     ensures refused { IfErr result (Fails (D.held disk.new) (option_map (λ bytes. bytes.now) manifest.entry) (D.steps disk.old) (D.steps disk.new)) }
-    ensures steps { OnErr result (IsMadeOrNot (option_map (λ bytes. bytes.now) manifest.entry) (D.steps disk.old) (D.steps disk.new)) }
+    ensures held { D.held disk.new ≡ D.held disk.old }
+    ensures steps { IfErr result (IsNotMadeFor (option_map (λ bytes. bytes.now) manifest.entry) (D.steps disk.old) (D.steps disk.new)) }
 {
     match accept(alloc, manifest) {
         Ok(()) => make_and_lock(disk),
@@ -118,6 +124,8 @@ fn make_and_lock<D: Disk>(disk: &mut D) -> Result<(), JournalError>
     ensures taken { OnOk result (D.steps disk.new ≡ with_step (with_step (D.steps disk.old) FolderMade) Locked) }
     ensures refused { (given : Option (List ℕ)) → IfErr result (Fails (D.held disk.new) given (D.steps disk.old) (D.steps disk.new)) }
     ensures steps { OnErr result (IsQuiet (D.steps disk.old) (D.steps disk.new) ⊎ IsQuiet (with_step (D.steps disk.old) FolderMade) (D.steps disk.new)) }
+    ensures held { D.held disk.new ≡ D.held disk.old }
+    ensures which { IfErr result IsUnmadeFor }
 {
     match disk.make() {
         Ok(()) => {}
@@ -174,6 +182,7 @@ fn go_on<'m, D: Disk>(
     manifest: Option<&'m [u8]>,
 ) -> Result<Begun<'m>, JournalError>
     requires { IfSome (D.held disk.old).names (λ names. IsNewest names number) }
+    ensures held { D.held disk.new ≡ D.held disk.old }
     ensures found { IfOk result (Finds (D.held disk.new) (option_map (λ bytes. bytes.now) manifest.entry)) }
     ensures refused { IfErr result (Fails (D.held disk.new) (option_map (λ bytes. bytes.now) manifest.entry) (D.steps disk.old) (D.steps disk.new)) }
     ensures quiet { IsQuiet (D.steps disk.old) (D.steps disk.new) }

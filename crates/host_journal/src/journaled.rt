@@ -4,18 +4,19 @@
 ghost use Rattle.std.specs.Prelude.{◌≡◌, ◌≤◌, Bool, [], List, Option, Some, None, true, false, length, take, OnOk, OnErr, IfOk};
 ghost use Rattle.trace.specs.Growing.{FailsBySink};
 ghost use Rattle.trace.specs.Sinks.{HasFailed, Takes};
-ghost use Rattle.host_journal.specs.Disks.{Step, kept_so_far};
-ghost use Rattle.host_journal.specs.Journals.{Leaves};
-ghost use Rattle.host_journal.specs.Order.{EndsALine};
+ghost use Rattle.host_journal.specs.Disks.{AllDone, Step, kept_so_far};
+ghost use Rattle.host_journal.specs.Journals.{HasLost, IsAnswered, Leaves, is_of_write};
+ghost use Rattle.host_live.specs.LinesCome.{EndsALine};
 
 use crate::answer::answer_to;
+use crate::answered::{Answered, code_of};
 use crate::disk::Disk;
 use crate::lost::Lost;
 use crate::order::Order;
 use crate::putting::put_all;
 use host_live::{LineFault, Outlet};
 use std::marker::{Model, PhantomData};
-use trace::{Sink, WriteFailed};
+use trace::WriteFailed;
 
 /// How many bytes may wait to go out.
 pub(crate) const ROOM: usize = 65536;
@@ -29,6 +30,7 @@ pub(crate) struct Journaled<D: Disk, O: Order> {
     pending: Vec<u8>,
     lost: Option<Lost>,
     failures: u64,
+    answered: Answered,
     is_synced: bool,
     // whether the segment was appended to since it was synced
     is_behind: bool,
@@ -43,27 +45,30 @@ impl<D: Disk, O: Order> Model for Journaled<D, O> {
     ghost Value = { JournaledState };
 
     ghost use Rattle.std.specs.Prelude.{◌≡◌};
-    ghost use Rattle.host_journal.specs.Journals.{Stands};
+    ghost use Rattle.host_journal.specs.Journals.{HasLost, Stands};
 
-    ghost view = { λ j. record { steps = D.steps j.disk; pending = j.pending.items; lost = j.lost; failures = j.failures; is_synced = j.is_synced; is_behind = j.is_behind } };
+    ghost view = { λ j. record { steps = D.steps j.disk; pending = j.pending.items; lost = j.lost; failures = j.failures; answers = j.answered.given; place = j.answered.place; is_synced = j.is_synced; is_behind = j.is_behind } };
 
-    ghost invariant = { λ j. Stands O.is_synced O.first O.before (D.steps j.disk) j.pending.items j.lost j.is_behind j.is_at_line × (j.is_synced ≡ O.is_synced) };
+    ghost invariant = { λ j. Stands O.is_synced O.first O.before (D.steps j.disk) j.pending.items j.answered.given j.answered.place j.lost j.is_behind j.is_at_line × (j.is_synced ≡ O.is_synced) × (D.segment j.disk ≡ O.segment) × HasLost O.segment O.before (D.steps j.disk) j.lost };
 }
 
 impl<D: Disk, O: Order> Journaled<D, O> {
     /// Nothing was appended yet, and the first line waits.
     pub(crate) fn of(disk: D, pending: Vec<u8>, is_synced: bool) -> Self
         requires before { O.before ≡ D.steps disk }
+        requires segment { O.segment ≡ D.segment disk }
         requires first { O.first ≡ pending.items }
         requires line { EndsALine O.first }
         requires synced { O.is_synced ≡ is_synced }
         ensures steps { result.steps ≡ D.steps disk }
+        ensures answers { result.answers ≡ [] }
     {
         Journaled {
             disk,
             pending,
             lost: None,
             failures: 0,
+            answered: Answered::none(),
             is_synced,
             is_behind: false,
             is_at_line: true,
@@ -76,12 +81,15 @@ impl<D: Disk, O: Order> Journaled<D, O> {
         ensures steps { D.steps result.0 ≡ self.steps }
         ensures lost { result.1 ≡ self.lost }
         ensures order { Leaves O.is_synced O.first O.before (D.steps result.0) self }
+        ensures cause { HasLost O.segment O.before (D.steps result.0) result.1 }
+        ensures done { is_of_write result.1 ≡ false → AllDone O.before (D.steps result.0) }
     {
         let Journaled {
             disk,
             pending: _,
             lost,
             failures: _,
+            answered: _,
             is_synced: _,
             is_behind: _,
             is_at_line: _,
@@ -90,22 +98,23 @@ impl<D: Disk, O: Order> Journaled<D, O> {
         (disk, lost)
     }
 
-    // Notes what was lost first, and that a write failed.
-    fn fail(&mut self, lost: Lost) -> WriteFailed
+    // Notes that a write failed. What was lost by it is noted before.
+    fn fail(&mut self) -> WriteFailed
         ensures steps { self.new.steps ≡ self.old.steps }
+        ensures lost { self.new.lost ≡ self.old.lost }
         ensures failures { HasFailed self.old.failures self.new.failures }
+        ensures answers { self.new.answers ≡ self.old.answers }
     {
-        if self.lost.is_none() {
-            self.lost = Some(lost);
-        }
         self.failures = self.failures.saturating_add(1);
         WriteFailed
     }
 
     // Syncs the segment, if that is asked for and it was appended to since.
     fn make_sure(&mut self) -> Result<(), WriteFailed>
+        requires { self.old.lost ≡ None }
         ensures kept { kept_so_far self.new.steps ≡ kept_so_far self.old.steps }
         ensures failures { FailsBySink self.old.failures result self.new.failures }
+        ensures answers { self.new.answers ≡ self.old.answers }
         ensures sure { OnOk result (O.is_synced ≡ true → self.new.is_behind ≡ false) }
         ensures lost { OnOk result (self.new.lost ≡ self.old.lost) }
     {
@@ -117,7 +126,10 @@ impl<D: Disk, O: Order> Journaled<D, O> {
                 self.is_behind = false;
                 Ok(())
             }
-            Err(WriteFailed) => Err(self.fail(Lost::Segment)),
+            Err(WriteFailed) => {
+                self.lost = Some(Lost::Segment);
+                Err(self.fail())
+            }
         }
     }
 
@@ -125,11 +137,12 @@ impl<D: Disk, O: Order> Journaled<D, O> {
     pub(crate) fn flush(&mut self) -> Result<(), WriteFailed>
         ensures kept { kept_so_far self.new.steps ≡ kept_so_far self.old.steps }
         ensures failures { FailsBySink self.old.failures result self.new.failures }
+        ensures answers { self.new.answers ≡ self.old.answers }
         ensures all { OnOk result ((self.new.pending ≡ []) × (self.new.lost ≡ None)) }
         ensures sure { OnOk result (O.is_synced ≡ true → self.new.is_behind ≡ false) }
     {
         if self.lost.is_some() {
-            return Err(self.fail(Lost::InternalError));
+            return Err(self.fail());
         }
         self.make_sure()?;
         match put_all(&mut self.disk, self.pending.as_slice()) {
@@ -139,8 +152,7 @@ impl<D: Disk, O: Order> Journaled<D, O> {
             }
             Err(WriteFailed) => {
                 self.lost = Some(Lost::Output);
-                self.failures = self.failures.saturating_add(1);
-                Err(WriteFailed)
+                Err(self.fail())
             }
         }
     }
@@ -149,10 +161,12 @@ impl<D: Disk, O: Order> Journaled<D, O> {
     fn room(&mut self) -> Result<usize, WriteFailed>
         ensures kept { kept_so_far self.new.steps ≡ kept_so_far self.old.steps }
         ensures failures { FailsBySink self.old.failures result self.new.failures }
+        ensures answers { self.new.answers ≡ self.old.answers }
         ensures room { IfOk result (λ room. 1 ≤ room) }
+        ensures unlost { OnOk result (self.new.lost ≡ None) }
     {
         if self.lost.is_some() {
-            return Err(self.fail(Lost::InternalError));
+            return Err(self.fail());
         }
         let waiting = self.pending.len();
         if waiting + ANSWER <= ROOM {
@@ -166,11 +180,14 @@ impl<D: Disk, O: Order> Journaled<D, O> {
 
     // Appends some of the bytes, which then wait.
     fn keep(&mut self, text: &[u8]) -> Result<usize, WriteFailed>
-        requires { 1 ≤ length text.now }
+        requires some { 1 ≤ length text.now }
+        requires unlost { self.old.lost ≡ None }
+        ensures answers { self.new.answers ≡ self.old.answers }
         ensures taken { Takes text.now (kept_so_far self.old.steps) self.old.failures result (kept_so_far self.new.steps) self.new.failures }
     {
         match self.disk.keep(text) {
             Ok(count) => {
+                self.answered = self.answered.after(count);
                 self.is_behind = true;
                 self.is_at_line = text[count - 1] == b'\n';
                 match self.pending.extend_from_slice(&text[..count]) {
@@ -181,34 +198,44 @@ impl<D: Disk, O: Order> Journaled<D, O> {
                     }
                 }
             }
-            Err(WriteFailed) => Err(self.fail(Lost::Segment)),
+            Err(WriteFailed) => {
+                self.lost = Some(Lost::Segment);
+                Err(self.fail())
+            }
         }
     }
 
     // The answer to a line waits too.
     fn answer(&mut self, line: usize, fault: Option<LineFault>) -> Result<(), WriteFailed>
+        requires { self.old.lost ≡ None }
         ensures kept { kept_so_far self.new.steps ≡ kept_so_far self.old.steps }
+        ensures answers { IsAnswered (kept_so_far O.before) (kept_so_far self.new.steps) self.old.answers line fault result self.new.answers }
         ensures failures { FailsBySink self.old.failures result self.new.failures }
     {
         if !self.is_at_line {
-            return Err(self.fail(Lost::InternalError));
+            self.lost = Some(Lost::InternalError);
+            return Err(self.fail());
         }
         match self
             .pending
             .extend_from_slice(answer_to(line, fault).as_slice())
         {
-            Ok(()) => Ok(()),
+            Ok(()) => {
+                self.answered = self.answered.and_one(line, code_of(fault));
+                Ok(())
+            }
             Err(_) => {
                 self.lost = Some(Lost::OutOfMemory);
-                self.failures = self.failures.saturating_add(1);
-                Err(WriteFailed)
+                Err(self.fail())
             }
         }
     }
 }
 
-impl<D: Disk, O: Order> Sink for Journaled<D, O> {
+impl<D: Disk, O: Order> Outlet for Journaled<D, O> {
+    ghost use Rattle.std.specs.Prelude.{Some};
     ghost use Rattle.host_journal.specs.Disks.{kept_so_far};
+    ghost use Rattle.host_journal.specs.Journals.{stood_behind};
 
     ghost bytes = { λ j. kept_so_far j.steps };
 
@@ -216,15 +243,15 @@ impl<D: Disk, O: Order> Sink for Journaled<D, O> {
 
     ghost origin = { λ _. 0 };
 
-    fn write(&mut self, text: &[u8]) -> Result<usize, WriteFailed> {
+    ghost answers = { λ j. Some (stood_behind (kept_so_far O.before) j.answers) };
+
+    fn take(&mut self, text: &[u8]) -> Result<usize, WriteFailed> {
         match self.room() {
             Ok(room) => self.keep(&text[..text.len().min(room)]),
             Err(failed) => Err(failed),
         }
     }
-}
 
-impl<D: Disk, O: Order> Outlet for Journaled<D, O> {
     fn answered(&mut self, line: usize, fault: Option<LineFault>) -> Result<(), WriteFailed> {
         match self.room() {
             Ok(_) => self.answer(line, fault),

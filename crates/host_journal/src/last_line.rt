@@ -127,7 +127,7 @@ pub(crate) fn is_ended<D: Disk>(disk: &mut D, number: u64) -> Result<bool, Journ
 fn ends_so<D: Disk>(disk: &mut D) -> Result<bool, ReadFailed>
     ensures says { Says EndsInSums (D.remaining disk.old) result }
     ensures held { D.held disk.new ≡ D.held disk.old }
-    ensures steps { ReadsAll (D.remaining disk.old) (D.steps disk.old) result (D.steps disk.new) }
+    ensures steps { ReadsAll (D.segment disk.old) (D.remaining disk.old) (D.steps disk.old) result (D.steps disk.new) }
 {
     let mut piece = [0; PIECE];
     let mut last = LastLine::none();

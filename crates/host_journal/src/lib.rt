@@ -3,6 +3,7 @@
 #![tactic(auto)]
 
 mod answer;
+mod answered;
 mod auditing;
 mod beginning;
 mod disk;

@@ -1,6 +1,6 @@
 // The engine of the segment that a start goes on with. It relies on `replaying` for a segment that is there.
 
-ghost use Rattle.std.specs.Prelude.{◌≡◌, None, IfOk};
+ghost use Rattle.std.specs.Prelude.{◌≡◌, None, IfOk, OnOk};
 ghost use Rattle.world.specs.World.{version_of};
 ghost use Rattle.trace.specs.TraceText.{header};
 ghost use Rattle.host_live.specs.Growth.{StandsBehind};
@@ -28,6 +28,7 @@ pub fn open<'a, D: Disk>(
     ensures opens { Opens begun.now (D.held disk.old) (D.steps disk.old) (D.steps disk.new) result }
     ensures behind { IfOk result (λ recovered. StandsBehind recovered.records recovered.engine) }
     ensures setup { IfOk result (λ recovered. recovered.engine.setup ≡ begun.now.config) }
+    ensures which { OnOk result (D.segment disk.new ≡ begun.now.number) }
     ensures steps { Prepares begun.now (D.steps disk.old) result (D.steps disk.new) }
 {
     match begun.manifest {
@@ -46,6 +47,7 @@ fn make<'a, D: Disk>(
     ensures opens { OpensFirst begun.now.config (D.steps disk.old) (D.steps disk.new) result }
     ensures behind { IfOk result (λ recovered. StandsBehind recovered.records recovered.engine) }
     ensures setup { IfOk result (λ recovered. recovered.engine.setup ≡ begun.now.config) }
+    ensures which { OnOk result (D.segment disk.new ≡ begun.now.number) }
     ensures steps { Makes begun.now.number manifest.now (header (version_of begun.now.config)) (D.steps disk.old) result (D.steps disk.new) }
 {
     let engine = match NumberedEngine::open(alloc, &begun.config) {
@@ -77,6 +79,7 @@ fn go_on<'a, D: Disk>(
     ensures opens { OpensNext begun.now.config begun.now.number ((D.held disk.old).segments begun.now.number) (D.steps disk.old) (D.steps disk.new) result }
     ensures behind { IfOk result (λ recovered. StandsBehind recovered.records recovered.engine) }
     ensures setup { IfOk result (λ recovered. recovered.engine.setup ≡ begun.now.config) }
+    ensures which { OnOk result (D.segment disk.new ≡ begun.now.number) }
     ensures steps { Cuts begun.now.number (D.steps disk.old) result (D.steps disk.new) }
 {
     match replayed(alloc, disk, begun.number, &begun.config) {
@@ -91,7 +94,9 @@ fn cut<'a, D: Disk>(
     number: u64,
     recovered: Recovered<'a>,
 ) -> Result<Recovered<'a>, JournalError>
-    ensures { CutsOff number recovered.entry (D.steps disk.old) result (D.steps disk.new) }
+    requires { D.segment disk.old ≡ number }
+    ensures which { D.segment disk.new ≡ D.segment disk.old }
+    ensures steps { CutsOff number recovered.entry (D.steps disk.old) result (D.steps disk.new) }
 {
     if recovered.is_ended {
         return Err(OrMemory::Fault(JournalFault::Ended(number)));

@@ -2,13 +2,15 @@
 
 use std::marker::Brand;
 
-/// The steps before the first write, the first line that goes out, and whether the segment is to be synced before anything goes out. Whoever
-/// serves passes `Brand` to a function over this, and picks them there.
+/// The steps before the first write, the number of the segment, the first line that goes out, and whether the segment is to be synced before
+/// anything goes out. Whoever serves passes `Brand` to a function over this, and picks them there.
 pub trait Order {
     ghost use Rattle.std.specs.Prelude.{ℕ, Bool, List, Option};
     ghost use Rattle.host_journal.specs.Disks.{Step};
 
     ghost before: { Option (List Step) };
+
+    ghost segment: { ℕ };
 
     ghost first: { List ℕ };
 
@@ -19,6 +21,8 @@ impl Order for Brand {
     ghost use Rattle.std.specs.Prelude.{None, [], false};
 
     ghost before = { None };
+
+    ghost segment = { 0 };
 
     ghost first = { [] };
 

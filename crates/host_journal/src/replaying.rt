@@ -1,6 +1,6 @@
 // A segment of a folder, replayed. It relies on `host_recovery`, and on `text` for whether a segment that is faulty is text.
 
-ghost use Rattle.std.specs.Prelude.{◌≡◌, IfErr, MatchOption};
+ghost use Rattle.std.specs.Prelude.{◌≡◌, IfErr, MatchOption, OnOk};
 ghost use Rattle.base.specs.declared.or_memory.OrMemory.TheVariants.{Fault};
 ghost use Rattle.host_recovery.specs.Recovering.{Answers};
 ghost use Rattle.host_journal.specs.Disks.{IsQuiet};
@@ -29,7 +29,8 @@ pub(crate) fn replayed<'a, D: Disk>(
     ensures replays { Replays config.now number ((D.held disk.old).segments number) result }
     ensures held { D.held disk.new ≡ D.held disk.old }
     ensures steps { IsReplay number (D.steps disk.old) result (D.steps disk.new) }
-    ensures cause { IfErr result (HasCause ((D.held disk.old).segments number) (D.steps disk.old) (D.steps disk.new)) }
+    ensures which { OnOk result (D.segment disk.new ≡ number) }
+    ensures cause { IfErr result (HasCause number ((D.held disk.old).segments number) (D.steps disk.old) (D.steps disk.new)) }
 {
     match disk.open_segment(number) {
         Ok(()) => {}
@@ -40,7 +41,12 @@ pub(crate) fn replayed<'a, D: Disk>(
         Err(OrMemory::OutOfMemory) => Err(OrMemory::OutOfMemory),
         Err(OrMemory::Fault(RecoveryFault::Unread)) => Err(unread(number)),
         Err(OrMemory::Fault(RecoveryFault::TooLong)) => Err(unread(number)),
-        Err(OrMemory::Fault(fault)) => Err(OrMemory::Fault(fault_of(disk, number, fault))),
+        Err(OrMemory::Fault(RecoveryFault::Form(form))) => {
+            Err(OrMemory::Fault(fault_of(disk, number, RecoveryFault::Form(form))))
+        }
+        Err(OrMemory::Fault(RecoveryFault::Unfollowed(at))) => {
+            Err(OrMemory::Fault(fault_of(disk, number, RecoveryFault::Unfollowed(at))))
+        }
     }
 }
 
@@ -52,11 +58,13 @@ fn read_lent<'a, M: Reader, L: Lent>(
 ) -> (M, Result<Recovered<'a>, RecoveryError>)
     requires name { M.name reader ≡ L.name }
     requires held { M.held reader ≡ L.held }
+    requires segment { M.segment reader ≡ L.segment }
     requires steps { M.steps reader ≡ L.steps }
     ensures recovers { Answers config.now (M.remaining reader) result.1 }
     ensures name { M.name result.0 ≡ L.name }
     ensures held { M.held result.0 ≡ L.held }
-    ensures steps { ReadsSince L.steps result.1 (M.steps result.0) }
+    ensures segment { M.segment result.0 ≡ L.segment }
+    ensures steps { ReadsSince L.segment L.steps result.1 (M.steps result.0) }
 {
     let mut segment: OpenSegment<M, L> = OpenSegment {
         reader,
@@ -82,7 +90,8 @@ fn read_lending<'a, 'd, D: Disk>(
     ensures recovers { MatchOption came.new ⊥ (Answers config.now (D.remaining disk.old)) }
     ensures same { result.disk.ghost_name ≡ disk.entry.ghost_name }
     ensures held { D.held result.disk.now ≡ D.held disk.old }
-    ensures steps { MatchOption came.new ⊥ (λ came. ReadsSince (D.steps disk.old) came (D.steps result.disk.now)) }
+    ensures which { D.segment result.disk.now ≡ D.segment disk.old }
+    ensures steps { MatchOption came.new ⊥ (λ came. ReadsSince (D.segment disk.old) (D.steps disk.old) came (D.steps result.disk.now)) }
 {
     let (lending, result) = read_lent::<Lending<'d, D>, Brand>(alloc, Lending { disk }, config);
     *came = Some(result);
@@ -97,7 +106,8 @@ fn read_open<'a, D: Disk>(
 ) -> Result<Recovered<'a>, RecoveryError>
     ensures recovers { Answers config.now (D.remaining disk.old) result }
     ensures held { D.held disk.new ≡ D.held disk.old }
-    ensures steps { ReadsSince (D.steps disk.old) result (D.steps disk.new) }
+    ensures which { D.segment disk.new ≡ D.segment disk.old }
+    ensures steps { ReadsSince (D.segment disk.old) (D.steps disk.old) result (D.steps disk.new) }
 {
     let mut came = None;
     let lending = read_lending(alloc, disk, config, &mut came);

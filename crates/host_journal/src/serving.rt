@@ -1,7 +1,7 @@
 // An engine of a journal that is served: what it prints is appended to the segment before it goes out. It relies on `host_live` for what lines
 // ask, and on `journaled` for what goes out.
 
-ghost use Rattle.std.specs.Prelude.{◌≡◌, List, Err, IfOk, IsOk, IsTrue, OnOk, false};
+ghost use Rattle.std.specs.Prelude.{◌≡◌, ℕ, List, Option, Err, IfErr, IfOk, IsOk, IsTrue, OnOk, false};
 ghost use Rattle.base.specs.declared.or_memory.OrMemory.TheVariants.{Fault};
 ghost use Rattle.world_calls.specs.declared.record.Record.{Record as TheRecord};
 ghost use Rattle.world.specs.World.{version_of};
@@ -10,9 +10,9 @@ ghost use Rattle.engine_core.specs.ByNumber.{IsBehind};
 ghost use Rattle.host_live.specs.Growth.{StandsBehind};
 ghost use Rattle.host_live.specs.Telling.{Continues};
 ghost use Rattle.host_live.specs.declared.serving.LiveFault.TheVariants.{Unread as InputUnread};
-ghost use Rattle.host_journal.specs.Disks.{kept_so_far};
-ghost use Rattle.host_journal.specs.Journals.{InOrder};
-ghost use Rattle.host_journal.specs.Order.{EndsALine};
+ghost use Rattle.host_journal.specs.Disks.{AllDone, Step, kept_so_far};
+ghost use Rattle.host_journal.specs.Journals.{HasLost, MayStop, ServesInOrder, is_of_write};
+ghost use Rattle.host_live.specs.LinesCome.{EndsALine};
 ghost use Rattle.host_journal.specs.Starts.{first_line};
 ghost use Rattle.host_journal.specs.declared.fault.JournalFault.TheVariants.{Unread};
 
@@ -47,13 +47,17 @@ pub fn serve<D: Disk, I: Input, N: Reports>(
 ) -> (D, Result<(), JournalError>)
     requires same { engine.setup ≡ begun.now.config }
     requires behind { StandsBehind count engine }
-    // No byte goes out that is not in the segment, synced if that is asked for, but for answers between lines; at the end all is out.
-    ensures order { InOrder is_synced (first_line begun.now) (D.steps disk) (D.steps result.0) result.1 }
+    requires segment { D.segment disk ≡ begun.now.number }
+    // No byte goes out that is not in the segment, synced if that is asked for, but for answers between lines; at the end all is out. What
+    // was appended is that of what the lines that came asked for, one by one, and each was answered so.
+    ensures order { ServesInOrder engine.entry manner (I.came input.old) (I.came input.new) is_synced (first_line begun.now) (D.steps disk) (D.steps result.0) result.1 }
     // What was appended continues the history behind the engine.
     ensures told { (records : List TheRecord) → IsBehind records engine.entry → Continues begun.now.config records (kept_so_far (D.steps disk)) result.1 (kept_so_far (D.steps result.0)) }
     ensures unread { result.1 ≡ Err (Fault Unread) → IsTrue (I.has_failed input.new) }
     ensures still { OnOk result.1 (I.has_failed input.new ≡ I.has_failed input.old) }
     ensures ended { manner.is_told ≡ false → OnOk result.1 (IsTrue (I.has_ended input.new)) }
+    // A write that failed is told as itself, and nothing is written after it.
+    ensures fault { IfErr result.1 (MayStop begun.now.number (D.steps disk) (D.steps result.0)) }
 {
     match first_waiting(alloc, begun) {
         Ok(pending) => serve_ordered::<Brand, D, I, N>(
@@ -98,16 +102,19 @@ fn serve_ordered<O: Order, D: Disk, I: Input, N: Reports>(
     reports: &mut N,
 ) -> (D, Result<(), JournalError>)
     requires before { O.before ≡ D.steps disk }
+    requires segment { O.segment ≡ D.segment disk }
+    requires number { O.segment ≡ begun.now.number }
     requires first { O.first ≡ pending.items }
     requires line { EndsALine O.first }
     requires synced { O.is_synced ≡ is_synced }
     requires same { engine.setup ≡ begun.now.config }
     requires behind { StandsBehind count engine }
-    ensures order { InOrder O.is_synced O.first O.before (D.steps result.0) result.1 }
+    ensures order { ServesInOrder engine.entry manner (I.came input.old) (I.came input.new) O.is_synced O.first O.before (D.steps result.0) result.1 }
     ensures told { (records : List TheRecord) → IsBehind records engine.entry → Continues begun.now.config records (kept_so_far (D.steps disk)) result.1 (kept_so_far (D.steps result.0)) }
     ensures unread { result.1 ≡ Err (Fault Unread) → IsTrue (I.has_failed input.new) }
     ensures still { OnOk result.1 (I.has_failed input.new ≡ I.has_failed input.old) }
     ensures ended { manner.is_told ≡ false → OnOk result.1 (IsTrue (I.has_ended input.new)) }
+    ensures fault { IfErr result.1 (MayStop begun.now.number O.before (D.steps result.0)) }
 {
     let mut out: Journaled<D, O> = Journaled::of(disk, pending, is_synced);
     let served = serve_on(
@@ -134,6 +141,7 @@ fn verdict(
 ) -> Result<(), JournalError>
     ensures done { OnOk result (IsOk served × IsOk flushed) }
     ensures unread { result ≡ Err (Fault Unread) → served ≡ Err InputUnread }
+    ensures fault { (old new : Option (List Step)) → HasLost number old new lost → (is_of_write lost ≡ false → AllDone old new) → IfErr result (MayStop number old new) }
 {
     match lost {
         Some(Lost::Segment) => Err(OrMemory::Fault(JournalFault::File(JournalFile::Segment(
@@ -153,6 +161,7 @@ fn unlost(
 ) -> Result<(), JournalError>
     ensures done { OnOk result (IsOk served × IsOk flushed) }
     ensures unread { result ≡ Err (Fault Unread) → served ≡ Err InputUnread }
+    ensures fault { (number : ℕ) (old new : Option (List Step)) → AllDone old new → IfErr result (MayStop number old new) }
 {
     match served {
         Ok(()) => match flushed {

@@ -7,7 +7,7 @@ use crate::disk::Disk;
 use host_recovery::{ReadFailed, Source};
 use std::marker::{Brand, PhantomData};
 
-/// What is read from. Contracts see which one it is, what the folder holds, its steps, and what comes from here on.
+/// What is read from. Contracts see which one it is, what the folder holds, which segment is open, its steps, and what comes from here on.
 pub(crate) trait Reader {
     ghost use Rattle.std.specs.Prelude.{◌≡◌, ◌<◌, ℕ, List, Option, length};
     ghost use Rattle.host_journal.specs.Disks.{Gives, Held, ReadsBytes, Step};
@@ -15,6 +15,8 @@ pub(crate) trait Reader {
     ghost name: { Self → ℕ };
 
     ghost held: { Self → Held };
+
+    ghost segment: { Self → ℕ };
 
     ghost steps: { Self → Option (List Step) };
 
@@ -26,7 +28,8 @@ pub(crate) trait Reader {
         ensures gives { Gives (remaining self.old) result piece.new (remaining self.new) }
         ensures name { name self.new ≡ name self.old }
         ensures held { held self.new ≡ held self.old }
-        ensures steps { ReadsBytes (steps self.old) result (steps self.new) };
+        ensures segment { segment self.new ≡ segment self.old }
+        ensures steps { ReadsBytes (segment self.old) (steps self.old) result (steps self.new) };
 }
 
 /// A folder that is lent. Its name is that of the loan.
@@ -39,6 +42,7 @@ impl<D: Disk> Lending<'_, D> {
     /// The folder goes back as it is.
     pub(crate) fn end(self)
         ensures held { D.held self.exit.0.now ≡ D.held self.entry.disk.now }
+        ensures segment { D.segment self.exit.0.now ≡ D.segment self.entry.disk.now }
         ensures steps { D.steps self.exit.0.now ≡ D.steps self.entry.disk.now }
     {}
 }
@@ -47,6 +51,8 @@ impl<D: Disk> Reader for Lending<'_, D> {
     ghost name = { λ lending. lending.disk.ghost_name };
 
     ghost held = { λ lending. D.held lending.disk.now };
+
+    ghost segment = { λ lending. D.segment lending.disk.now };
 
     ghost steps = { λ lending. D.steps lending.disk.now };
 
@@ -66,6 +72,8 @@ pub(crate) trait Lent {
 
     ghost held: { Held };
 
+    ghost segment: { ℕ };
+
     ghost steps: { Option (List Step) };
 }
 
@@ -76,6 +84,8 @@ impl Lent for Brand {
     ghost name = { 0 };
 
     ghost held = { nothing_held };
+
+    ghost segment = { 0 };
 
     ghost steps = { None };
 }
@@ -88,7 +98,8 @@ pub(crate) struct OpenSegment<M: Reader, L: Lent> {
     pub(crate) of: PhantomData<L>,
     ghost name: { M.name reader ≡ L.name },
     ghost held: { M.held reader ≡ L.held },
-    ghost steps: { M.steps reader ≡ after_failed failed L.steps },
+    ghost segment: { M.segment reader ≡ L.segment },
+    ghost steps: { M.steps reader ≡ after_failed L.segment failed L.steps },
 }
 
 impl<M: Reader, L: Lent> Source for OpenSegment<M, L> {

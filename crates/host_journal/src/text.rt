@@ -17,7 +17,7 @@ const PIECE: usize = 4092;
 pub(crate) fn is_text<D: Disk>(disk: &mut D) -> Result<bool, ReadFailed>
     ensures says { Says IsUtf8 (D.remaining disk.old) result }
     ensures held { D.held disk.new ≡ D.held disk.old }
-    ensures steps { ReadsAll (D.remaining disk.old) (D.steps disk.old) result (D.steps disk.new) }
+    ensures steps { ReadsAll (D.segment disk.old) (D.remaining disk.old) (D.steps disk.old) result (D.steps disk.new) }
 {
     let mut piece = [0; PIECE];
     let mut waiting = Text::none();

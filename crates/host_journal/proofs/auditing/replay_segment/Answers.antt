@@ -24,4 +24,4 @@ returns-clause-refused g c =
     (configured_so (g.D.Disk.held c.args.disk.now) c.args.number c.as_slice.result.now c.in-Ok-own.config
     (subst (λ (bytes : List ℕ). IsText ((g.D.Disk.held c.args.disk.now).manifests c.args.number) bytes) (sym c.as_slice.ensures.value) c.in-Ok.ensures.bytes) c.in-Ok-own.ensures.read)
     (subst (λ (held : Held). Replays c.in-Ok-own.config c.args.number (held.segments c.args.number) (Err c.in-Err-replayed.error)) c.read_manifest.ensures.held c.in-Err-replayed.ensures.replays)
-    (subst (λ (held : Held). HasCause (held.segments c.args.number) (g.D.Disk.steps c.read_manifest.new.self) (g.D.Disk.steps c.replayed.new.disk) c.in-Err-replayed.error) c.read_manifest.ensures.held c.in-Err-replayed.ensures.cause)
+    (subst (λ (held : Held). HasCause c.args.number (held.segments c.args.number) (g.D.Disk.steps c.read_manifest.new.self) (g.D.Disk.steps c.replayed.new.disk) c.in-Err-replayed.error) c.read_manifest.ensures.held c.in-Err-replayed.ensures.cause)

@@ -21,4 +21,4 @@ pub returns-clause-opens : goal.returns-clause-opens
 returns-clause-opens g c =
     subst (λ (error : OrMemory JournalFault). IsUnmade (g.D.Disk.steps c.args.disk.now) (g.D.Disk.steps c.make_segment.new.self) error) (sym c.of_file-in-Err-make_segment.ensures)
     (unmade (g.D.Disk.steps c.args.disk.now) (g.D.Disk.steps c.make_manifest.new.self) (g.D.Disk.steps c.make_segment.new.self) c.in-Err-make_segment.fault _
-    (went_step (g.D.Disk.steps c.args.disk.now) (g.D.Disk.steps c.make_manifest.new.self) (ManifestMade c.args.begun.now.number c.args.manifest.now) c.in-Ok-make_manifest.ensures) c.in-Err-make_segment.ensures)
+    (went_step (g.D.Disk.steps c.args.disk.now) (g.D.Disk.steps c.make_manifest.new.self) (ManifestMade c.args.begun.now.number c.args.manifest.now) c.in-Ok-make_manifest.ensures) c.in-Err-make_segment.ensures.steps)

@@ -4,7 +4,7 @@ use Rattle.trace.specs.TraceText.{header}
 use Rattle.world.specs.World.{version_of}
 use Rattle.world_calls.specs.declared.trace.Version.{Version}
 use Rattle.world_calls.specs.declared.trace.Version.TheVariants.{One, Two}
-use Rattle.host_journal.specs.Order.{EndsALine}
+use Rattle.host_live.specs.LinesCome.{EndsALine}
 use Rattle.host_journal.proofs.serving.first_waiting.Goals as goal
 
 header_ends : (version : Version) → EndsALine (header version)

@@ -2,6 +2,7 @@ use Rattle.std.proofs.Common.{◌≡◌, ◌∙◌, ◌+◌, ◌==◌, ℕ, List
 use Rattle.std.specs.Io.KnownBytes.{Consumes}
 use Rattle.host_journal.specs.Disks.{Failed, with_step}
 use Rattle.host_journal.specs.declared.disk.DiskFault.TheVariants.{Failed as NotDone}
+use Rattle.host_journal.specs.declared.fault.JournalFile.TheVariants.{Segment}
 use Rattle.host_journal.specs.Texts.{IsBad, IsCutAt}
 use Rattle.host_journal.proofs.Utf8.{IsReadSo, read_more, read_none, read_too_far, said_bad, said_end}
 use Rattle.host_journal.proofs.text.is_text.Goals as goal
@@ -20,7 +21,7 @@ returns-in-None-clause-says g c =
     c.in-Ok.ensures.gives.1 (subst (λ (bytes : List ℕ). IsBad bytes) (c.as_slice.ensures.bytes ∙ c.put.ensures) c.in-None.ensures)
 
 pub returns-in-Err-clause-steps : goal.returns-in-Err-clause-steps
-returns-in-Err-clause-steps g c = inl (c.in-Err.ensures.steps ∙ ap (λ steps. with_step steps (Failed NotDone)) c.loop-came.invariant.steps)
+returns-in-Err-clause-steps g c = inl (c.in-Err.ensures.steps ∙ (ap (λ steps. with_step steps (Failed (Segment (g.D.Disk.segment c.loop-came.disk)) NotDone)) c.loop-came.invariant.steps ∙ ap (λ (n : ℕ). with_step (g.D.Disk.steps c.args.disk.now) (Failed (Segment n) NotDone)) c.loop-came.invariant.which))
 
 pub returns-clause-steps : goal.returns-clause-steps
 returns-clause-steps g c = inr (c.loop-came.invariant.steps, read_too_far (g.D.Disk.remaining c.args.disk.now) (g.D.Disk.remaining c.loop-came.disk) c.loop-came.waiting c.loop-came.came c.loop-came.invariant.so_far (omega (arith, c.loop-came-test.false)))
@@ -32,6 +33,7 @@ loop-came-preserved g c =
     let rest : c.drop_front.new.text ≡ drop c.in-Some.whole bytes = c.drop_front.ensures ∙ ap (λ (bytes : List ℕ). drop c.in-Some.whole bytes) c.put.ensures in
     record {
       held = c.in-Ok.ensures.held ∙ c.loop-came.invariant.held;
+      which = c.read.ensures.which ∙ c.loop-came.invariant.which;
       steps = c.in-Ok.ensures.steps ∙ c.loop-came.invariant.steps;
       few = omega (arith, ap (length {A = ℕ}) rest, length-drop c.in-Some.whole bytes, cut.few);
       so_far = subst (λ (waiting : List ℕ). IsReadSo (g.D.Disk.remaining c.args.disk.now) (g.D.Disk.remaining c.read.new.self) waiting (c.loop-came.came + c.in-Ok.count)) (sym rest)

@@ -2,3 +2,5 @@ pub mod Telling
 pub mod Interrupted
 pub mod Served
 pub mod Rejected
+pub mod Starting
+pub mod Accepted

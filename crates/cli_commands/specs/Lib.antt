@@ -1,3 +1,4 @@
 pub mod Faults
+pub mod Journaling
 pub mod Told
 pub mod Writing

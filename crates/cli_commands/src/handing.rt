@@ -62,6 +62,20 @@ impl<W: Write> Sink for WriterSink<'_, W> {
 
 // The trace goes out as it is taken, and no line is answered.
 impl<W: Write> Outlet for WriterSink<'_, W> {
+    ghost use Rattle.std.specs.Prelude.{None};
+
+    ghost bytes = { λ handing. W.contents handing.out.now };
+
+    ghost failures = { λ handing. handing.failures };
+
+    ghost origin = { λ handing. handing.out.ghost_name };
+
+    ghost answers = { λ _. None };
+
+    fn take(&mut self, text: &[u8]) -> Result<usize, WriteFailed> {
+        self.write(text)
+    }
+
     fn answered(&mut self, _line: usize, _fault: Option<LineFault>) -> Result<(), WriteFailed> {
         Ok(())
     }
@@ -102,7 +116,7 @@ impl<'a, W: Write> AnsweringSink<'a, W> {
     }
 }
 
-impl<W: Write> Sink for AnsweringSink<'_, W> {
+impl<W: Write> Outlet for AnsweringSink<'_, W> {
     ghost use Rattle.std.specs.Prelude.{None};
 
     ghost bytes = { λ _. None };
@@ -111,12 +125,12 @@ impl<W: Write> Sink for AnsweringSink<'_, W> {
 
     ghost origin = { λ answering. answering.sink.out.ghost_name };
 
-    fn write(&mut self, text: &[u8]) -> Result<usize, WriteFailed> {
+    ghost answers = { λ _. None };
+
+    fn take(&mut self, text: &[u8]) -> Result<usize, WriteFailed> {
         self.sink.write(text)
     }
-}
 
-impl<W: Write> Outlet for AnsweringSink<'_, W> {
     fn answered(&mut self, line: usize, fault: Option<LineFault>) -> Result<(), WriteFailed> {
         let written = self.sink.out.write_all(answer_to(line, fault).as_slice());
         self.counted(written)

@@ -1,11 +1,20 @@
-// An engine with a journal, and the audit of one, over a disk. It relies on `host_journal` for both, and on `fault` for how faults are told.
+// An engine with a journal, and the audit of one, over a disk. It relies on `host_journal` for both, on `fault` for how faults are reported, and
+// on `trace_lines` for numbers.
 
-ghost use Rattle.std.specs.Prelude.{◌≡◌, ◌≤◌};
+ghost use Rattle.std.specs.Prelude.{◌≡◌, ◌≢◌, ◌≤◌, ◌⊎◌, ℕ, IsTrue, List, Option, false, option_map};
+ghost use Rattle.std.specs.Io.KnownBytes.{Appends, Keeps};
+ghost use Rattle.base.specs.declared.or_memory.OrMemory.{OrMemory as Error};
+ghost use Rattle.host_journal.specs.Audits.{FailsToAudit, IsAudited};
+ghost use Rattle.host_journal.specs.Disks.{IsQuiet, Step};
+ghost use Rattle.host_journal.specs.Starts.{Finds, HasEntered};
+ghost use Rattle.host_journal.specs.declared.auditing.Audited.{Audited as Found};
+ghost use Rattle.host_journal.specs.declared.fault.JournalFault.{JournalFault as Reason};
+ghost use Rattle.host_journal.specs.declared.fault.JournalFault.TheVariants.{Segment};
+ghost use Rattle.cli_commands.specs.Journaling.{IsStatus, IsStatusOf, Starts, audit_text, status_of_fault};
 
 use crate::fault::Fault;
-use crate::files::unwritten;
+use crate::files::write;
 use crate::serving::{INPUT, Telling};
-use crate::shifted::Shifted;
 use base::OrMemory;
 use host_journal::{
     Audited, Begun, Disk, JournalError, JournalFault, JournalFile, audit, begin, open, serve,
@@ -14,11 +23,12 @@ use host_live::{Input, Manner};
 use host_recovery::{Recovered, RecoveryFault};
 use std::alloc::{AllocError, Global};
 use std::io::Write;
+use trace_lines::{Text, print_long_number};
 use world_calls::Notice;
 
-/// Carries out what the lines of an input ask of the engine of a journal, whose folder the disk is, until the input ends, and answers the
-/// status: 0 at its end; 1 where the journal or the manifest, a path and its bytes, is refused, and then nothing changed but the lock's file;
-/// 2 for want of memory, or where a file, the input or the output fails. What was recovered is told on `err`. Each line of the trace stands
+/// Carries out what the lines of an input ask of the engine of a journal, whose folder the disk is, until the input ends, and returns the
+/// status: 0 at its end; 1 if the journal or the manifest, a path and its bytes, is refused, and then nothing changed but the lock's file; 2
+/// for want of memory, or if a file, the input or the output fails. What was recovered is reported on `err`. Each line of the trace stands
 /// in the journal's segment before it goes out. The disk comes back.
 pub fn serve_journal<D: Disk, I: Input, E: Write>(
     alloc: Global,
@@ -30,16 +40,32 @@ pub fn serve_journal<D: Disk, I: Input, E: Write>(
     input: &mut I,
     err: &mut E,
 ) -> (D, u8)
-    ensures { result.1 ≤ 2 }
+    ensures status { result.1 ≤ 2 }
+    // Why it was refused; or which segment was begun or recovered, what the lines of the input led to, and in which order the segment and
+    // standard output were written.
+    ensures starts { Starts manner is_synced (D.held disk) (option_map (λ file. file.1.now) manifest.entry) (D.steps disk) (I.came input.old) (D.steps result.0) (I.came input.new) result.1 }
+    // All of the input was read, and no read failed. Only where lines are answered one of them may end it.
+    ensures read { result.1 ≡ 0 → I.has_failed input.new ≡ I.has_failed input.old }
+    ensures ended { manner.is_told ≡ false → result.1 ≡ 0 → IsTrue (I.has_ended input.new) }
 {
-    let (path, given) = match manifest {
-        Some((path, bytes)) => (path, Some(bytes)),
-        None => ("", None),
+    let path = match manifest {
+        Some((path, _)) => path,
+        None => "",
     };
     let place = Place { folder, path };
-    match begin(alloc, &mut disk, given) {
+    match begin(alloc, &mut disk, bytes_of(manifest)) {
         Ok(begun) => serve_begun(alloc, disk, place, &begun, manner, is_synced, input, err),
         Err(fault) => (disk, report(alloc, fault, place, err)),
+    }
+}
+
+// The bytes of the manifest that is given.
+fn bytes_of<'b>(manifest: Option<(&str, &'b [u8])>) -> Option<&'b [u8]>
+    ensures { option_map (λ bytes. bytes.now) result ≡ option_map (λ file. file.1.now) manifest.entry }
+{
+    match manifest {
+        Some((_, bytes)) => Some(bytes),
+        None => None,
     }
 }
 
@@ -61,7 +87,10 @@ fn serve_begun<D: Disk, I: Input, E: Write>(
     input: &mut I,
     err: &mut E,
 ) -> (D, u8)
-    ensures { result.1 ≤ 2 }
+    ensures status { result.1 ≤ 2 }
+    ensures starts { (given : Option (List ℕ)) (old : Option (List Step)) → Finds (D.held disk) given begun.now → HasEntered given old (D.steps disk) → Starts manner is_synced (D.held disk) given old (I.came input.old) (D.steps result.0) (I.came input.new) result.1 }
+    ensures read { result.1 ≡ 0 → I.has_failed input.new ≡ I.has_failed input.old }
+    ensures ended { manner.is_told ≡ false → result.1 ≡ 0 → IsTrue (I.has_ended input.new) }
 {
     let recovered = match open(alloc, &mut disk, begun) {
         Ok(recovered) => recovered,
@@ -70,7 +99,6 @@ fn serve_begun<D: Disk, I: Input, E: Write>(
     if begun.manifest.is_none() {
         tell_recovered(&recovered, err);
     }
-    let mut input = Shifted::new(input, recovered.engine.clock());
     let mut telling = Telling { err: &mut *err };
     let Recovered {
         engine,
@@ -86,7 +114,7 @@ fn serve_begun<D: Disk, I: Input, E: Write>(
         records,
         manner,
         is_synced,
-        &mut input,
+        input,
         &mut telling,
     );
     match served {
@@ -95,14 +123,14 @@ fn serve_begun<D: Disk, I: Input, E: Write>(
     }
 }
 
-// Tells what was recovered.
+// Reports what was recovered.
 fn tell_recovered<E: Write>(recovered: &Recovered<'_>, err: &mut E) {
     let totals = recovered.engine.totals(recovered.records);
     let _ = writeln!(err, "camr: recovered {}", Notice::Sums(totals));
 }
 
-/// Replays the segments of a journal, whose folder the disk is, and answers the status: 0 where all are accepted, which is told on `out`;
-/// 1 where one is refused; 2 for want of memory, or where a file or a writer fails.
+/// Replays the segments of a journal, whose folder the disk is, and returns the status: 0 if all are accepted, which is reported on `out`; 1
+/// if one is refused; 2 for want of memory, or if a file or a writer fails.
 pub fn audit_journal<D: Disk, W: Write, E: Write>(
     alloc: Global,
     disk: &mut D,
@@ -110,31 +138,48 @@ pub fn audit_journal<D: Disk, W: Write, E: Write>(
     out: &mut W,
     err: &mut E,
 ) -> u8
-    ensures { result ≤ 2 }
+    ensures status { result ≤ 2 }
+    // All of it was accepted, and that went out.
+    ensures accepted { result ≡ 0 → (found : Found) × IsAudited (D.held disk.old) found × Appends (W.contents out.old) (W.contents out.new) (audit_text found) }
+    // It has the fault that is reported.
+    ensures refused { result ≡ 1 → (error : Error Reason) × FailsToAudit (D.held disk.old) (D.steps disk.old) (D.steps disk.new) error × IsStatus error 1 }
+    ensures nothing { result ≡ 1 → Keeps (W.contents out.old) (W.contents out.new) }
+    // Nothing is written to the folder, and no lock is taken.
+    ensures quiet { IsQuiet (D.steps disk.old) (D.steps disk.new) }
 {
     match audit(alloc, disk) {
-        Ok(audit) => tell_audit(&audit, out, err),
+        Ok(audit) => put_audit(&audit, out, err),
         Err(fault) => report(alloc, fault, Place { folder, path: "" }, err),
     }
 }
 
-fn tell_audit<W: Write, E: Write>(audit: &Audited, out: &mut W, err: &mut E) -> u8
-    ensures { result ≤ 2 }
+// Puts out that a journal is accepted, and returns the status.
+fn put_audit<W: Write, E: Write>(audit: &Audited, out: &mut W, err: &mut E) -> u8
+    ensures status { (result ≢ 1) × (result ≤ 2) }
+    ensures written { result ≡ 0 → Appends (W.contents out.old) (W.contents out.new) (audit_text audit.now) }
 {
-    let open = if audit.is_open { ", open" } else { "" };
-    match writeln!(
-        out,
-        "{} segments, {} records, accepted{open}",
-        audit.segments, audit.records
-    ) {
-        Ok(()) => 0,
-        Err(error) => unwritten(error, err),
-    }
+    write(text_of(audit).as_slice(), out, err)
 }
 
-// Tells why a journal was refused, or its engine stopped, and answers the status.
+// What is put out of a journal that is accepted.
+fn text_of(audit: &Audited) -> Text
+    ensures { result ≡ audit_text audit.now }
+{
+    let mut text = Text::none();
+    print_long_number(audit.segments, &mut text);
+    text.put(b" segments, ");
+    print_long_number(audit.records, &mut text);
+    text.put(b" records, accepted");
+    if audit.is_open {
+        text.put(b", open");
+    }
+    text.push(b'\n');
+    text
+}
+
+// Reports why a journal was refused, or its engine stopped, and returns the status.
 fn report<E: Write>(alloc: Global, fault: JournalError, place: Place<'_>, err: &mut E) -> u8
-    ensures { result ≤ 2 }
+    ensures { IsStatus fault result }
 {
     match fault {
         OrMemory::OutOfMemory => Fault::OutOfMemory.report(err),
@@ -142,8 +187,9 @@ fn report<E: Write>(alloc: Global, fault: JournalError, place: Place<'_>, err: &
     }
 }
 
+// The same of a fault.
 fn report_fault<E: Write>(alloc: Global, fault: &JournalFault, place: Place<'_>, err: &mut E) -> u8
-    ensures { result ≤ 2 }
+    ensures { IsStatusOf fault.now result }
 {
     match fault {
         JournalFault::Foreign => refuse("J1", err),
@@ -172,19 +218,19 @@ fn report_fault<E: Write>(alloc: Global, fault: &JournalFault, place: Place<'_>,
 
 // A refusal that has no place.
 fn refuse<E: Write>(code: &str, err: &mut E) -> u8
-    ensures { result ≤ 2 }
+    ensures { (result ≡ 1) ⊎ (result ≡ 2) }
 {
     tell(writeln!(err, "camr: {code}").is_ok())
 }
 
-// The status of a refusal, which could be told or not.
+// The status of a refusal, which could be reported or not.
 fn tell(is_told: bool) -> u8
-    ensures { result ≤ 2 }
+    ensures { (result ≡ 1) ⊎ (result ≡ 2) }
 {
     if is_told { 1 } else { 2 }
 }
 
-// Tells what is wrong with a segment.
+// Reports what is wrong with a segment.
 fn report_segment<E: Write>(
     alloc: Global,
     number: u64,
@@ -192,7 +238,7 @@ fn report_segment<E: Write>(
     place: Place<'_>,
     err: &mut E,
 ) -> u8
-    ensures { result ≤ 2 }
+    ensures { IsStatusOf (Segment number fault.now) result }
 {
     match fault {
         RecoveryFault::Form(fault) => tell(writeln!(
@@ -208,9 +254,9 @@ fn report_segment<E: Write>(
     }
 }
 
-// Tells which file cannot be read or written, or is not UTF-8.
+// Reports which file cannot be read or written, or is not UTF-8.
 fn report_file<E: Write>(alloc: Global, file: JournalFile, place: Place<'_>, err: &mut E) -> u8
-    ensures { result ≤ 2 }
+    ensures { result ≡ 2 }
 {
     match path_of(alloc, file, place.folder) {
         Ok(path) => Fault::File(path.as_str()).report(err),

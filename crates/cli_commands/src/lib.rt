@@ -9,7 +9,6 @@ mod handing;
 mod journaling;
 mod replaying;
 mod serving;
-mod shifted;
 mod usage;
 mod verdicts;
 

@@ -3,10 +3,11 @@
 
 ghost use Rattle.std.specs.Prelude.{◌≡◌, ◌≢◌, ◌≤◌, false, IfErr, IfOk, IsErrAnd, IsTrue, IsUtf8};
 ghost use Rattle.std.specs.Io.KnownBytes.{Keeps};
+ghost use Rattle.host_live.specs.Served.{IsServed as HasServed};
 ghost use Rattle.host_live.specs.Telling.{IsBegun, IsWrittenOut};
 ghost use Rattle.manifest.specs.Meaning.{Means};
 ghost use Rattle.cli_commands.specs.Faults.{status_of};
-ghost use Rattle.cli_commands.specs.Told.{IsFaultyManifest, IsManifest, IsServed, IsServing, IsStopped};
+ghost use Rattle.cli_commands.specs.Told.{HasCarriedOut, IsFaultyManifest, IsManifest, IsServed, IsServing, IsStopped};
 
 use crate::fault::Fault;
 use crate::files::text;
@@ -37,6 +38,8 @@ pub fn serve<I: Input, S: Outlet, E: Write>(
     ensures done { result ≡ 0 → IsManifest manifest.entry.1.now }
     // All that went out is a trace that a replay over the manifest accepts.
     ensures accepted { result ≡ 0 → IsServed manifest.entry.1.now (S.bytes out.old) (S.bytes out.new) }
+    // It is that of what the lines that came asked for, one by one, and each was answered so.
+    ensures turned { result ≡ 0 → HasCarriedOut manifest.entry.1.now manner (I.came input.old) (I.came input.new) (S.bytes out.old) (S.bytes out.new) (S.answers out.old) (S.answers out.new) }
     // It is at its end only if no read failed, and all of the input was read, or where lines are answered one of them ended it.
     ensures read { result ≡ 0 → I.has_failed input.new ≡ I.has_failed input.old }
     ensures ended { manner.is_told ≡ false → result ≡ 0 → IsTrue (I.has_ended input.new) }
@@ -71,6 +74,7 @@ fn serve_on<I: Input, S: Outlet, E: Write>(
 ) -> u8
     ensures status { (result ≢ 1) × (result ≤ 2) }
     ensures whole { result ≡ 0 → IsWrittenOut config (S.bytes out.old) (S.bytes out.new) }
+    ensures turned { result ≡ 0 → HasServed config manner (I.came input.old) (I.came input.new) (S.bytes out.old) (S.bytes out.new) (S.answers out.old) (S.answers out.new) }
     ensures read { result ≡ 0 → I.has_failed input.new ≡ I.has_failed input.old }
     ensures ended { manner.is_told ≡ false → result ≡ 0 → IsTrue (I.has_ended input.new) }
     ensures begun { result ≡ 2 → IsBegun config (S.bytes out.old) (S.bytes out.new) }

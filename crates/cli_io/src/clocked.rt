@@ -1,6 +1,8 @@
 // Standard input with the machine's clock: another thread reads, so that this one can wait for what is due meanwhile. It relies on
 // `feed` for what is between the two, and on `stopwatch` for the clock.
 
+ghost use Rattle.std.specs.Prelude.{None};
+
 use crate::feed::{Feed, Feeder, Handed, take};
 use crate::reading::PIECE;
 use crate::stopwatch::Stopwatch;
@@ -43,6 +45,8 @@ impl<R: Wait + Clock> Input for Clocked<'_, R> {
     ghost has_failed = { λ clocked. clocked.has_failed };
 
     ghost has_ended = { λ clocked. clocked.has_ended };
+
+    ghost came = { λ _. None };
 
     fn wait(&mut self, until: Option<u64>) -> Came {
         match take(self.rt, &self.clock, &self.feed, until, &mut self.bytes) {

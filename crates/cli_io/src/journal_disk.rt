@@ -1,7 +1,7 @@
 // The machine's file system as the folder of a journal, with standard output beside it. It relies on `host_journal` for what is promised of
 // one, and on `inputs` for a manifest.
 
-ghost use Rattle.std.specs.Prelude.{◌≤◌, IfOk, length};
+ghost use Rattle.std.specs.Prelude.{◌≡◌, ◌≤◌, IfOk, OnOk, length};
 
 use crate::inputs::{MOST_MANIFEST, read_file};
 use crate::reading::read_some;
@@ -16,6 +16,9 @@ use trace::WriteFailed;
 
 /// What stands for a name of a file that is not UTF-8: no name of a journal.
 const NO_NAME: &str = "?";
+
+/// The name of the lock's file.
+const LOCK: &str = "lock";
 
 /// A folder of the machine's file system, which is trusted to do what the steps of a `Disk` say, and standard output.
 #[derive(Drop)]
@@ -75,7 +78,7 @@ impl<'a, R: Runtime + Files<File = File> + AllocGlobal, W: Write + Drop> Journal
         File::open(self.rt, self.folder)?.sync_all()
     }
 
-    // The names of the folder, but for itself and the one above it.
+    // The names of the folder, but for itself, the one above it, and the lock's file.
     fn listed(&self, alloc: Global) -> io::Result<Vec<String>> {
         let mut names = Vec::new(alloc);
         for entry in fs::read_dir(self.rt, self.folder)? {
@@ -86,13 +89,15 @@ impl<'a, R: Runtime + Files<File = File> + AllocGlobal, W: Write + Drop> Journal
                 }
                 Err(error) => return Err(io::Error::from(error.kind())),
             };
-            names.push(name)?;
+            if name.as_str() != LOCK {
+                names.push(name)?;
+            }
         }
         Ok(names)
     }
 
     fn locked(&mut self) -> io::Result<bool> {
-        let path = self.path("lock")?;
+        let path = self.path(LOCK)?;
         let file = OpenOptions::new()
             .write(true)
             .create(true)
@@ -107,7 +112,9 @@ impl<'a, R: Runtime + Files<File = File> + AllocGlobal, W: Write + Drop> Journal
         }
     }
 
-    fn opened(&mut self, number: u64) -> io::Result<()> {
+    fn opened(&mut self, number: u64) -> io::Result<()>
+        ensures { OnOk result (self.new.number ≡ number) }
+    {
         let path = self.segment_path(number)?;
         self.segment = Some(File::open(self.rt, path.as_str())?);
         self.number = number;
@@ -115,7 +122,9 @@ impl<'a, R: Runtime + Files<File = File> + AllocGlobal, W: Write + Drop> Journal
     }
 
     // The segment is cut to that length, if it is longer, and is appended to.
-    fn cut_to(&mut self, length: u64) -> io::Result<()> {
+    fn cut_to(&mut self, length: u64) -> io::Result<()>
+        ensures { self.new.number ≡ self.old.number }
+    {
         let number = self.number;
         let path = self.segment_path(number)?;
         let mut how = OpenOptions::new();
@@ -176,6 +185,8 @@ impl<R: Runtime + Files<File = File> + AllocGlobal, W: Write + Drop> Disk
 
     ghost held = { λ _. nothing_held };
 
+    ghost segment = { λ disk. disk.number };
+
     ghost remaining = { λ _. None };
 
     fn names(&mut self, alloc: Global) -> Result<Vec<String>, DiskFault> {
@@ -198,7 +209,10 @@ impl<R: Runtime + Files<File = File> + AllocGlobal, W: Write + Drop> Disk
     }
 
     fn open_segment(&mut self, number: u64) -> Result<(), DiskFault> {
-        done(self.opened(number))
+        match self.opened(number) {
+            Ok(()) => Ok(()),
+            Err(error) => Err(fault_of(error.kind())),
+        }
     }
 
     fn read(&mut self, piece: &mut [u8]) -> Result<usize, ReadFailed> {

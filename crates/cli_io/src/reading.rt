@@ -1,7 +1,7 @@
 // Standard input as a live engine reads it. It relies on `host_live` for
 // what an input is.
 
-ghost use Rattle.std.specs.Prelude.{◌≤◌, IfOk, length};
+ghost use Rattle.std.specs.Prelude.{◌≤◌, IfOk, None, length};
 
 use host_live::{Came, Input};
 use std::alloc::{AllocError, Global};
@@ -38,6 +38,8 @@ impl<R: Read + Drop> Input for Reading<R> {
     ghost has_failed = { λ reading. reading.has_failed };
 
     ghost has_ended = { λ reading. reading.has_ended };
+
+    ghost came = { λ _. None };
 
     fn wait(&mut self, _until: Option<u64>) -> Came {
         match read_some(&mut self.reader, self.bytes.as_mut_slice()) {

@@ -1,12 +1,12 @@
 -- What `clap` makes of the lines that ask for something other than a run: it refuses nothing of them, and finds what they ask for.
-use Rattle.std.proofs.Common.{◌≡◌, ◌∙◌, List, [], ◌∷◌, Option, None, Some, true, false, ap, codes, map, refl, subst, sym}
+use Rattle.std.proofs.Common.{◌≡◌, ◌∙◌, Bool, List, [], ◌∷◌, Option, None, Some, true, false, ap, ap₂, codes, map, refl, subst, sym}
 use Rattle.std.specs.Prelude.{MatchBool, unwrap_or}
 use Rattle.std.specs.Str.{bytes_eq}
 use Rattle.clap.specs.Words.{Row, Shape, Text, subcommand_of}
-use Rattle.clap.specs.Walk.{Held, Walk, arg_by_id, finished, idle, nothing_held, option, option_word, settled, walked, walked_from}
-use Rattle.clap.specs.Faults.{defaults_fault}
+use Rattle.clap.specs.Walk.{Held, Walk, arg_by_id, finished, idle, nothing_held, option, option_word, settled, value, walked, walked_from}
+use Rattle.clap.specs.Faults.{defaults_fault, step_fault, turn_fault}
 use Rattle.clap.specs.Kinds.{Kinds, or_else}
-use Rattle.cli_line.specs.FileLines.{ArePlain, Asked, IsAsked, line_of}
+use Rattle.cli_line.specs.FileLines.{ArePlain, Asked, IsAsked, flagged, line_of, live_words}
 use Rattle.cli_line.specs.FileLines.Asked.{Asm, Dis, Check, Migrate, Live, Reopen, Journal, Audit, Replay}
 use Rattle.cli_line.specs.FoundPlan.{HasFound, MakesNoRun, PlansFound, Suffices}
 use Rattle.cli_line.specs.RunCommand.{camr_command}
@@ -17,7 +17,7 @@ use Rattle.cli_line.proofs.CommandWords.{IsWordOf, command_enters, command_fault
 use Rattle.cli_line.proofs.PlainWords.{turn_value, walk_at, walked_value}
 use Rattle.cli_line.proofs.Planned.{apart}
 use Rattle.cli_line.proofs.SpelledOut.{plain_out}
-use Rattle.cli_line.proofs.Traces.{Trace, end_fault, start, trace_both, trace_last, trace_more, trace_nil, traced_fault, traced_rows}
+use Rattle.cli_line.proofs.Traces.{Trace, end_fault, path_walk, start, trace_both, trace_last, trace_more, trace_nil, traced_fault, traced_rows}
 
 -- the word that such a line begins with
 abbrev word_of : Asked → Text
@@ -25,9 +25,9 @@ word_of (Asm text program) = codes "asm"
 word_of (Dis program) = codes "dis"
 word_of (Check manifest) = codes "check"
 word_of (Migrate manifest migrated) = codes "migrate"
-word_of (Live is_clocked is_stepped manifest) = codes "live"
-word_of (Reopen folder) = codes "live"
-word_of (Journal folder manifest) = codes "live"
+word_of (Live is_clocked is_stepped is_told manifest) = codes "live"
+word_of (Reopen is_synced is_clocked is_stepped is_told folder) = codes "live"
+word_of (Journal is_synced is_clocked is_stepped is_told folder manifest) = codes "live"
 word_of (Audit folder) = codes "audit"
 word_of (Replay manifest trace) = codes "replay"
 
@@ -40,9 +40,9 @@ is_word (Asm text program) = record { stops = refl; faultless = refl; found = re
 is_word (Dis program) = record { stops = refl; faultless = refl; found = refl; named = refl }
 is_word (Check manifest) = record { stops = refl; faultless = refl; found = refl; named = refl }
 is_word (Migrate manifest migrated) = record { stops = refl; faultless = refl; found = refl; named = refl }
-is_word (Live is_clocked is_stepped manifest) = record { stops = refl; faultless = refl; found = refl; named = refl }
-is_word (Reopen folder) = record { stops = refl; faultless = refl; found = refl; named = refl }
-is_word (Journal folder manifest) = record { stops = refl; faultless = refl; found = refl; named = refl }
+is_word (Live is_clocked is_stepped is_told manifest) = record { stops = refl; faultless = refl; found = refl; named = refl }
+is_word (Reopen is_synced is_clocked is_stepped is_told folder) = record { stops = refl; faultless = refl; found = refl; named = refl }
+is_word (Journal is_synced is_clocked is_stepped is_told folder manifest) = record { stops = refl; faultless = refl; found = refl; named = refl }
 is_word (Audit folder) = record { stops = refl; faultless = refl; found = refl; named = refl }
 is_word (Replay manifest trace) = record { stops = refl; faultless = refl; found = refl; named = refl }
 
@@ -70,19 +70,70 @@ module _ (asked : Asked) (rest : List Text) (f : Kinds) (end : Walk) (trace : Tr
 abbrev live_shape : Shape
 live_shape = shape_of (codes "live")
 
-abbrev clocked : Held
-clocked = (walked_from live_shape.rules [] None start (codes "--clock")).held
+-- what is held after a flag
+abbrev set : Text → Held → Held
+set flag h = (walked_from live_shape.rules [] None (walk_at h idle 1) flag).held
 
-abbrev stepped : Held → Held
-stepped h = (walked_from live_shape.rules [] None (walk_at h idle 1) (codes "--step")).held
+-- after one that may be given
+abbrev given : Bool → Text → Held → Held
+given true flag h = set flag h
+given false flag h = h
 
-clock_walked : walked live_shape.rules [] start (codes "--clock") ≡ walk_at clocked idle 1
+clock_walked : (h : Held) → walked live_shape.rules [] (walk_at h idle 1) (codes "--clock") ≡ walk_at (set (codes "--clock") h) idle 1
 unfolding walked
-clock_walked = refl
+clock_walked h = refl
 
-step_walked : (h : Held) → walked live_shape.rules [] (walk_at h idle 1) (codes "--step") ≡ walk_at (stepped h) idle 1
+step_walked : (h : Held) → walked live_shape.rules [] (walk_at h idle 1) (codes "--step") ≡ walk_at (set (codes "--step") h) idle 1
 unfolding walked
 step_walked h = refl
+
+ack_walked : (h : Held) → walked live_shape.rules [] (walk_at h idle 1) (codes "--ack") ≡ walk_at (set (codes "--ack") h) idle 1
+unfolding walked
+ack_walked h = refl
+
+sync_walked : (h : Held) → walked live_shape.rules [] (walk_at h idle 1) (codes "--sync") ≡ walk_at (set (codes "--sync") h) idle 1
+unfolding walked
+sync_walked h = refl
+
+-- the faults of a flag that may be given, and those after it
+abbrev flag_fault : Bool → Text → Held → Kinds → Kinds
+flag_fault true flag h g = or_else (turn_fault live_shape [] (walk_at h idle 1) flag) g
+flag_fault false flag h g = g
+
+-- a flag that may be given
+trace_flag : (is_given : Bool) (flag : Text) (h : Held) (rest : List Text) (g : Kinds) (end : Walk) → walked live_shape.rules [] (walk_at h idle 1) flag ≡ walk_at (set flag h) idle 1
+    → Trace live_shape (walk_at (given is_given flag h) idle 1) rest g end → Trace live_shape (walk_at h idle 1) (flagged is_given flag rest) (flag_fault is_given flag h g) end
+trace_flag true flag h rest g end step more = trace_more (walk_at h idle 1) (walk_at (set flag h) idle 1) end flag rest (turn_fault live_shape [] (walk_at h idle 1) flag) g step refl more
+trace_flag false flag h rest g end step more = more
+
+-- what is held after the flags that say how lines are carried out
+abbrev manner_held : (is_clocked is_stepped is_told : Bool) → Held → Held
+manner_held is_clocked is_stepped is_told h = given is_told (codes "--ack") (given is_stepped (codes "--step") (given is_clocked (codes "--clock") h))
+
+-- the faults of these
+abbrev manner_fault : (is_clocked is_stepped is_told : Bool) → Held → Kinds → Kinds
+manner_fault is_clocked is_stepped is_told h g =
+    let clocked = given is_clocked (codes "--clock") h in
+    flag_fault is_clocked (codes "--clock") h (flag_fault is_stepped (codes "--step") clocked (flag_fault is_told (codes "--ack") (given is_stepped (codes "--step") clocked) g))
+
+trace_manner : (is_clocked is_stepped is_told : Bool) (h : Held) (rest : List Text) (g : Kinds) (end : Walk) → Trace live_shape (walk_at (manner_held is_clocked is_stepped is_told h) idle 1) rest g end
+    → Trace live_shape (walk_at h idle 1) (live_words is_clocked is_stepped is_told rest) (manner_fault is_clocked is_stepped is_told h g) end
+trace_manner is_clocked is_stepped is_told h rest g end more =
+    let clocked : Held = given is_clocked (codes "--clock") h in
+    let stepped : Held = given is_stepped (codes "--step") clocked in
+    trace_flag is_clocked (codes "--clock") h _ _ end (clock_walked h)
+    (trace_flag is_stepped (codes "--step") clocked _ _ end (step_walked clocked)
+    (trace_flag is_told (codes "--ack") stepped rest g end (ack_walked stepped) more))
+
+-- the flags are words that stand as they are
+flag_out : (is_given : Bool) (flag : Text) (words : List Text) → spelled_out flag ≡ flag → map spelled_out words ≡ words → map spelled_out (flagged is_given flag words) ≡ flagged is_given flag words
+flag_out true flag words same rest = ap₂ (λ (w : Text) (ws : List Text). w ∷ ws) same rest
+flag_out false flag words same rest = rest
+
+manner_out : (is_clocked is_stepped is_told : Bool) (words : List Text) → map spelled_out words ≡ words → map spelled_out (live_words is_clocked is_stepped is_told words) ≡ live_words is_clocked is_stepped is_told words
+manner_out is_clocked is_stepped is_told words rest =
+    flag_out is_clocked (codes "--clock") (flagged is_stepped (codes "--step") (flagged is_told (codes "--ack") words)) refl
+    (flag_out is_stepped (codes "--step") (flagged is_told (codes "--ack") words) refl (flag_out is_told (codes "--ack") words refl rest))
 
 -- a flag that is found as another word is not given
 not_synced : {o : Option Text} → o ≡ Some (codes "false") → o ≡ Some (codes "true") → ⊥
@@ -107,6 +158,69 @@ trace_journal folder rest g end plain more =
     (walked_value live_shape.rules asks_journal (codes "journal") 1 folder plain)
     (turn_value live_shape asks_journal (codes "journal") 1 folder plain) more)
 
+-- ---- the lines behind `live`
+
+-- the words after the folder
+abbrev kept_words : (is_synced is_clocked is_stepped is_told : Bool) → List Text → List Text
+kept_words is_synced is_clocked is_stepped is_told words = flagged is_synced (codes "--sync") (live_words is_clocked is_stepped is_told words)
+
+-- what is held after them
+abbrev kept_held : (is_synced is_clocked is_stepped is_told : Bool) → Text → Held
+kept_held is_synced is_clocked is_stepped is_told folder = manner_held is_clocked is_stepped is_told (given is_synced (codes "--sync") (journal_walk folder).held)
+
+-- the faults of these
+abbrev kept_fault : (is_synced is_clocked is_stepped is_told : Bool) → Text → Kinds → Kinds
+kept_fault is_synced is_clocked is_stepped is_told folder g =
+    let h = (journal_walk folder).held in
+    or_else [] (flag_fault is_synced (codes "--sync") h (manner_fault is_clocked is_stepped is_told (given is_synced (codes "--sync") h) g))
+
+trace_kept : (is_synced is_clocked is_stepped is_told : Bool) (folder : Text) (rest : List Text) (g : Kinds) (end : Walk) → IsPlain folder
+    → Trace live_shape (walk_at (kept_held is_synced is_clocked is_stepped is_told folder) idle 1) rest g end
+    → Trace live_shape start (codes "--journal" ∷ folder ∷ kept_words is_synced is_clocked is_stepped is_told rest) (kept_fault is_synced is_clocked is_stepped is_told folder g) end
+trace_kept is_synced is_clocked is_stepped is_told folder rest g end plain more =
+    let h : Held = (journal_walk folder).held in
+    trace_journal folder (kept_words is_synced is_clocked is_stepped is_told rest) _ end plain
+    (trace_flag is_synced (codes "--sync") h (live_words is_clocked is_stepped is_told rest) _ end (sync_walked h)
+    (trace_manner is_clocked is_stepped is_told (given is_synced (codes "--sync") h) rest g end more))
+
+kept_out : (is_synced is_clocked is_stepped is_told : Bool) (folder : Text) (words : List Text) → IsPlain folder → map spelled_out words ≡ words
+    → map spelled_out (codes "live" ∷ codes "--journal" ∷ folder ∷ kept_words is_synced is_clocked is_stepped is_told words) ≡ codes "live" ∷ codes "--journal" ∷ folder ∷ kept_words is_synced is_clocked is_stepped is_told words
+kept_out is_synced is_clocked is_stepped is_told folder words plain rest =
+    ap₂ (λ (f : Text) (ws : List Text). codes "live" ∷ codes "--journal" ∷ f ∷ ws) (plain_out folder plain)
+    (flag_out is_synced (codes "--sync") (live_words is_clocked is_stepped is_told words) refl (manner_out is_clocked is_stepped is_told words rest))
+
+-- each is clear, by what is found at its end
+live_clear : (is_clocked is_stepped is_told : Bool) (manifest : Text) → IsPlain manifest
+    → let h = manner_held is_clocked is_stepped is_told nothing_held in
+    let end = path_walk live_shape (walk_at h idle 1) manifest in
+    end_fault live_shape (manner_fault is_clocked is_stepped is_told nothing_held (or_else (step_fault live_shape 1 h value) [])) end ≡ [] → asked_in (codes "live") (finished live_shape.rules end.held) ≡ Some (Live is_clocked is_stepped is_told manifest)
+    → Suffices (codes "live") (finished live_shape.rules end.held) → IsClear PlansFound (line_of (Live is_clocked is_stepped is_told manifest)) (IsAsked (Live is_clocked is_stepped is_told manifest))
+live_clear is_clocked is_stepped is_told manifest plain fails asks suffices =
+    let h : Held = manner_held is_clocked is_stepped is_told nothing_held in
+    clear (Live is_clocked is_stepped is_told manifest) (live_words is_clocked is_stepped is_told (manifest ∷ [])) _ _
+    (trace_manner is_clocked is_stepped is_told nothing_held (manifest ∷ []) _ _ (trace_last h 1 manifest plain))
+    fails asks suffices refl (ap (λ (ws : List Text). codes "live" ∷ ws) (manner_out is_clocked is_stepped is_told (manifest ∷ []) (λ i. plain_out manifest plain i ∷ [])))
+
+reopen_clear : (is_synced is_clocked is_stepped is_told : Bool) (folder : Text) → IsPlain folder
+    → let end = walk_at (kept_held is_synced is_clocked is_stepped is_told folder) idle 1 in
+    end_fault live_shape (kept_fault is_synced is_clocked is_stepped is_told folder []) end ≡ [] → asked_in (codes "live") (finished live_shape.rules end.held) ≡ Some (Reopen is_synced is_clocked is_stepped is_told folder)
+    → Suffices (codes "live") (finished live_shape.rules end.held) → IsClear PlansFound (line_of (Reopen is_synced is_clocked is_stepped is_told folder)) (IsAsked (Reopen is_synced is_clocked is_stepped is_told folder))
+reopen_clear is_synced is_clocked is_stepped is_told folder plain fails asks suffices =
+    clear (Reopen is_synced is_clocked is_stepped is_told folder) (codes "--journal" ∷ folder ∷ kept_words is_synced is_clocked is_stepped is_told []) _ _
+    (trace_kept is_synced is_clocked is_stepped is_told folder [] _ _ plain (trace_nil (walk_at (kept_held is_synced is_clocked is_stepped is_told folder) idle 1)))
+    fails asks suffices refl (kept_out is_synced is_clocked is_stepped is_told folder [] plain refl)
+
+journal_clear : (is_synced is_clocked is_stepped is_told : Bool) (folder manifest : Text) → IsPlain folder × IsPlain manifest
+    → let h = kept_held is_synced is_clocked is_stepped is_told folder in
+    let end = path_walk live_shape (walk_at h idle 1) manifest in
+    end_fault live_shape (kept_fault is_synced is_clocked is_stepped is_told folder (or_else (step_fault live_shape 1 h value) [])) end ≡ [] → asked_in (codes "live") (finished live_shape.rules end.held) ≡ Some (Journal is_synced is_clocked is_stepped is_told folder manifest)
+    → Suffices (codes "live") (finished live_shape.rules end.held)
+    → IsClear PlansFound (line_of (Journal is_synced is_clocked is_stepped is_told folder manifest)) (IsAsked (Journal is_synced is_clocked is_stepped is_told folder manifest))
+journal_clear is_synced is_clocked is_stepped is_told folder manifest plain fails asks suffices =
+    clear (Journal is_synced is_clocked is_stepped is_told folder manifest) (codes "--journal" ∷ folder ∷ kept_words is_synced is_clocked is_stepped is_told (manifest ∷ [])) _ _
+    (trace_kept is_synced is_clocked is_stepped is_told folder (manifest ∷ []) _ _ plain.0 (trace_last (kept_held is_synced is_clocked is_stepped is_told folder) 1 manifest plain.1))
+    fails asks suffices refl (kept_out is_synced is_clocked is_stepped is_told folder (manifest ∷ []) plain.0 (λ i. plain_out manifest plain.1 i ∷ []))
+
 -- ---- the lines
 
 pub asked_clear : (asked : Asked) → ArePlain asked → IsClear PlansFound (line_of asked) (IsAsked asked)
@@ -123,26 +237,46 @@ asked_clear (Check manifest) plain = clear (Check manifest) _ _ _
 asked_clear (Migrate manifest migrated) plain = clear (Migrate manifest migrated) _ _ _
     (trace_both nothing_held manifest migrated refl plain.0 plain.1)
     refl refl ((manifest, refl), ((migrated, refl), tt)) refl (λ i. codes "migrate" ∷ plain_out manifest plain.0 i ∷ plain_out migrated plain.1 i ∷ [])
-asked_clear (Live true true manifest) plain = clear (Live true true manifest) _ _ _
-    (trace_more start (walk_at clocked idle 1) _ (codes "--clock") _ [] _ clock_walked refl
-    (trace_more (walk_at clocked idle 1) (walk_at (stepped clocked) idle 1) _ (codes "--step") _ [] _ (step_walked clocked) refl
-    (trace_last (stepped clocked) 1 manifest plain)))
-    refl refl (not_synced refl, ((manifest, refl), tt)) refl (λ i. codes "live" ∷ codes "--clock" ∷ codes "--step" ∷ plain_out manifest plain i ∷ [])
-asked_clear (Live true false manifest) plain = clear (Live true false manifest) _ _ _
-    (trace_more start (walk_at clocked idle 1) _ (codes "--clock") _ [] _ clock_walked refl (trace_last clocked 1 manifest plain))
-    refl refl (not_synced refl, ((manifest, refl), tt)) refl (λ i. codes "live" ∷ codes "--clock" ∷ plain_out manifest plain i ∷ [])
-asked_clear (Live false true manifest) plain = clear (Live false true manifest) _ _ _
-    (trace_more start (walk_at (stepped nothing_held) idle 1) _ (codes "--step") _ [] _ (step_walked nothing_held) refl (trace_last (stepped nothing_held) 1 manifest plain))
-    refl refl (not_synced refl, ((manifest, refl), tt)) refl (λ i. codes "live" ∷ codes "--step" ∷ plain_out manifest plain i ∷ [])
-asked_clear (Live false false manifest) plain = clear (Live false false manifest) _ _ _
-    (trace_last nothing_held 1 manifest plain)
-    refl refl (not_synced refl, ((manifest, refl), tt)) refl (λ i. codes "live" ∷ plain_out manifest plain i ∷ [])
-asked_clear (Reopen folder) plain = clear (Reopen folder) _ _ _
-    (trace_journal folder [] _ _ plain (trace_nil (journal_walk folder)))
-    refl refl tt refl (λ i. codes "live" ∷ codes "--journal" ∷ plain_out folder plain i ∷ [])
-asked_clear (Journal folder manifest) plain = clear (Journal folder manifest) _ _ _
-    (trace_journal folder (manifest ∷ []) _ _ plain.0 (trace_last (journal_walk folder).held 1 manifest plain.1))
-    refl refl tt refl (λ i. codes "live" ∷ codes "--journal" ∷ plain_out folder plain.0 i ∷ plain_out manifest plain.1 i ∷ [])
+asked_clear (Live true true true manifest) plain = live_clear true true true manifest plain refl refl (not_synced refl, ((manifest, refl), tt))
+asked_clear (Live true true false manifest) plain = live_clear true true false manifest plain refl refl (not_synced refl, ((manifest, refl), tt))
+asked_clear (Live true false true manifest) plain = live_clear true false true manifest plain refl refl (not_synced refl, ((manifest, refl), tt))
+asked_clear (Live true false false manifest) plain = live_clear true false false manifest plain refl refl (not_synced refl, ((manifest, refl), tt))
+asked_clear (Live false true true manifest) plain = live_clear false true true manifest plain refl refl (not_synced refl, ((manifest, refl), tt))
+asked_clear (Live false true false manifest) plain = live_clear false true false manifest plain refl refl (not_synced refl, ((manifest, refl), tt))
+asked_clear (Live false false true manifest) plain = live_clear false false true manifest plain refl refl (not_synced refl, ((manifest, refl), tt))
+asked_clear (Live false false false manifest) plain = live_clear false false false manifest plain refl refl (not_synced refl, ((manifest, refl), tt))
+asked_clear (Reopen true true true true folder) plain = reopen_clear true true true true folder plain refl refl tt
+asked_clear (Reopen true true true false folder) plain = reopen_clear true true true false folder plain refl refl tt
+asked_clear (Reopen true true false true folder) plain = reopen_clear true true false true folder plain refl refl tt
+asked_clear (Reopen true true false false folder) plain = reopen_clear true true false false folder plain refl refl tt
+asked_clear (Reopen true false true true folder) plain = reopen_clear true false true true folder plain refl refl tt
+asked_clear (Reopen true false true false folder) plain = reopen_clear true false true false folder plain refl refl tt
+asked_clear (Reopen true false false true folder) plain = reopen_clear true false false true folder plain refl refl tt
+asked_clear (Reopen true false false false folder) plain = reopen_clear true false false false folder plain refl refl tt
+asked_clear (Reopen false true true true folder) plain = reopen_clear false true true true folder plain refl refl tt
+asked_clear (Reopen false true true false folder) plain = reopen_clear false true true false folder plain refl refl tt
+asked_clear (Reopen false true false true folder) plain = reopen_clear false true false true folder plain refl refl tt
+asked_clear (Reopen false true false false folder) plain = reopen_clear false true false false folder plain refl refl tt
+asked_clear (Reopen false false true true folder) plain = reopen_clear false false true true folder plain refl refl tt
+asked_clear (Reopen false false true false folder) plain = reopen_clear false false true false folder plain refl refl tt
+asked_clear (Reopen false false false true folder) plain = reopen_clear false false false true folder plain refl refl tt
+asked_clear (Reopen false false false false folder) plain = reopen_clear false false false false folder plain refl refl tt
+asked_clear (Journal true true true true folder manifest) plain = journal_clear true true true true folder manifest plain refl refl tt
+asked_clear (Journal true true true false folder manifest) plain = journal_clear true true true false folder manifest plain refl refl tt
+asked_clear (Journal true true false true folder manifest) plain = journal_clear true true false true folder manifest plain refl refl tt
+asked_clear (Journal true true false false folder manifest) plain = journal_clear true true false false folder manifest plain refl refl tt
+asked_clear (Journal true false true true folder manifest) plain = journal_clear true false true true folder manifest plain refl refl tt
+asked_clear (Journal true false true false folder manifest) plain = journal_clear true false true false folder manifest plain refl refl tt
+asked_clear (Journal true false false true folder manifest) plain = journal_clear true false false true folder manifest plain refl refl tt
+asked_clear (Journal true false false false folder manifest) plain = journal_clear true false false false folder manifest plain refl refl tt
+asked_clear (Journal false true true true folder manifest) plain = journal_clear false true true true folder manifest plain refl refl tt
+asked_clear (Journal false true true false folder manifest) plain = journal_clear false true true false folder manifest plain refl refl tt
+asked_clear (Journal false true false true folder manifest) plain = journal_clear false true false true folder manifest plain refl refl tt
+asked_clear (Journal false true false false folder manifest) plain = journal_clear false true false false folder manifest plain refl refl tt
+asked_clear (Journal false false true true folder manifest) plain = journal_clear false false true true folder manifest plain refl refl tt
+asked_clear (Journal false false true false folder manifest) plain = journal_clear false false true false folder manifest plain refl refl tt
+asked_clear (Journal false false false true folder manifest) plain = journal_clear false false false true folder manifest plain refl refl tt
+asked_clear (Journal false false false false folder manifest) plain = journal_clear false false false false folder manifest plain refl refl tt
 asked_clear (Audit folder) plain = clear (Audit folder) _ _ _
     (trace_last nothing_held 1 folder plain)
     refl refl ((folder, refl), tt) refl (λ i. codes "audit" ∷ plain_out folder plain i ∷ [])

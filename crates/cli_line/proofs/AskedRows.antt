@@ -1,10 +1,10 @@
 -- What the rows behind a word ask for, and that the plan which was found behind it is that.
 use Rattle.std.proofs.Common.{Global, ◌≡◌, Bool, true, false, List, [], Option, None, Some, codes, refl, sym, subst, ap}
-use Rattle.std.specs.Prelude.{MatchBool, String, ◌||◌, if◌then◌else◌, option_map, string_bytes, unwrap_or}
+use Rattle.std.specs.Prelude.{MatchBool, String, if◌then◌else◌, option_map, string_bytes, unwrap_or}
 use Rattle.std.specs.Str.{bytes_eq}
 use Rattle.std.proofs.lemmas.Slice.Eq.{bytes_eq-Decides}
 use Rattle.clap.specs.Words.{Row, Text, first_of}
-use Rattle.cli_line.specs.FileLines.{Asked, IsAsked}
+use Rattle.cli_line.specs.FileLines.{Asked, IsAsked, IsManner}
 use Rattle.cli_line.specs.FileLines.Asked.{Asm, Dis, Check, Migrate, Live, Reopen, Journal, Audit, Replay}
 use Rattle.cli_line.specs.FoundPlan.{HasFoundBehind}
 use Rattle.cli_line.specs.declared.plans.Manner.{Manner}
@@ -19,20 +19,13 @@ abbrev pub is_told : Option Text → Bool
 is_told None = false
 is_told (Some word) = bytes_eq word (codes "true")
 
--- what is asked for with a journal, if no flag is given
-abbrev pub kept_in : Bool → Text → Option Text → Option Asked
-kept_in true folder manifest = None
-kept_in false folder None = Some (Reopen folder)
-kept_in false folder (Some manifest) = Some (Journal folder manifest)
-
--- a flag is given of those that say how lines are carried out and kept
-abbrev pub is_flagged : List Row → Bool
-is_flagged rows = is_told (first_of (codes "clock") rows) || (is_told (first_of (codes "step") rows) || (is_told (first_of (codes "ack") rows) || is_told (first_of (codes "sync") rows)))
-
--- what is asked for behind `live`, if no other flag is given
+-- what is asked for behind `live`
 abbrev pub live_in : List Row → Option Text → Option Text → Option Asked
-live_in rows None manifest = if is_told (first_of (codes "ack") rows) then None else Some (Live (is_told (first_of (codes "clock") rows)) (is_told (first_of (codes "step") rows)) (unwrap_or manifest []))
-live_in rows (Some folder) manifest = kept_in (is_flagged rows) folder manifest
+live_in rows None manifest = Some (Live (is_told (first_of (codes "clock") rows)) (is_told (first_of (codes "step") rows)) (is_told (first_of (codes "ack") rows)) (unwrap_or manifest []))
+live_in rows (Some folder) None =
+    Some (Reopen (is_told (first_of (codes "sync") rows)) (is_told (first_of (codes "clock") rows)) (is_told (first_of (codes "step") rows)) (is_told (first_of (codes "ack") rows)) folder)
+live_in rows (Some folder) (Some manifest) =
+    Some (Journal (is_told (first_of (codes "sync") rows)) (is_told (first_of (codes "clock") rows)) (is_told (first_of (codes "step") rows)) (is_told (first_of (codes "ack") rows)) folder manifest)
 
 -- what is asked for
 abbrev pub asked_in : Text → List Row → Option Asked
@@ -65,26 +58,16 @@ told_as (Some word) false differs = go (bytes_eq word (codes "true")) refl
     go true is = absurd (differs (ap Some ((bytes_eq-Decides word (codes "true")).0 is)))
 
 -- what was found without a journal is what is asked for
-alone_asked : (rows : List Row) (manner : Manner) (a : String Global) (manifest : Option Text) (told : Bool) → manifest ≡ Some (string_bytes a)
-    → manner.is_clocked ≡ is_told (first_of (codes "clock") rows) → manner.is_stepped ≡ is_told (first_of (codes "step") rows) → manner.is_told ≡ told
-    → MeetsAsked (if told then None else Some (Live (is_told (first_of (codes "clock") rows)) (is_told (first_of (codes "step") rows)) (unwrap_or manifest []))) (plans.Live manner a)
-alone_asked rows manner a manifest true found clock step ack = tt
-alone_asked rows manner a manifest false found clock step ack = (clock, step, ack, ap (λ (o : Option Text). unwrap_or o []) (sym found))
+alone_asked : (rows : List Row) (manner : Manner) (a : String Global) (manifest : Option Text) → manifest ≡ Some (string_bytes a)
+    → IsManner (is_told (first_of (codes "clock") rows)) (is_told (first_of (codes "step") rows)) (is_told (first_of (codes "ack") rows)) manner → MeetsAsked (live_in rows None manifest) (plans.Live manner a)
+alone_asked rows manner a manifest found manners = (manners, ap (λ (o : Option Text). unwrap_or o []) (sym found))
 
 -- so is what was found with one
-kept_asked : (rows : List Row) (manner : Manner) (is_synced : Bool) (a : String Global) (b : Option (String Global)) (manifest : Option Text) (c s t y : Bool) → manifest ≡ option_map string_bytes b
-    → manner.is_clocked ≡ c → manner.is_stepped ≡ s → manner.is_told ≡ t → is_synced ≡ y
-    → MeetsAsked (kept_in (c || (s || (t || y))) (string_bytes a) manifest) (plans.Journal manner is_synced a b)
-kept_asked rows manner is_synced a b None true s t y found clock step ack sync = tt
-kept_asked rows manner is_synced a b None false true t y found clock step ack sync = tt
-kept_asked rows manner is_synced a b None false false true y found clock step ack sync = tt
-kept_asked rows manner is_synced a b None false false false true found clock step ack sync = tt
-kept_asked rows manner is_synced a b None false false false false found clock step ack sync = ((clock, step, ack, sync), refl, sym found)
-kept_asked rows manner is_synced a b (Some manifest) true s t y found clock step ack sync = tt
-kept_asked rows manner is_synced a b (Some manifest) false true t y found clock step ack sync = tt
-kept_asked rows manner is_synced a b (Some manifest) false false true y found clock step ack sync = tt
-kept_asked rows manner is_synced a b (Some manifest) false false false true found clock step ack sync = tt
-kept_asked rows manner is_synced a b (Some manifest) false false false false found clock step ack sync = ((clock, step, ack, sync), refl, sym found)
+kept_asked : (rows : List Row) (manner : Manner) (synced : Bool) (a : String Global) (b : Option (String Global)) (manifest : Option Text) → manifest ≡ option_map string_bytes b
+    → IsManner (is_told (first_of (codes "clock") rows)) (is_told (first_of (codes "step") rows)) (is_told (first_of (codes "ack") rows)) manner → synced ≡ is_told (first_of (codes "sync") rows)
+    → MeetsAsked (live_in rows (Some (string_bytes a)) manifest) (plans.Journal manner synced a b)
+kept_asked rows manner synced a b None found manners sync = (manners, sync, refl, sym found)
+kept_asked rows manner synced a b (Some manifest) found manners sync = (manners, sync, refl, sym found)
 
 module _ (name : Text) (rows : List Row) where
   -- the plan is behind that word
@@ -100,11 +83,12 @@ module _ (name : Text) (rows : List Row) where
   found_asked (plans.Check a) found = by_word (codes "check") (plans.Check a) found.0 (found_word (codes "MANIFEST") rows _ found.1)
   found_asked (plans.Live manner a) found = by_word (codes "live") (plans.Live manner a) found.0
       (subst (λ (o : Option Text). MeetsAsked (live_in rows o (first_of (codes "MANIFEST") rows)) (plans.Live manner a)) (sym found.3)
-      (alone_asked rows manner a (first_of (codes "MANIFEST") rows) (is_told (first_of (codes "ack") rows)) found.1
-      (told_as (first_of (codes "clock") rows) manner.is_clocked found.2.0) (told_as (first_of (codes "step") rows) manner.is_stepped found.2.1) (told_as (first_of (codes "ack") rows) manner.is_told found.2.2)))
+      (alone_asked rows manner a (first_of (codes "MANIFEST") rows) found.1
+      (told_as (first_of (codes "clock") rows) manner.is_clocked found.2.0, told_as (first_of (codes "step") rows) manner.is_stepped found.2.1, told_as (first_of (codes "ack") rows) manner.is_told found.2.2)))
   found_asked (plans.Journal manner is_synced a b) found = by_word (codes "live") (plans.Journal manner is_synced a b) found.0
       (subst (λ (o : Option Text). MeetsAsked (live_in rows o (first_of (codes "MANIFEST") rows)) (plans.Journal manner is_synced a b)) (sym found.1)
-      (kept_asked rows manner is_synced a b (first_of (codes "MANIFEST") rows) (is_told (first_of (codes "clock") rows)) (is_told (first_of (codes "step") rows)) (is_told (first_of (codes "ack") rows)) (is_told (first_of (codes "sync") rows)) found.2
-      (told_as (first_of (codes "clock") rows) manner.is_clocked found.3.0) (told_as (first_of (codes "step") rows) manner.is_stepped found.3.1) (told_as (first_of (codes "ack") rows) manner.is_told found.3.2) (told_as (first_of (codes "sync") rows) is_synced found.4)))
+      (kept_asked rows manner is_synced a b (first_of (codes "MANIFEST") rows) found.2
+      (told_as (first_of (codes "clock") rows) manner.is_clocked found.3.0, told_as (first_of (codes "step") rows) manner.is_stepped found.3.1, told_as (first_of (codes "ack") rows) manner.is_told found.3.2)
+      (told_as (first_of (codes "sync") rows) is_synced found.4)))
   found_asked (plans.Audit a) found = by_word (codes "audit") (plans.Audit a) found.0 (found_word (codes "DIR") rows _ found.1)
   found_asked (plans.Replay a b) found = by_word (codes "replay") (plans.Replay a b) found.0 (found_word (codes "MANIFEST") rows _ found.1, found_word (codes "TRACE") rows _ found.2)

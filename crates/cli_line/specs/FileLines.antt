@@ -1,5 +1,5 @@
 -- The lines that ask for something other than a run: a word, flags, and the paths of the files; and what each of them asks for.
-use Rattle.std.specs.Prelude.{◌≡◌, Bool, false, List, [], ◌∷◌, None, Some, codes, if◌then◌else◌, option_map, string_bytes}
+use Rattle.std.specs.Prelude.{◌≡◌, Bool, List, [], ◌∷◌, None, Some, codes, if◌then◌else◌, option_map, string_bytes}
 use Rattle.clap.specs.Words.{Text}
 use Rattle.cli_line.specs.RunLine.{IsPlain}
 use Rattle.cli_line.specs.declared.plans.Manner.{Manner}
@@ -12,25 +12,31 @@ pub data Asked : Type 0 where
   Dis : (program : Text) → Asked
   Check : (manifest : Text) → Asked
   Migrate : (manifest migrated : Text) → Asked
-  Live : (is_clocked is_stepped : Bool) (manifest : Text) → Asked
+  Live : (is_clocked is_stepped is_told : Bool) (manifest : Text) → Asked
   -- a journal, without the manifest or with it
-  Reopen : (folder : Text) → Asked
-  Journal : (folder manifest : Text) → Asked
+  Reopen : (is_synced is_clocked is_stepped is_told : Bool) (folder : Text) → Asked
+  Journal : (is_synced is_clocked is_stepped is_told : Bool) (folder manifest : Text) → Asked
   Audit : (folder : Text) → Asked
   Replay : (manifest trace : Text) → Asked
 
--- the flag, where it is given, and the words behind it
+-- the flag, if it is given, and the words after it
 abbrev pub flagged : Bool → Text → List Text → List Text
 flagged is_given flag words = if is_given then flag ∷ words else words
+
+-- the flags that say how lines are carried out, and the words after them
+abbrev pub live_words : (is_clocked is_stepped is_told : Bool) → List Text → List Text
+live_words is_clocked is_stepped is_told words = flagged is_clocked (codes "--clock") (flagged is_stepped (codes "--step") (flagged is_told (codes "--ack") words))
 
 abbrev pub line_of : Asked → List Text
 line_of (Asm text program) = codes "asm" ∷ text ∷ program ∷ []
 line_of (Dis program) = codes "dis" ∷ program ∷ []
 line_of (Check manifest) = codes "check" ∷ manifest ∷ []
 line_of (Migrate manifest migrated) = codes "migrate" ∷ manifest ∷ migrated ∷ []
-line_of (Live is_clocked is_stepped manifest) = codes "live" ∷ flagged is_clocked (codes "--clock") (flagged is_stepped (codes "--step") (manifest ∷ []))
-line_of (Reopen folder) = codes "live" ∷ codes "--journal" ∷ folder ∷ []
-line_of (Journal folder manifest) = codes "live" ∷ codes "--journal" ∷ folder ∷ manifest ∷ []
+line_of (Live is_clocked is_stepped is_told manifest) = codes "live" ∷ live_words is_clocked is_stepped is_told (manifest ∷ [])
+line_of (Reopen is_synced is_clocked is_stepped is_told folder) =
+    codes "live" ∷ codes "--journal" ∷ folder ∷ flagged is_synced (codes "--sync") (live_words is_clocked is_stepped is_told [])
+line_of (Journal is_synced is_clocked is_stepped is_told folder manifest) =
+    codes "live" ∷ codes "--journal" ∷ folder ∷ flagged is_synced (codes "--sync") (live_words is_clocked is_stepped is_told (manifest ∷ []))
 line_of (Audit folder) = codes "audit" ∷ folder ∷ []
 line_of (Replay manifest trace) = codes "replay" ∷ manifest ∷ trace ∷ []
 
@@ -40,15 +46,15 @@ ArePlain (Asm text program) = IsPlain text × IsPlain program
 ArePlain (Dis program) = IsPlain program
 ArePlain (Check manifest) = IsPlain manifest
 ArePlain (Migrate manifest migrated) = IsPlain manifest × IsPlain migrated
-ArePlain (Live is_clocked is_stepped manifest) = IsPlain manifest
-ArePlain (Reopen folder) = IsPlain folder
-ArePlain (Journal folder manifest) = IsPlain folder × IsPlain manifest
+ArePlain (Live is_clocked is_stepped is_told manifest) = IsPlain manifest
+ArePlain (Reopen is_synced is_clocked is_stepped is_told folder) = IsPlain folder
+ArePlain (Journal is_synced is_clocked is_stepped is_told folder manifest) = IsPlain folder × IsPlain manifest
 ArePlain (Audit folder) = IsPlain folder
 ArePlain (Replay manifest trace) = IsPlain manifest × IsPlain trace
 
--- no flag is given
-abbrev pub IsPlainly : Manner → Bool → Type 0
-IsPlainly manner is_synced = (manner.is_clocked ≡ false) × (manner.is_stepped ≡ false) × (manner.is_told ≡ false) × (is_synced ≡ false)
+-- lines are carried out so
+abbrev pub IsManner : (is_clocked is_stepped is_told : Bool) → Manner → Type 0
+IsManner is_clocked is_stepped is_told manner = (manner.is_clocked ≡ is_clocked) × (manner.is_stepped ≡ is_stepped) × (manner.is_told ≡ is_told)
 
 -- the plan is that, of the files at these paths
 abbrev pub IsAsked : Asked → Plan → Type 0
@@ -56,10 +62,11 @@ IsAsked (Asm text program) (plans.Asm a b) = (string_bytes a ≡ text) × (strin
 IsAsked (Dis program) (plans.Dis a) = string_bytes a ≡ program
 IsAsked (Check manifest) (plans.Check a) = string_bytes a ≡ manifest
 IsAsked (Migrate manifest migrated) (plans.Migrate a b) = (string_bytes a ≡ manifest) × (string_bytes b ≡ migrated)
-IsAsked (Live is_clocked is_stepped manifest) (plans.Live manner a) =
-    (manner.is_clocked ≡ is_clocked) × (manner.is_stepped ≡ is_stepped) × (manner.is_told ≡ false) × (string_bytes a ≡ manifest)
-IsAsked (Reopen folder) (plans.Journal manner is_synced a b) = IsPlainly manner is_synced × (string_bytes a ≡ folder) × (option_map string_bytes b ≡ None)
-IsAsked (Journal folder manifest) (plans.Journal manner is_synced a b) = IsPlainly manner is_synced × (string_bytes a ≡ folder) × (option_map string_bytes b ≡ Some manifest)
+IsAsked (Live is_clocked is_stepped is_told manifest) (plans.Live manner a) = IsManner is_clocked is_stepped is_told manner × (string_bytes a ≡ manifest)
+IsAsked (Reopen is_synced is_clocked is_stepped is_told folder) (plans.Journal manner synced a b) =
+    IsManner is_clocked is_stepped is_told manner × (synced ≡ is_synced) × (string_bytes a ≡ folder) × (option_map string_bytes b ≡ None)
+IsAsked (Journal is_synced is_clocked is_stepped is_told folder manifest) (plans.Journal manner synced a b) =
+    IsManner is_clocked is_stepped is_told manner × (synced ≡ is_synced) × (string_bytes a ≡ folder) × (option_map string_bytes b ≡ Some manifest)
 IsAsked (Audit folder) (plans.Audit a) = string_bytes a ≡ folder
 IsAsked (Replay manifest trace) (plans.Replay a b) = (string_bytes a ≡ manifest) × (string_bytes b ≡ trace)
 IsAsked asked plan = ⊥

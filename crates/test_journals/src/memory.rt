@@ -1,11 +1,14 @@
 // A folder in memory that stops after so many writes. It relies on `host_journal` for what a folder is.
 
-ghost use Rattle.std.specs.Prelude.{◌≤◌, length};
+ghost use Rattle.std.specs.Prelude.{◌≡◌, ◌≤◌, length};
 
 use host_journal::{Disk, DiskFault};
 use host_recovery::ReadFailed;
 use std::alloc::{AllocError, Global};
 use trace::WriteFailed;
+
+/// The name of the lock's file.
+const LOCK: &str = "lock";
 
 /// A file of the folder.
 #[derive(Drop)]
@@ -20,8 +23,9 @@ pub(crate) struct Memory {
     alloc: Global,
     is_there: bool,
     files: Vec<Kept>,
-    // the open segment's place, and how many of its bytes were read
+    // the open segment's place and number, and how many of its bytes were read
     open: usize,
+    number: u64,
     read: usize,
     /// Where in the segment begins what this start puts out.
     pub(crate) from: usize,
@@ -39,6 +43,7 @@ impl Memory {
             is_there: false,
             files: Vec::new(alloc),
             open: 0,
+            number: 0,
             read: 0,
             from: 0,
             out: Vec::new(alloc),
@@ -48,7 +53,9 @@ impl Memory {
     }
 
     // Whether a write is still done.
-    fn writes(&mut self) -> bool {
+    fn writes(&mut self) -> bool
+        ensures { self.new.number ≡ self.old.number }
+    {
         if self.left == 0 {
             return false;
         }
@@ -171,6 +178,8 @@ impl Disk for Memory {
 
     ghost held = { λ _. nothing_held };
 
+    ghost segment = { λ memory. memory.number };
+
     ghost remaining = { λ _. None };
 
     fn names(&mut self, alloc: Global) -> Result<Vec<String>, DiskFault> {
@@ -182,7 +191,9 @@ impl Disk for Memory {
             let name = String::from_str(alloc, file.name.as_str()).map_err(
                 |_| DiskFault::OutOfMemory,
             )?;
-            names.push(name).map_err(|_| DiskFault::OutOfMemory)?;
+            if name.as_str() != LOCK {
+                names.push(name).map_err(|_| DiskFault::OutOfMemory)?;
+            }
         }
         Ok(names)
     }
@@ -191,7 +202,7 @@ impl Disk for Memory {
         if !self.is_there {
             return Err(DiskFault::Missing);
         }
-        let name = String::from_str(self.alloc, "lock").map_err(|_| DiskFault::OutOfMemory)?;
+        let name = String::from_str(self.alloc, LOCK).map_err(|_| DiskFault::OutOfMemory)?;
         if !self.writes() {
             return Err(DiskFault::Failed);
         }
@@ -228,6 +239,7 @@ impl Disk for Memory {
         match self.place_of(name.as_str()) {
             Some(place) => {
                 self.open = place;
+                self.number = number;
                 self.read = 0;
                 Ok(())
             }

@@ -1,7 +1,7 @@
 // A journal whose folder stops at each of its writes in turn. It relies on `cli_commands` for the engine with its journal, and on `memory` for
 // the folder.
 
-ghost use Rattle.std.specs.Prelude.{false};
+ghost use Rattle.std.specs.Prelude.{[], Some, false, if◌then◌else◌};
 
 use crate::memory::Memory;
 use cli_commands::{audit_journal, serve_journal};
@@ -59,12 +59,15 @@ impl Input for Once {
 
     ghost has_ended = { λ once. once.has_ended };
 
+    ghost came = { λ once. Some (record { before = []; piece = if once.has_come then once.bytes.now else []; is_over = once.has_ended }) };
+
     fn wait(&mut self, _until: Option<u64>) -> Came {
         if self.has_come {
             self.has_ended = true;
             return Came::End;
         }
         self.has_come = true;
+        self.has_ended = false;
         Came::Bytes
     }
 

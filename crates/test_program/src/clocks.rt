@@ -1,6 +1,6 @@
 // A clock that reads more than an engine takes, which no machine's does. It relies on `host_live` for what an input is.
 
-ghost use Rattle.std.specs.Prelude.{false};
+ghost use Rattle.std.specs.Prelude.{None, false};
 
 use cli_commands::{WriterSink, serve};
 use host_live::{Came, Input, Manner};
@@ -57,6 +57,8 @@ impl Input for Late<'_> {
     ghost has_failed = { λ _. false };
 
     ghost has_ended = { λ late. late.has_ended };
+
+    ghost came = { λ _. None };
 
     fn wait(&mut self, until: Option<u64>) -> Came {
         if self.now > LAST && until.is_some() {

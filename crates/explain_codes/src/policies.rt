@@ -76,7 +76,7 @@ pub(crate) const POLICIES: &[Explanation] = &[
         meaning: "a freeze is held, or may be, at the exit",
         cause: "one path neither releases it nor hands it over",
         advice: Some(
-            "on this path test the freeze for 0, and behind that give it back (call 2) or to a timer (call 3)",
+            "on this path test the freeze for 0, and if it is not 0 give it back: at once (call 2), or after a time (call 3)",
         ),
         shown: Shown::Program,
         example: "mov64 r1, 1\ncall 4\nmov64 r0, 0\nexit",

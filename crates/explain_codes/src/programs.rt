@@ -22,7 +22,7 @@ pub(crate) const TEXTS: &[Explanation] = &[
     Explanation {
         meaning: "what stands there is no token",
         cause: "a capital letter, a semicolon, a carriage return, or a name that begins with a digit",
-        advice: Some("write names and numbers in lower case, and comments behind `#`"),
+        advice: Some("write names and numbers in lower case, and comments after `#`"),
         shown: Shown::Head,
         example: "mov64 R3, 1",
         mended: "mov64 r3, 1",
@@ -31,7 +31,7 @@ pub(crate) const TEXTS: &[Explanation] = &[
     Explanation {
         meaning: "the line is no label alone and begins with no mnemonic",
         cause: "the width is missing, as in `mov` for `mov64`",
-        advice: Some("begin the line with a mnemonic, or write a label alone with `:` behind it"),
+        advice: Some("begin the line with a mnemonic, or write a label alone, with `:` after it"),
         shown: Shown::Head,
         example: "mov r3, 1",
         mended: "mov64 r3, 1",
@@ -67,7 +67,7 @@ pub(crate) const TEXTS: &[Explanation] = &[
     Explanation {
         meaning: "the label is not defined",
         cause: "a label is misspelt",
-        advice: Some("define the label, a name alone on a line with `:` behind it"),
+        advice: Some("define the label: a name alone on a line, with `:` after it"),
         shown: Shown::Head,
         example: "ja otu\nout:",
         mended: "ja out\nout:",
@@ -208,7 +208,7 @@ pub(crate) const SHAPES: &[Explanation] = &[
     },
     // S4
     Explanation {
-        meaning: "a jump's target is not behind it",
+        meaning: "a jump does not lead forward",
         cause: "a loop, whose turns have to be written out, or code that a compiler laid out backwards",
         advice: Some("write the loop's turns out: jumps lead forward only"),
         shown: Shown::Head,

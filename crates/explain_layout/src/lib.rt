@@ -6,6 +6,6 @@ mod lines;
 mod places;
 mod reading;
 
-pub use lines::{Line, line_at, nth_line};
+pub use lines::{Line, line_at, nth_line, without_mark};
 pub use places::{Entry, Layout, Span, TableAt};
 pub use reading::layout;

@@ -1,28 +1,22 @@
 // What is known of a manifest's programs that are accepted: the budget's path, the stack, and each helper call with its arguments and
-// the freezes held. It relies on `explain_path` for the path and for what is known.
+// the freezes held. It relies on `explain_path` for the path, and on `survey` for what is known.
 
-use crate::arguments::helper_of;
-use crate::kinds::{put_held, put_registers};
-use crate::listing::Listing;
-use crate::places::value_span;
-use crate::program::log_of;
-use crate::refusing::read;
-use crate::steps::mattering;
+use crate::places::source_span;
+use crate::refusing::{put_mark, read};
+use crate::survey::survey_of;
 use bpf_accepted::Accepted;
-use bpf_insn::{Insn, Program, Reg};
+use bpf_insn::Program;
 use call_shape::shape;
-use check_register_kinds::{Kind, Region};
 use cli_text_page::Page;
-use explain_layout::{Layout, Span, layout};
-use explain_path::{Log, Sighting, longest_path};
-use helpers::Helper;
+use explain_layout::{Span, layout};
+use explain_path::longest_path;
 use manifest::{Manifest, NamedProgram};
 use manifest_form::Source;
 use std::alloc::{AllocError, Global};
 use toml::Value;
 
-/// How many bytes a frame has.
-const FRAME_BYTES: u16 = 512;
+/// How many ranges of slots are told of a path at most.
+const MOST_RANGES: usize = 256;
 
 /// Puts what is known of each program.
 pub fn print(
@@ -31,6 +25,8 @@ pub fn print(
     manifest: &Manifest,
     page: &mut Page,
 ) -> Result<(), AllocError> {
+    put_mark(page, text);
+    let layout = layout(alloc, text)?;
     let document = match toml::table_from_str(alloc, text) {
         Ok(table) => Value::Table(table),
         Err(_) => return Err(AllocError),
@@ -38,10 +34,9 @@ pub fn print(
     let Ok(plan) = manifest_form::read(alloc, &document) else {
         return Err(AllocError);
     };
-    let layout = layout(alloc, text)?;
     for (number, named) in manifest.programs.iter().enumerate() {
         if let Some(entry) = plan.programs.get(number) {
-            let value = place_of(&layout, number, &entry.source);
+            let value = source_span(&layout, number, &entry.source);
             print_named(alloc, text, value, &entry.source, named, page)?;
         }
     }
@@ -61,37 +56,9 @@ fn print_named(
         page.text("\n");
         page.foreign(named.name.as_str());
         page.text(":\n");
-        print_program(alloc, &named.accepted, &program, &listing, page)?;
+        print_budget(alloc, &named.accepted, &program, page)?;
+        survey_of(alloc, &program, &listing, named.accepted.limits())?.put(page)?;
     }
-    Ok(())
-}
-
-// Where a program's text or bytes stand.
-fn place_of(layout: &Layout, number: usize, source: &Source<'_>) -> Span {
-    value_span(
-        layout,
-        "program",
-        number,
-        match source {
-            Source::Asm(_) => "asm",
-            Source::Code(_) => "code",
-        },
-    )
-}
-
-// Puts what is known of a program.
-fn print_program(
-    alloc: Global,
-    accepted: &Accepted,
-    program: &Program,
-    listing: &Listing,
-    page: &mut Page,
-) -> Result<(), AllocError> {
-    print_budget(alloc, accepted, program, page)?;
-    let log = log_of(alloc, program, accepted.limits())?;
-    print_stack(program, &log, page);
-    print_tables(program, &log, page);
-    print_calls(program, listing, &log, page);
     Ok(())
 }
 
@@ -114,130 +81,32 @@ fn print_budget(
     Ok(())
 }
 
-// Puts slots, those that follow one another as a range.
+// Puts slots, those that follow one another as a range; of very many ranges the first ones.
 fn print_ranges(path: &[usize], page: &mut Page) {
-    let mut before = "";
+    let mut ranges = 0usize;
     let mut first = 0usize;
     let mut last = 0usize;
     for (place, slot) in path.iter().enumerate() {
         if place > 0 && *slot != last.saturating_add(1) {
-            put_range(page, before, first, last);
-            before = ", ";
+            put_range(page, first, last);
+            page.text(", ");
             first = *slot;
+            ranges = ranges.saturating_add(1);
+        }
+        if ranges >= MOST_RANGES {
+            let left = path.len().saturating_sub(place);
+            page.fill(".. and {} more\n", &[left as u64]);
+            return;
         }
         last = *slot;
     }
-    put_range(page, before, first, last);
+    put_range(page, first, last);
     page.text("\n");
 }
 
-fn put_range(page: &mut Page, before: &str, first: usize, last: usize) {
-    page.text(before);
+fn put_range(page: &mut Page, first: usize, last: usize) {
     page.number(first as u64);
     if last != first {
         page.fill("-{}", &[last as u64]);
     }
-}
-
-// Puts how many bytes of a frame are written at most.
-fn print_stack(program: &Program, log: &Log, page: &mut Page) {
-    let mut used = 0u16;
-    for sighting in log.sightings() {
-        if let Some(insn) = program.fetch(sighting.slot) {
-            used = used.max(written(sighting, insn));
-        }
-    }
-    page.fill(
-        "  {} of {} bytes of a frame are written\n",
-        &[u64::from(used), u64::from(FRAME_BYTES)],
-    );
-}
-
-// How far below the end of a frame an instruction may write.
-fn written(sighting: &Sighting, insn: Insn) -> u16 {
-    let (base, offset) = match insn {
-        Insn::Store { dst, offset, .. } => (sighting.known.kind(dst), offset),
-        _ => match helper_of(insn) {
-            Some(Helper::QueueInfo) => (sighting.known.kind(Reg::R1), 0),
-            _ => return 0,
-        },
-    };
-    match base {
-        Kind::Address(Region::Frame(_), offsets) => {
-            FRAME_BYTES.saturating_sub(offsets.least.saturating_add_signed(offset))
-        }
-        _ => 0,
-    }
-}
-
-// Puts which tables are read, and which are written.
-fn print_tables(program: &Program, log: &Log, page: &mut Page) {
-    for table in 0u64..16 {
-        let read = has_call(program, log, table, false);
-        let written = has_call(program, log, table, true);
-        if read || written {
-            let pattern = match (read, written) {
-                (true, false) => "  table {} is read\n",
-                (false, true) => "  table {} is written\n",
-                _ => "  table {} is read and written\n",
-            };
-            page.fill(pattern, &[table]);
-        }
-    }
-}
-
-// Whether a word of that table is read, or written.
-fn has_call(program: &Program, log: &Log, table: u64, writes: bool) -> bool {
-    for sighting in log.sightings() {
-        let helper = match program.fetch(sighting.slot) {
-            Some(insn) => helper_of(insn),
-            None => None,
-        };
-        let fits = match helper {
-            Some(Helper::TableGet) => !writes,
-            Some(Helper::TablePut) => writes,
-            Some(Helper::TableAdd) => true,
-            _ => false,
-        };
-        if fits && sighting.known.kind(Reg::R1).known() == Some(table) {
-            return true;
-        }
-    }
-    false
-}
-
-// Puts all helper calls.
-fn print_calls(program: &Program, listing: &Listing, log: &Log, page: &mut Page) {
-    for sighting in log.sightings() {
-        if let Some(insn) = program.fetch(sighting.slot) {
-            if let Some(helper) = helper_of(insn) {
-                print_call(listing, log, sighting, insn, helper, page);
-            }
-        }
-    }
-}
-
-// Puts a helper call, with what is known there of its arguments and of freezes.
-fn print_call(
-    listing: &Listing,
-    log: &Log,
-    sighting: &Sighting,
-    insn: Insn,
-    helper: Helper,
-    page: &mut Page,
-) {
-    page.fill("  slot {}", &[sighting.slot as u64]);
-    if let Some(written) = listing.at(sighting.slot) {
-        page.fill(", line {}", &[written.standing.line as u64]);
-    }
-    page.text(": ");
-    page.text(helper.signature());
-    page.text(": ");
-    let registers = mattering(insn);
-    if registers.count() > 0 {
-        put_registers(page, log, &sighting.known, registers);
-        page.text("; ");
-    }
-    put_held(page, log, &sighting.known);
-    page.text("\n");
 }

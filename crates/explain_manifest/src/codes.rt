@@ -26,9 +26,3 @@ pub fn put_mending(page: &mut Page, code: Code) {
     page.text(row.advice.unwrap_or("see `camr explain` with the code"));
     page.text("\n");
 }
-
-/// Puts all three.
-pub fn print(page: &mut Page, code: Code) {
-    put_rule(page, code);
-    put_mending(page, code);
-}

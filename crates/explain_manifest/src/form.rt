@@ -2,8 +2,9 @@
 // stand where, on `explain_layout` for places, and on `strsim` for names that are near.
 
 use crate::excerpt;
+use crate::excerpt::put_foreign;
 use crate::keys::{KEYS, Key, Presence, Wants, called, find, is_table};
-use crate::places::{table_span, value_span};
+use crate::places::{end, table_span, value_span};
 use cli_text_page::Page;
 use explain_layout::{Entry, Layout, Span};
 use manifest::ManifestFault;
@@ -16,12 +17,35 @@ use toml_parser::{ParseError, Scalar, quoted, starts_string, unquoted};
 /// How far a name may be from one that is meant, in letters that differ.
 const NEAR: usize = 3;
 
+/// How many bytes a name has at most that is compared with others: no longer one is near any.
+const LONGEST: usize = 160;
+
 /// The most queues and programs, and the most tables.
 const MOST: usize = 64;
 
 const MOST_TABLES: usize = 16;
 
-/// Puts which key, which type or which number is wrong in a manifest that has such a fault.
+/// What to do about a key that is one of version 2 alone.
+const SECOND: &str =
+    "write `version = 2`, with `controllers` and each queue's `controller`, or leave this key out";
+
+/// What to do about a key that is near none.
+const UNKNOWN: &str = "leave it out, or write one of the keys that are named above in its place";
+
+/// What to do about a program that has both of two keys, or none of them.
+const EITHER: &str = "write the program's text as `asm`, or its bytes as `code`, and not both";
+
+/// What to do about a header in one pair of brackets.
+const BRACKETS: &str = "write each header of these tables in two pairs of brackets";
+
+/// What to do about too many tables.
+const FEWER: &str = "leave some of them out, or write several manifests";
+
+/// What to do about a name of a program.
+const OTHER_NAME: &str = "give the program another name";
+
+/// Puts which key, which type or which number is wrong in a manifest that has such a fault, and answers how it is mended, if there is more
+/// to say of that than the fault's code says.
 pub fn print(
     alloc: Global,
     path: &str,
@@ -30,13 +54,57 @@ pub fn print(
     document: &Value,
     fault: &ManifestFault,
     page: &mut Page,
-) -> Result<(), AllocError> {
+) -> Result<Option<&'static str>, AllocError> {
     let is_second = !matches!(document.get("version"), Some(Value::Integer(1)));
-    match fault {
-        ManifestFault::Key => print_key(alloc, path, text, layout, is_second, page),
-        ManifestFault::Form => print_form(alloc, path, text, layout, is_second, page),
-        _ => print_range(alloc, path, text, layout, is_second, page),
+    if let Some(version) = wrong_version(document, fault) {
+        put_version(path, text, layout, version, page);
+        return Ok(find("", "version", is_second).map(|key| key.advice));
     }
+    let found = match fault {
+        ManifestFault::Key => print_key(alloc, path, text, layout, is_second, page)?,
+        ManifestFault::Form => print_form(alloc, path, text, layout, is_second, page)?,
+        _ => print_range(alloc, path, text, layout, is_second, page)?,
+    };
+    if found.is_none() {
+        print_end(path, text, layout, page);
+    }
+    Ok(found)
+}
+
+// A manifest's version that is neither 1 nor 2. If the fault is the type of a value, that value is told of.
+fn wrong_version(document: &Value, fault: &ManifestFault) -> Option<i64> {
+    if let ManifestFault::Form = fault {
+        return None;
+    }
+    match document.get("version") {
+        Some(Value::Integer(version)) if *version != 1 && *version != 2 => Some(*version),
+        _ => None,
+    }
+}
+
+// Puts that there is no such version.
+fn put_version(path: &str, text: &str, layout: &Layout, version: i64, page: &mut Page) {
+    let place = match layout.entry(0, "version") {
+        Some(entry) => entry.value,
+        None => end(layout),
+    };
+    excerpt::print(page, path, text, place);
+    page.text("  = here: `version` is 1 or 2, and not ");
+    page.signed(version);
+    page.text("\n");
+}
+
+// Puts that the fault does not stand in what is kept of a text, if not all is.
+fn print_end(path: &str, text: &str, layout: &Layout, page: &mut Page) {
+    if layout.left_out.is_none() {
+        return;
+    }
+    let count = layout.tables.len().saturating_add(layout.entries.len());
+    excerpt::print(page, path, text, end(layout));
+    page.fill(
+        "  = here: none of the first {} tables and keys has this fault\n",
+        &[count as u64],
+    );
 }
 
 // The name of the table that a key stands in.
@@ -47,7 +115,7 @@ fn table_of<'a>(layout: &'a Layout, entry: &Entry) -> &'a str {
     }
 }
 
-// Puts which key is not known, or is missing.
+// Puts which key is not known, or is missing, and answers how that is mended, if there is such a key.
 fn print_key(
     alloc: Global,
     path: &str,
@@ -55,7 +123,7 @@ fn print_key(
     layout: &Layout,
     is_second: bool,
     page: &mut Page,
-) -> Result<(), AllocError> {
+) -> Result<Option<&'static str>, AllocError> {
     for entry in &layout.entries {
         let table = table_of(layout, entry);
         let name = entry.name.as_str();
@@ -70,76 +138,163 @@ fn print_key(
             return put_unknown(alloc, page, "", table.name.as_str(), is_second);
         }
     }
-    print_missing(path, text, layout, is_second, page);
-    Ok(())
+    print_missing(alloc, path, text, layout, is_second, page)
 }
 
-// Puts that a table has no key of that name, and which is near.
+// Puts that a table has no key of that name, and which is near or which there are, and answers how that is mended.
 fn put_unknown(
     alloc: Global,
     page: &mut Page,
     table: &str,
     name: &str,
     is_second: bool,
-) -> Result<(), AllocError> {
+) -> Result<Option<&'static str>, AllocError> {
     page.text("  = here: ");
     page.text(called(table));
     page.text(" has no key `");
-    page.foreign(name);
+    put_foreign(page, name);
     page.text("`");
-    put_near(page, nearest_key(alloc, table, name, is_second)?);
-    Ok(())
-}
-
-// Puts which key is missing.
-fn print_missing(path: &str, text: &str, layout: &Layout, is_second: bool, page: &mut Page) {
-    for (place, table) in layout.tables.iter().enumerate() {
-        let name = table.name.as_str();
-        for key in &KEYS {
-            if key.table == name && key.must_stand(is_second) && !stands(layout, place, key) {
-                excerpt::print(page, path, text, table.span);
-                page.text("  = here: the key `");
-                page.text(key.name);
-                page.text("` of ");
-                page.foreign(called(name));
-                page.text(" is missing\n");
-                return;
-            }
+    if find(table, name, true).is_some() {
+        page.text(" in version 1\n");
+        return Ok(Some(SECOND));
+    }
+    match nearest_key(alloc, table, name, is_second)? {
+        Some(key) => {
+            put_near(page, key.name);
+            Ok(Some(key.advice))
         }
-        let sources = count_either(layout, place, name);
-        if name == "program" && sources != 1 {
-            excerpt::print(page, path, text, table.span);
-            page.text("  = here: a program has either `asm` or `code`, just one of them\n");
-            return;
+        None => {
+            put_keys(page, table, is_second);
+            Ok(Some(UNKNOWN))
         }
     }
 }
 
-// Whether a key stands in that table, or tables of its name have headers.
-fn stands(layout: &Layout, table: usize, key: &Key) -> bool {
-    layout.entry(table, key.name).is_some()
-        || (key.wants == Wants::Tables && layout.count(key.name) > 0)
+// Puts which keys a table may have, and ends the line.
+fn put_keys(page: &mut Page, table: &str, is_second: bool) {
+    let mut has_any = false;
+    for key in KEYS.iter() {
+        if key.table == table && key.may_stand(is_second) {
+            page.text(if has_any { ", `" } else { "; its keys are `" });
+            page.text(key.name);
+            page.text("`");
+            has_any = true;
+        }
+    }
+    page.text("\n");
 }
 
-// How many of the keys stand in a table of which just one does.
-fn count_either(layout: &Layout, table: usize, name: &str) -> usize {
-    KEYS.iter()
-        .filter(|key| key.table == name && key.presence == Presence::Either)
-        .filter(|key| layout.entry(table, key.name).is_some())
-        .count()
+// Puts which key is missing, and answers how that is mended, if one is.
+fn print_missing(
+    alloc: Global,
+    path: &str,
+    text: &str,
+    layout: &Layout,
+    is_second: bool,
+    page: &mut Page,
+) -> Result<Option<&'static str>, AllocError> {
+    let present = present_keys(alloc, layout)?;
+    for (table, keys) in layout.tables.iter().zip(present.iter()) {
+        let name = table.name.as_str();
+        if let Some(key) = missing_key(name, *keys, is_second) {
+            excerpt::print(page, path, text, table.span);
+            put_missing(page, key);
+            return Ok(Some(key.advice));
+        }
+        if name == "program" && count_either(*keys) != 1 {
+            excerpt::print(page, path, text, table.span);
+            page.text("  = here: a program has `asm` or `code`, just one of the two\n");
+            return Ok(Some(EITHER));
+        }
+    }
+    Ok(None)
 }
 
-// The key of a table that is nearest to a word; nothing if none is near.
+// Puts that a key, or that tables are missing.
+fn put_missing(page: &mut Page, key: &Key) {
+    if key.wants == Wants::Tables {
+        page.text("  = here: there is no [[");
+        page.text(key.name);
+        page.text("]] table\n");
+        return;
+    }
+    page.text("  = here: ");
+    page.text(called(key.table));
+    page.text(" needs the key `");
+    page.text(key.name);
+    page.text("`, which is missing\n");
+}
+
+// By tables, a bit for each key that stands there, by its place in `KEYS`. Tables with headers stand in the manifest.
+fn present_keys(alloc: Global, layout: &Layout) -> Result<Vec<u16>, AllocError> {
+    let mut present = Vec::with_capacity(alloc, layout.tables.len())?;
+    let mut headers = 0u16;
+    for table in &layout.tables {
+        headers |= bit_of("", table.name.as_str());
+        present.push(0u16)?;
+    }
+    if let Some(first) = present.first_mut() {
+        *first = headers;
+    }
+    for entry in &layout.entries {
+        let bit = bit_of(table_of(layout, entry), entry.name.as_str());
+        if let Some(keys) = present.get_mut(entry.table) {
+            *keys |= bit;
+        }
+    }
+    Ok(present)
+}
+
+// The bit of a key; none if a table has no such key.
+fn bit_of(table: &str, name: &str) -> u16 {
+    match KEYS
+        .iter()
+        .position(|key| key.table == table && key.name == name)
+    {
+        Some(place) => bit_at(place),
+        None => 0,
+    }
+}
+
+fn bit_at(place: usize) -> u16 {
+    match u32::try_from(place) {
+        Ok(place) => 1u16.wrapping_shl(place),
+        Err(_) => 0,
+    }
+}
+
+// The first key that has to stand in a table of that name, and is none of these.
+fn missing_key(name: &str, keys: u16, is_second: bool) -> Option<&'static Key> {
+    for (place, key) in KEYS.iter().enumerate() {
+        if key.table == name && key.must_stand(is_second) && keys & bit_at(place) == 0 {
+            return Some(key);
+        }
+    }
+    None
+}
+
+// How many of these are keys of which just one stands in a table.
+fn count_either(keys: u16) -> u32 {
+    let mut count = 0u32;
+    for (place, key) in KEYS.iter().enumerate() {
+        if key.presence == Presence::Either && keys & bit_at(place) != 0 {
+            count = count.saturating_add(1);
+        }
+    }
+    count
+}
+
+// The key of a table that is nearest to a word, if one is near.
 fn nearest_key(
     alloc: Global,
     table: &str,
     word: &str,
     is_second: bool,
-) -> Result<&'static str, AllocError> {
+) -> Result<Option<&'static Key>, AllocError> {
     let mut nearest = KEYS.len();
     let mut least = NEAR + 1;
     for (place, key) in KEYS.iter().enumerate() {
-        if key.table == table && key.may_stand(is_second) {
+        if key.table == table && key.may_stand(is_second) && word.len() <= LONGEST {
             let distance = levenshtein(alloc, word, key.name)?;
             if distance < least {
                 least = distance;
@@ -147,10 +302,7 @@ fn nearest_key(
             }
         }
     }
-    Ok(match KEYS.get(nearest) {
-        Some(key) => key.name,
-        None => "",
-    })
+    Ok(KEYS.get(nearest))
 }
 
 // Puts that a name is near, if one is, and ends the line.
@@ -163,7 +315,7 @@ fn put_near(page: &mut Page, name: &str) {
     page.text("\n");
 }
 
-// Puts which value is of another type.
+// Puts which value is of another type, and answers how that is mended, if one is.
 fn print_form(
     alloc: Global,
     path: &str,
@@ -171,13 +323,13 @@ fn print_form(
     layout: &Layout,
     is_second: bool,
     page: &mut Page,
-) -> Result<(), AllocError> {
+) -> Result<Option<&'static str>, AllocError> {
     for table in &layout.tables {
         let name = table.name.as_str();
         if !name.is_empty() && is_single(text, table.span) {
             excerpt::print(page, path, text, table.span);
             put_single(page, name);
-            return Ok(());
+            return Ok(Some(BRACKETS));
         }
     }
     for entry in &layout.entries {
@@ -186,25 +338,23 @@ fn print_form(
         };
         let value = written(text, entry.value);
         if !is_of_form(alloc, key.wants, value)? {
-            excerpt::print(page, path, text, entry.value);
+            excerpt::print(page, path, text, fault_in(text, key.wants, entry.value));
             put_wants(page, key);
-            return Ok(());
+            return Ok(Some(key.advice));
         }
     }
-    Ok(())
+    Ok(None)
 }
 
 // Puts that tables of that name want a header in two pairs of brackets.
 fn put_single(page: &mut Page, name: &str) {
-    page.text("  = here: there may be several of ");
-    page.foreign(name);
-    page.text(": its header has two brackets, [[");
-    page.foreign(name);
+    page.text("  = here: this header has one pair of brackets, and has to have two: [[");
+    put_foreign(page, name);
     page.text("]]\n");
 }
 
-// Whether it is a header in one pair of brackets.
-fn is_single(text: &str, span: Span) -> bool {
+/// Whether it is a header in one pair of brackets.
+pub fn is_single(text: &str, span: Span) -> bool {
     let header = written(text, span);
     header.starts_with('[') && !header.starts_with("[[")
 }
@@ -242,13 +392,41 @@ fn is_code(alloc: Global, value: &str) -> Result<bool, AllocError> {
         return Ok(false);
     }
     match quoted(alloc, value) {
-        Ok((text, _)) => Ok(text.as_str().bytes().all(is_of_code)),
+        Ok((text, _)) => Ok(text.as_str().split(is_blank).all(is_of_pairs)),
         Err(_) => Err(AllocError),
     }
 }
 
-fn is_of_code(byte: u8) -> bool {
-    matches!(byte, b'0'..=b'9' | b'a'..=b'f' | b' ' | b'\t' | b'\n')
+// The part of a value that is not of the form: of a text of digits the first word that is not pairs of them, and else the whole value.
+fn fault_in(text: &str, wants: Wants, value: Span) -> Span {
+    if wants != Wants::Code || !starts_string(written(text, value)) {
+        return value;
+    }
+    let mut start = value.start;
+    for word in written(text, value).split(is_around_word) {
+        let end = start.saturating_add(word.len());
+        if !is_of_pairs(word) {
+            return Span { start, end };
+        }
+        start = end.saturating_add(1);
+    }
+    value
+}
+
+fn is_blank(letter: char) -> bool {
+    matches!(letter, ' ' | '\t' | '\n')
+}
+
+fn is_around_word(letter: char) -> bool {
+    is_blank(letter) || matches!(letter, '"' | '\'')
+}
+
+fn is_of_pairs(word: &str) -> bool {
+    word.len() & 1 == 0 && word.bytes().all(is_of_pair)
+}
+
+fn is_of_pair(byte: u8) -> bool {
+    matches!(byte, b'0'..=b'9' | b'a'..=b'f')
 }
 
 // Puts of which type the value of a key is.
@@ -276,7 +454,7 @@ fn put_between(page: &mut Page, least: i64, most: i64) {
     page.signed(most);
 }
 
-// Puts which number is out of its range.
+// Puts which number is out of its range, and answers how that is mended, if one is.
 fn print_range(
     alloc: Global,
     path: &str,
@@ -284,7 +462,7 @@ fn print_range(
     layout: &Layout,
     is_second: bool,
     page: &mut Page,
-) -> Result<(), AllocError> {
+) -> Result<Option<&'static str>, AllocError> {
     let controllers = match layout.entry(0, "controllers") {
         Some(entry) => number_in(alloc, written(text, entry.value))?,
         None => None,
@@ -306,12 +484,12 @@ fn print_range(
                 page.text(", and not ");
                 page.signed(number);
                 page.text("\n");
-                return Ok(());
+                return Ok(Some(key.advice));
             }
             _ => {}
         }
     }
-    Ok(())
+    Ok(None)
 }
 
 // The numbers that a key may have, where there are so many controllers.
@@ -325,7 +503,8 @@ fn range_of(key: &Key, controllers: Option<i64>) -> Option<(i64, i64)> {
     }
 }
 
-/// Puts what is wrong with a manifest whose keys, types and ranges are lawful: how many tables there are, or a name.
+/// Puts what is wrong with a manifest whose keys, types and ranges are lawful: how many tables there are, or a name; and answers how it is
+/// mended, if there is more to say of that than the fault's code says.
 pub fn print_plan(
     alloc: Global,
     path: &str,
@@ -333,17 +512,22 @@ pub fn print_plan(
     layout: &Layout,
     plan: &Plan<'_>,
     page: &mut Page,
-) -> Result<(), AllocError> {
+) -> Result<Option<&'static str>, AllocError> {
     if has_lawful_numbers(plan) {
         print_names(alloc, path, text, layout, plan, page)
     } else {
-        print_count(path, text, layout, plan, page);
-        Ok(())
+        Ok(print_count(path, text, layout, plan, page))
     }
 }
 
-// Puts of what there is none, or there are too many.
-fn print_count(path: &str, text: &str, layout: &Layout, plan: &Plan<'_>, page: &mut Page) {
+// Puts of what there is none, or there are too many, and answers how that is mended.
+fn print_count(
+    path: &str,
+    text: &str,
+    layout: &Layout,
+    plan: &Plan<'_>,
+    page: &mut Page,
+) -> Option<&'static str> {
     let counts = [
         ("queue", plan.queues.len(), 1usize, MOST),
         ("program", plan.programs.len(), 1usize, MOST),
@@ -353,18 +537,27 @@ fn print_count(path: &str, text: &str, layout: &Layout, plan: &Plan<'_>, page: &
         if count < least || most < count {
             let place = match layout.table(name, most) {
                 Some(table) => table_span(layout, table),
-                None => Span { start: 0, end: 0 },
+                None => end(layout),
             };
             excerpt::print(page, path, text, place);
-            page.fill("  = here: there are {} of ", &[count as u64]);
+            page.fill("  = here: there are {} [[", &[count as u64]);
             page.text(name);
-            page.fill(", and may be {} to {}\n", &[least as u64, most as u64]);
-            return;
+            page.fill(
+                "]] tables, and {} to {} are allowed\n",
+                &[least as u64, most as u64],
+            );
+            return if count > most {
+                Some(FEWER)
+            } else {
+                find("", name, true).map(|key| key.advice)
+            };
         }
     }
+    None
 }
 
-// Puts which name is not of the form, is there twice, or is of no program.
+// Puts which name is not of the form, is there twice, or is of no program, and answers how that is mended, if it is the first or the
+// second.
 fn print_names(
     alloc: Global,
     path: &str,
@@ -372,7 +565,7 @@ fn print_names(
     layout: &Layout,
     plan: &Plan<'_>,
     page: &mut Page,
-) -> Result<(), AllocError> {
+) -> Result<Option<&'static str>, AllocError> {
     for (number, program) in plan.programs.iter().enumerate() {
         let twice = plan
             .programs
@@ -387,7 +580,7 @@ fn print_names(
             } else {
                 "  = here: a name has 1 to 32 of the characters a to z, 0 to 9, `_` and `-`\n"
             });
-            return Ok(());
+            return Ok(Some(OTHER_NAME));
         }
     }
     for (number, queue) in plan.queues.iter().enumerate() {
@@ -400,10 +593,10 @@ fn print_names(
             excerpt::print(page, path, text, place);
             page.text("  = here: no program has this name");
             put_near(page, nearest_program(alloc, plan, queue.program)?);
-            return Ok(());
+            return Ok(None);
         }
     }
-    Ok(())
+    Ok(None)
 }
 
 fn is_name(name: &str) -> bool {
@@ -415,6 +608,9 @@ fn is_name(name: &str) -> bool {
 fn nearest_program<'a>(alloc: Global, plan: &Plan<'a>, word: &str) -> Result<&'a str, AllocError> {
     let mut nearest = "";
     let mut least = NEAR + 1;
+    if word.len() > LONGEST {
+        return Ok(nearest);
+    }
     for program in &plan.programs {
         let distance = levenshtein(alloc, word, program.name)?;
         if distance < least {

@@ -32,6 +32,8 @@ pub struct Key {
     pub name: &'static str,
     pub wants: Wants,
     pub presence: Presence,
+    /// What to write if it is missing, or if its value is another.
+    pub advice: &'static str,
 }
 
 /// All keys.
@@ -41,30 +43,35 @@ pub const KEYS: [Key; 12] = [
         name: "version",
         wants: Wants::Number { least: 1, most: 2 },
         presence: Presence::Always,
+        advice: "write `version = 1`, or `version = 2` if the manifest has controllers; `camr migrate` makes a manifest of version 2 from one of version 1",
     },
     Key {
         table: "",
         name: "controllers",
         wants: Wants::Number { least: 1, most: 8 },
         presence: Presence::Second,
+        advice: "write `controllers = N`, how many controllers there are, 1 to 8",
     },
     Key {
         table: "",
         name: "queue",
         wants: Wants::Tables,
         presence: Presence::Always,
+        advice: "write a [[queue]] table for each queue, with `openings`, `program` and, in version 2, `controller`",
     },
     Key {
         table: "",
         name: "table",
         wants: Wants::Tables,
         presence: Presence::Sometimes,
+        advice: "write a [[table]] table for each table, with its `length`",
     },
     Key {
         table: "",
         name: "program",
         wants: Wants::Tables,
         presence: Presence::Always,
+        advice: "write a [[program]] table for each program, with its `name` and its text as `asm` or its bytes as `code`",
     },
     Key {
         table: "queue",
@@ -74,18 +81,21 @@ pub const KEYS: [Key; 12] = [
             most: 255,
         },
         presence: Presence::Always,
+        advice: "write `openings = N`, how many CCBs the device takes at a time, 1 to 255",
     },
     Key {
         table: "queue",
         name: "controller",
         wants: Wants::Number { least: 0, most: 7 },
         presence: Presence::Second,
+        advice: "write `controller = N`, the number of the queue's controller; controllers are numbered from 0",
     },
     Key {
         table: "queue",
         name: "program",
         wants: Wants::Text,
         presence: Presence::Always,
+        advice: "write `program = \"NAME\"`, the name of the queue's program",
     },
     Key {
         table: "table",
@@ -95,24 +105,28 @@ pub const KEYS: [Key; 12] = [
             most: 4096,
         },
         presence: Presence::Always,
+        advice: "write `length = N`, how many words the table has, 1 to 4096",
     },
     Key {
         table: "program",
         name: "name",
         wants: Wants::Text,
         presence: Presence::Always,
+        advice: "write `name = \"NAME\"`, the program's name",
     },
     Key {
         table: "program",
         name: "asm",
         wants: Wants::Text,
         presence: Presence::Either,
+        advice: "write the program's text as `asm`, in quotes or between lines of `\"\"\"`",
     },
     Key {
         table: "program",
         name: "code",
         wants: Wants::Code,
         presence: Presence::Either,
+        advice: "write the program's bytes as `code`, in quotes, as pairs of the digits 0 to 9 and a to f",
     },
 ];
 
@@ -143,10 +157,11 @@ pub fn is_table(name: &str) -> bool {
 }
 
 /// How a table is called.
-pub fn called(table: &str) -> &str {
-    if table.is_empty() {
-        "the manifest"
-    } else {
-        table
+pub fn called(table: &str) -> &'static str {
+    match table {
+        "queue" => "a queue",
+        "table" => "a table",
+        "program" => "a program",
+        _ => "the manifest",
     }
 }

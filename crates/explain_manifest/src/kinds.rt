@@ -1,13 +1,11 @@
-// What is known of a register, of freezes and of stack bytes, in words. It relies on `check_register_kinds` and `check_description` for what
-// is known, and on `explain_path` for where a freeze was taken.
+// What is known of a register, of freezes and of stack bytes, in words. It relies on `check_register_kinds` for what is known, and on
+// `explain_path` for where a freeze was taken.
 
 use bpf_insn::Reg;
-use check_description::Description;
-use check_register_kinds::{Certainty, FreezeName, HeldFreeze, Kind, Offsets, Region};
+use check_register_kinds::{Certainty, FreezeName, Held, HeldFreeze, Kind, Offsets, Region};
 use cli_text_page::Page;
-use explain_path::{Log, Registers};
+use explain_path::{Log, Registers, Sketch};
 use scalar_domain::Scalar;
-use stack_domain::NumberPlace;
 
 /// What distinguishes the signed order of words from the unsigned one.
 const SIGN: u64 = 1 << 63;
@@ -15,38 +13,43 @@ const SIGN: u64 = 1 << 63;
 /// How many bytes a frame has: R10 points behind them.
 const FRAME_BYTES: u16 = 512;
 
+/// What a register's words depend on beside its kind: how many functions are open, and which freezes are held.
+#[derive(Clone, Copy)]
+pub struct Around {
+    pub depth: usize,
+    pub held: Option<Held>,
+}
+
+impl Around {
+    /// That of a place of which all is known.
+    pub fn of(known: &Sketch) -> Self {
+        Around {
+            depth: known.stack.depth(),
+            held: Some(known.held),
+        }
+    }
+
+    // How sure it is that a freeze is held.
+    fn certainty(&self, name: FreezeName) -> Option<Certainty> {
+        match self.held {
+            Some(held) => held.certainty(name),
+            None => None,
+        }
+    }
+}
+
 /// Puts what is known of a register.
-pub fn put_kind(page: &mut Page, log: &Log, known: &Description, kind: Kind) {
+pub fn put_kind(page: &mut Page, log: &Log, around: &Around, kind: Kind) {
     match kind {
         Kind::Unwritten => page.text("unwritten, or of several kinds"),
         Kind::Number(scalar) => put_number(page, scalar),
-        Kind::Address(region, offsets) => put_address(page, known, region, offsets),
-        Kind::Freeze(name) => put_copy(page, log, known, name),
+        Kind::Address(region, offsets) => put_address(page, around, region, offsets),
+        Kind::Freeze(name) => put_copy(page, log, around, name),
     }
 }
 
-/// Puts which number a load gives of those that are kept on the stack, if it gives one: so many bytes behind a register's address
-/// are loaded without a sign.
-pub fn put_kept(page: &mut Page, known: &Description, base: Reg, offset: i16, bytes: u16) {
-    let Kind::Address(Region::Frame(frame), offsets) = known.kind(base) else {
-        return;
-    };
-    if offsets.least != offsets.most {
-        return;
-    }
-    let place = NumberPlace {
-        frame,
-        offset: offsets.least.saturating_add_signed(offset),
-        bytes,
-    };
-    if let Some(number) = known.numbers.find(place) {
-        page.text("; loads ");
-        put_number(page, number);
-    }
-}
-
-// Puts which numbers these are.
-fn put_number(page: &mut Page, scalar: Scalar) {
+/// Puts which numbers these are.
+pub fn put_number(page: &mut Page, scalar: Scalar) {
     let (least, most) = (scalar.least(), scalar.most());
     if least == most {
         put_word(page, least);
@@ -109,7 +112,7 @@ fn put_bits(page: &mut Page, scalar: Scalar) {
 }
 
 // Puts where an address lies.
-fn put_address(page: &mut Page, known: &Description, region: Region, offsets: Offsets) {
+fn put_address(page: &mut Page, around: &Around, region: Region, offsets: Offsets) {
     match region {
         Region::Context => {
             page.fill("address context+{}", &[u64::from(offsets.least)]);
@@ -117,18 +120,18 @@ fn put_address(page: &mut Page, known: &Description, region: Region, offsets: Of
                 page.fill(" to context+{}", &[u64::from(offsets.most)]);
             }
         }
-        Region::Frame(frame) => put_stack_address(page, known, frame, offsets),
+        Region::Frame(frame) => put_stack_address(page, around, frame, offsets),
     }
 }
 
-fn put_stack_address(page: &mut Page, known: &Description, frame: u8, offsets: Offsets) {
+fn put_stack_address(page: &mut Page, around: &Around, frame: u8, offsets: Offsets) {
     page.text("address ");
     put_place(page, offsets.least);
     if offsets.least != offsets.most {
         page.text(" to ");
         put_place(page, offsets.most);
     }
-    if usize::from(frame) + 1 < known.stack.depth() {
+    if usize::from(frame) + 1 < around.depth {
         page.fill(" of frame {}, a caller's", &[u64::from(frame)]);
     }
 }
@@ -142,19 +145,19 @@ pub fn put_place(page: &mut Page, offset: u16) {
 }
 
 // Puts which freeze it is a copy of.
-fn put_copy(page: &mut Page, log: &Log, known: &Description, name: FreezeName) {
+fn put_copy(page: &mut Page, log: &Log, around: &Around, name: FreezeName) {
     put_name(page, log, name);
-    match known.held.certainty(name) {
-        Some(Certainty::Sure) => page.text(", sure"),
+    match around.certainty(name) {
+        Some(Certainty::Sure) => {}
         Some(Certainty::Open) => page.text(", or 0"),
-        None => page.text(", held no more"),
+        None => page.text(", which is held no more"),
     }
 }
 
 // Puts the name of a freeze: where it was taken.
 fn put_name(page: &mut Page, log: &Log, name: FreezeName) {
     match name {
-        FreezeName::Start => page.text("the freeze of the start"),
+        FreezeName::Start => page.text("the start's freeze"),
         FreezeName::Call(number) => match log.sightings().get(number as usize) {
             Some(sighting) => page.fill("the freeze taken at slot {}", &[sighting.slot as u64]),
             None => page.text("a freeze"),
@@ -162,17 +165,17 @@ fn put_name(page: &mut Page, log: &Log, name: FreezeName) {
     }
 }
 
-/// Puts which freezes are held: open ones may be none, sure ones are some.
-pub fn put_held(page: &mut Page, log: &Log, known: &Description) {
-    let held = known.held.as_slice();
+/// Puts which freezes are held, and which of them may be none.
+pub fn put_held(page: &mut Page, log: &Log, held: &Held) {
+    let held = held.as_slice();
     if held.is_empty() {
-        page.text("holds no freeze");
+        page.text("the run holds no freeze");
         return;
     }
-    page.text("holds ");
+    page.text("the run holds ");
     for (place, freeze) in held.iter().enumerate() {
         if place > 0 {
-            page.text(", ");
+            page.text(" and ");
         }
         put_freeze(page, log, *freeze);
     }
@@ -180,33 +183,36 @@ pub fn put_held(page: &mut Page, log: &Log, known: &Description) {
 
 fn put_freeze(page: &mut Page, log: &Log, freeze: HeldFreeze) {
     match freeze.name {
-        FreezeName::Start => page.text("that of the start"),
+        FreezeName::Start => page.text("the start's freeze"),
         FreezeName::Call(number) => match log.sightings().get(number as usize) {
-            Some(sighting) => page.fill("that of slot {}", &[sighting.slot as u64]),
-            None => page.text("one"),
+            Some(sighting) => page.fill("the freeze of slot {}", &[sighting.slot as u64]),
+            None => page.text("a freeze"),
         },
     }
     page.text(match freeze.certainty {
-        Certainty::Sure => " (sure)",
-        Certainty::Open => " (open)",
+        Certainty::Sure => "",
+        Certainty::Open => ", which may be 0",
     });
 }
 
 /// Puts what is known of these registers, in their order.
-pub fn put_registers(page: &mut Page, log: &Log, known: &Description, registers: Registers) {
+pub fn put_registers(page: &mut Page, log: &Log, known: &Sketch, registers: Registers) {
+    let around = Around::of(known);
     let mut first = true;
     for number in 0u8..11 {
         let Some(reg) = Reg::from_number(number) else {
             continue;
         };
-        if !registers.has(reg) {
-            continue;
+        if registers.has(reg) {
+            page.text(if first { "" } else { "; " });
+            first = false;
+            put_register(page, log, &around, reg, known.kind(reg));
         }
-        if !first {
-            page.text("; ");
-        }
-        first = false;
-        page.fill("r{} = ", &[u64::from(number)]);
-        put_kind(page, log, known, known.kind(reg));
     }
+}
+
+/// Puts what a register holds.
+pub fn put_register(page: &mut Page, log: &Log, around: &Around, reg: Reg, kind: Kind) {
+    page.fill("r{} = ", &[u64::from(reg.number())]);
+    put_kind(page, log, around, kind);
 }

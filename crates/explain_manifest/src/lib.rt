@@ -6,18 +6,24 @@
 
 mod accepting;
 mod arguments;
+mod asm_line;
 mod causes;
 mod codes;
 mod excerpt;
 mod explaining;
+mod fields;
 mod form;
+mod giving;
 mod keys;
 mod kinds;
 mod listing;
+mod notes;
 mod places;
 mod program;
 mod reaching;
 mod refusing;
 mod steps;
+mod survey;
+mod toml_fault;
 
 pub use explaining::{Explanation, explain};

@@ -180,6 +180,7 @@ pub fn of_bytes(
     let text = disassemble(alloc, program)?;
     let mut lines = text.as_str().split('\n');
     let standings = standings(alloc, manifest, value)?;
+    let elsewhere = whole(manifest, value);
     let mut insns = Vec::new(alloc);
     for slot in 0..program.len() {
         if program.fetch(slot).is_none() {
@@ -193,7 +194,7 @@ pub fn of_bytes(
         text.push_str(line)?;
         let standing = match standings.get(slot) {
             Some(standing) => *standing,
-            None => whole(manifest, value),
+            None => elsewhere,
         };
         insns.push(Written {
             slot,

@@ -1,24 +1,26 @@
-// Why a program is refused: where, which rule, by which values and by which path. It relies on `verifier` for the pass, which is made
-// once more before the eyes of a `explain_path::Log`, and on `listing` for how the program is written.
+// Why a program is refused: where, which rule, by which values and by which path. It relies on `notes` for what the verifier's pass
+// showed, and on `listing` for how the program is written.
 
 ghost use Rattle.std.specs.Prelude.{◌<◌, IfSome};
 ghost use Rattle.bpf_insn.specs.declared.program.TheConstants.{MAX_SLOTS};
 
-use crate::causes::{put_side, put_values};
+use crate::causes::{put_mending, put_side, put_values};
 use crate::codes::code_in;
+use crate::excerpt::put_foreign;
+use crate::giving::{given_back, is_release};
 use crate::listing::Listing;
+use crate::notes::Notes;
 use crate::reaching::reaches;
 use crate::{codes, excerpt, steps};
-use base::OrMemory;
 use bpf_insn::{Insn, Program};
 use call_shape::{Onward, ShapeFault};
 use check_register_kinds::Cause;
 use cli_text_page::Page;
 use explain_layout::Span;
-use explain_path::{Log, path_to};
+use explain_path::{Log, Open, Path, path_to};
 use helpers::HelperLimits;
 use std::alloc::{AllocError, Global};
-use verifier::{Refusal, verify_before};
+use verifier::Refusal;
 
 /// What there is to say of a jump that closes a loop. It names the slot to which the jump leads.
 const LOOP: &str =
@@ -26,7 +28,11 @@ const LOOP: &str =
 
 /// The same of one that leads to what control only leaves forward.
 const NO_LOOP: &str =
-    "  = here: no loop, since control does not come from slot {} to this jump\n  = to mend it: lay the program out so that each jump leads forward: what begins at that slot can stand after this jump; tools/policy-from-c lays out so what a C compiler made\n";
+    "  = here: no loop, since control does not come from slot {} to this jump\n  = to mend it: lay the program out so that each jump leads forward: what begins at that slot can stand after this jump; tools/policy-from-c does that with what a C compiler made\n";
+
+/// How two ways are mended of which one disposes of the CCB.
+const DISPOSE: &str =
+    "  = to mend it: requeue or finish the CCB (call 4 or 5) on both ways before they join, or only after that; or let each go to an exit of its own\n";
 
 /// A program that is told of, with what is needed for that.
 #[derive(Drop)]
@@ -38,17 +44,14 @@ pub struct Told<'a> {
     pub value: Span,
     pub program: &'a Program,
     pub listing: &'a Listing,
-    pub log: &'a Log,
+    pub notes: &'a Notes<'a>,
     pub limits: &'a HelperLimits,
 }
 
-/// What the verifier's pass shows of a program.
-pub fn log_of(alloc: Global, program: &Program, limits: &HelperLimits) -> Result<Log, AllocError> {
-    let (log, judged) = verify_before(alloc, program, limits, Log::new(alloc));
-    match judged {
-        Err(OrMemory::OutOfMemory) => Err(AllocError),
-        _ if log.lacks_memory() => Err(AllocError),
-        _ => Ok(log),
+impl Told<'_> {
+    /// The checks that were made of the program.
+    pub fn log(&self) -> &Log {
+        self.notes.log()
     }
 }
 
@@ -66,20 +69,35 @@ pub fn print(
     if let Some(code) = code {
         codes::put_rule(page, code);
     }
+    let is_mended = put_reasons(alloc, page, told, refusal, slot)?;
+    match code {
+        Some(code) if !is_mended => codes::put_mending(page, code),
+        _ => {}
+    }
+    Ok(())
+}
+
+// Puts by which values the rule is broken, and by which path; and how that is mended, if these tell. It answers whether they do.
+fn put_reasons(
+    alloc: Global,
+    page: &mut Page,
+    told: &Told<'_>,
+    refusal: Refusal,
+    slot: usize,
+) -> Result<bool, AllocError> {
     match refusal {
         Refusal::Shape(ShapeFault::TargetBackward(_)) => {
             put_target(page, told, slot);
             put_backward(page, told, slot);
-            return Ok(());
+            Ok(true)
         }
-        Refusal::Shape(_) => put_target(page, told, slot),
-        Refusal::Check(Cause::PathsDisagree, _) => put_sides(alloc, page, told, slot)?,
-        Refusal::Check(cause, _) => put_check(alloc, page, told, cause)?,
+        Refusal::Shape(_) => {
+            put_target(page, told, slot);
+            Ok(false)
+        }
+        Refusal::Check(Cause::PathsDisagree, _) => { put_sides(alloc, page, told, slot) }
+        Refusal::Check(cause, _) => put_check(alloc, page, told, cause),
     }
-    if let Some(code) = code {
-        codes::put_mending(page, code);
-    }
-    Ok(())
 }
 
 // The slot that a refusal names.
@@ -114,7 +132,7 @@ fn put_place(page: &mut Page, told: &Told<'_>, slot: usize) {
     page.fill("  = slot {}", &[slot as u64]);
     if !text.is_empty() {
         page.text(": ");
-        page.foreign(text);
+        put_foreign(page, text);
     }
     page.text("\n");
 }
@@ -158,64 +176,86 @@ fn put_backward(page: &mut Page, told: &Told<'_>, slot: usize) {
     );
 }
 
-// Puts what is known where the last check failed, and by which path control comes there.
+// Puts what is known where the last check failed, by which path control comes there, and how that is mended, if this tells. It answers
+// whether it does.
 fn put_check(
     alloc: Global,
     page: &mut Page,
     told: &Told<'_>,
     cause: Cause,
-) -> Result<(), AllocError> {
-    let number = told.log.sightings().len().saturating_sub(1);
-    let Some(sighting) = told.log.sightings().get(number) else {
-        return Ok(());
+) -> Result<bool, AllocError> {
+    let number = told.log().sightings().len().saturating_sub(1);
+    let Some(sighting) = told.log().sightings().get(number) else {
+        return Ok(false);
     };
-    let Some(insn) = told.program.fetch(sighting.slot) else {
-        return Ok(());
+    let (Some(insn), Some(known)) = (told.program.fetch(sighting.slot), told.log().last()) else {
+        return Ok(false);
     };
     page.text("  = here: ");
-    put_values(page, told, cause, insn, &sighting.known);
+    put_values(page, told, cause, insn, known);
     page.text("\n");
-    put_path(alloc, page, told, number, insn, None)
-}
-
-// Puts a path to a check, and on to a slot behind it.
-fn put_path(
-    alloc: Global,
-    page: &mut Page,
-    told: &Told<'_>,
-    number: usize,
-    insn: Insn,
-    behind: Option<usize>,
-) -> Result<(), AllocError> {
-    let matter = steps::mattering(insn);
-    if let Some(path) = path_to(alloc, told.program, told.log, number, matter)? {
-        page.text("  = path:\n");
-        steps::print(page, told, &path, behind);
+    let path = path_to(
+        alloc,
+        told.program,
+        told.log(),
+        number,
+        steps::mattering(insn),
+    )?;
+    let again = match &path {
+        Some(path) if cause == Cause::ArgumentAgainstRule && is_release(insn) => {
+            given_back(told, path)
+        }
+        _ => None,
+    };
+    if let Some(slot) = again {
+        page.fill(
+            "  = here: r1 was a freeze, which was given back at slot {}\n",
+            &[slot as u64],
+        );
     }
-    Ok(())
+    if let Some(path) = &path {
+        put_path(page, told, path, None);
+    }
+    if again.is_some() {
+        page.text("  = to mend it: give each freeze back once: leave out this call or that one\n");
+        return Ok(true);
+    }
+    Ok(put_mending(page, told, cause, insn, known))
 }
 
-// Puts what both ways say that disagree where they join, and by which paths they come there.
+// Puts a path, and on to a slot after it.
+fn put_path(page: &mut Page, told: &Told<'_>, path: &Path, after: Option<usize>) {
+    page.text("  = path:\n");
+    steps::print(page, told, path, after);
+}
+
+// Puts what two ways say that come to a slot and disagree, and by which paths they come there; and how that is mended, if they agree on
+// freezes. It answers whether they do.
 fn put_sides(
     alloc: Global,
     page: &mut Page,
     told: &Told<'_>,
     slot: usize,
-) -> Result<(), AllocError> {
-    let depth = match told.log.open().last() {
-        Some(last) => last.depth,
-        None => 0,
+) -> Result<bool, AllocError> {
+    let Some((first, last)) = told.log().disagreeing(slot) else {
+        return Ok(false);
     };
-    let ways = told.log.open();
-    for open in ways {
-        if open.slot == slot && open.depth == depth {
-            put_side(page, told, open);
-        }
+    put_side(page, told, &first);
+    put_side(page, told, &last);
+    put_way(alloc, page, told, &first)?;
+    put_way(alloc, page, told, &last)?;
+    let is_disposal = first.known.held.is_same(&last.known.held);
+    if is_disposal {
+        page.text(DISPOSE);
     }
-    for open in ways {
-        if open.slot == slot && open.depth == depth {
-            put_path(alloc, page, told, open.from, Insn::Exit, Some(slot))?;
-        }
+    Ok(is_disposal)
+}
+
+// Puts by which path control comes to a slot on a way.
+fn put_way(alloc: Global, page: &mut Page, told: &Told<'_>, way: &Open) -> Result<(), AllocError> {
+    let matter = steps::mattering(Insn::Exit);
+    if let Some(path) = path_to(alloc, told.program, told.log(), way.from, matter)? {
+        put_path(page, told, &path, Some(way.slot));
     }
     Ok(())
 }

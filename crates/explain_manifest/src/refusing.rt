@@ -1,23 +1,28 @@
 // Why a manifest is refused, in a report. It relies on `form` for faults of the form, and on `program` for those of programs.
 
 use crate::codes::code_in;
+use crate::excerpt::put_foreign;
 use crate::listing::{Listing, base_of, hexadecimal, of_bytes, of_text, pairs_of};
-use crate::places::value_span;
-use crate::program::{Told, log_of};
-use crate::{codes, excerpt, form, program};
+use crate::notes::notes_of;
+use crate::places::source_span;
+use crate::program::Told;
+use crate::{asm_line, codes, excerpt, fields, form, program, toml_fault};
 use base::OrMemory;
 use bpf_asm::{AsmFault, assemble};
-use bpf_decode::{DecodeFault, decode};
+use bpf_decode::{DecodeFault, InsnFault, decode};
 use bpf_insn::Program;
 use cli_text_page::Page;
-use explain_layout::{Layout, Span, layout};
+use explain_layout::{Layout, Span, layout, nth_line, without_mark};
 use helpers::{HelperLimits, HelperSet, TableLengths};
 use manifest::ManifestFault;
 use manifest_form::{Plan, ProgramEntry, Source};
 use std::alloc::{AllocError, Global};
+use std::fmt;
 use std::fmt::Display;
 use toml::Value;
-use verifier::Refusal;
+
+/// How many programs are told of in full, of those that are refused.
+const MOST_WHOLE: usize = 8;
 
 /// Puts what there is to say of a manifest, a path and its text, that has that fault.
 pub fn print(
@@ -27,37 +32,52 @@ pub fn print(
     fault: &ManifestFault,
     page: &mut Page,
 ) -> Result<(), AllocError> {
+    put_mark(page, text);
+    let layout = layout(alloc, text)?;
     match toml::table_from_str(alloc, text) {
-        Ok(table) => print_document(alloc, path, text, &Value::Table(table), fault, page),
-        Err(error) => {
-            let part = match error.span() {
-                Some(span) => Span {
-                    start: span.start,
-                    end: span.end,
-                },
-                None => return Err(AllocError),
-            };
-            excerpt::print(page, path, text, part);
-            page.text("  = here: ");
-            page.foreign(error.message());
-            page.text("\n");
-            put_rule(page, "M1");
-            Ok(())
+        Ok(table) => print_document(
+            alloc,
+            path,
+            text,
+            &layout,
+            &Value::Table(table),
+            fault,
+            page,
+        ),
+        Err(error) => toml_fault::print(path, text, &layout, &error, page),
+    }
+}
+
+/// Puts that a byte order mark stands before a text, if one does.
+pub fn put_mark(page: &mut Page, text: &str) {
+    if without_mark(text).len() < text.len() {
+        page.text("  = note: a byte order mark stands before the text, and is passed over\n");
+    }
+}
+
+// Puts what the code of a fault means; and then what most often is the cause, unless more is known.
+fn put_rule_of<T: Display>(
+    alloc: Global,
+    page: &mut Page,
+    fault: &T,
+    more_is_known: bool,
+) -> Result<(), AllocError> {
+    let text = format!(in alloc; "{fault}")?;
+    if let Some(code) = code_in(text.as_str()) {
+        codes::put_rule(page, code);
+        if !more_is_known {
+            codes::put_mending(page, code);
         }
     }
+    Ok(())
 }
 
-// Puts what the code means with which a fault's text begins.
-fn put_rule(page: &mut Page, text: &str) {
-    if let Some(code) = code_in(text) {
-        codes::print(page, code);
-    }
-}
-
-// Puts what the code means of a fault.
-fn put_rule_of<T: Display>(alloc: Global, page: &mut Page, fault: &T) -> Result<(), AllocError> {
+// Puts what most often is the cause of a fault.
+fn put_mending_of<T: Display>(alloc: Global, page: &mut Page, fault: &T) -> Result<(), AllocError> {
     let text = format!(in alloc; "{fault}")?;
-    put_rule(page, text.as_str());
+    if let Some(code) = code_in(text.as_str()) {
+        codes::put_mending(page, code);
+    }
     Ok(())
 }
 
@@ -66,19 +86,35 @@ fn print_document(
     alloc: Global,
     path: &str,
     text: &str,
+    layout: &Layout,
     document: &Value,
     fault: &ManifestFault,
     page: &mut Page,
 ) -> Result<(), AllocError> {
-    let layout = layout(alloc, text)?;
     match manifest_form::read(alloc, document) {
-        Ok(plan) => print_plan(alloc, path, text, &layout, &plan, fault, page),
+        Ok(plan) => print_plan(alloc, path, text, layout, &plan, fault, page),
         Err(OrMemory::OutOfMemory) => Err(AllocError),
         Err(OrMemory::Fault(_)) => {
-            form::print(alloc, path, text, &layout, document, fault, page)?;
-            put_rule_of(alloc, page, fault)
+            let advice = form::print(alloc, path, text, layout, document, fault, page)?;
+            put_advice(alloc, page, fault, advice)
         }
     }
+}
+
+// Puts what the code of a manifest's fault means, and how the fault is mended: so, or as the code says.
+fn put_advice(
+    alloc: Global,
+    page: &mut Page,
+    fault: &ManifestFault,
+    advice: Option<&'static str>,
+) -> Result<(), AllocError> {
+    put_rule_of(alloc, page, fault, advice.is_some())?;
+    if let Some(advice) = advice {
+        page.text("  = to mend it: ");
+        page.text(advice);
+        page.text("\n");
+    }
+    Ok(())
 }
 
 // The same of one whose keys, forms and ranges are lawful.
@@ -92,106 +128,258 @@ fn print_plan(
     page: &mut Page,
 ) -> Result<(), AllocError> {
     match fault {
-        ManifestFault::Undecoded(name, fault) => {
-            match named(layout, plan, name.as_str()) {
-                Some((value, entry)) => print_undecoded(
-                    alloc, path, text, value, entry, *fault, page,
-                ),
-                None => Ok(()),
-            }
-        }
-        ManifestFault::Unassembled(name, fault) => {
-            match named(layout, plan, name.as_str()) {
-                Some((value, entry)) => print_unassembled(
-                    alloc, path, text, value, entry, *fault, page,
-                ),
-                None => Ok(()),
-            }
-        }
-        ManifestFault::Unaccepted(name, refusal) => {
-            match named(layout, plan, name.as_str()) {
-                Some((value, entry)) => print_unaccepted(
-                    alloc, path, text, value, plan, entry, *refusal, page,
-                ),
-                None => Ok(()),
-            }
+        ManifestFault::Undecoded(name, _)
+        | ManifestFault::Unassembled(name, _)
+        | ManifestFault::Unaccepted(name, _) => {
+            print_programs(alloc, path, text, layout, plan, name.as_str(), page)
         }
         _ => {
-            form::print_plan(alloc, path, text, layout, plan, page)?;
-            put_rule_of(alloc, page, fault)
+            let advice = form::print_plan(alloc, path, text, layout, plan, page)?;
+            put_advice(alloc, page, fault, advice)
         }
     }
 }
 
-// The program of that name, and where its text or its bytes stand.
-fn named<'a, 'b>(
+// Puts why programs are refused: first that of the manifest's fault, and then all others that are.
+fn print_programs(
+    alloc: Global,
+    path: &str,
+    text: &str,
     layout: &Layout,
-    plan: &'b Plan<'a>,
-    name: &str,
-) -> Option<(Span, &'b ProgramEntry<'a>)> {
-    for (number, entry) in plan.programs.iter().enumerate() {
-        if entry.name == name {
-            let key = match &entry.source {
-                Source::Asm(_) => "asm",
-                Source::Code(_) => "code",
-            };
-            return Some((value_span(layout, "program", number, key), entry));
+    plan: &Plan<'_>,
+    first: &str,
+    page: &mut Page,
+) -> Result<(), AllocError> {
+    let limits = limits_of(alloc, plan)?;
+    let mut told = 0usize;
+    for is_first in [true, false] {
+        for (number, entry) in plan.programs.iter().enumerate() {
+            if (entry.name == first) == is_first {
+                let source = Stands {
+                    path,
+                    text,
+                    value: source_span(layout, number, &entry.source),
+                };
+                let shown = Shown {
+                    is_first,
+                    is_whole: told < MOST_WHOLE,
+                };
+                if print_program(alloc, source, &limits, entry, shown, page)? {
+                    told = told.saturating_add(1);
+                }
+            }
         }
     }
-    None
+    Ok(())
+}
+
+// A manifest's path, its text, and where a program's text or bytes stand in it.
+#[derive(Clone, Copy)]
+struct Stands<'a> {
+    path: &'a str,
+    text: &'a str,
+    value: Span,
+}
+
+// Whether a program's fault is the manifest's, which stands above the report already, and whether the fault is told of in full.
+#[derive(Clone, Copy)]
+struct Shown {
+    is_first: bool,
+    is_whole: bool,
+}
+
+// Puts the fault of a program, if it has one, and answers whether it has.
+fn print_program(
+    alloc: Global,
+    stands: Stands<'_>,
+    limits: &HelperLimits,
+    entry: &ProgramEntry<'_>,
+    shown: Shown,
+    page: &mut Page,
+) -> Result<bool, AllocError> {
+    let program = match program_of(alloc, &entry.source)? {
+        Ok(program) => program,
+        Err(fault) => {
+            put_fault(page, "M7", entry.name, shown, &fault);
+            if shown.is_whole {
+                print_unread(alloc, stands, entry, fault, page)?;
+            }
+            return Ok(true);
+        }
+    };
+    let (notes, refusal) = notes_of(alloc, &program, limits)?;
+    let Some(refusal) = refusal else {
+        return Ok(false);
+    };
+    put_fault(page, "M8", entry.name, shown, &refusal);
+    if shown.is_whole {
+        let listing = listing_of(alloc, stands.text, stands.value, &entry.source, &program)?;
+        let told = Told {
+            path: stands.path,
+            text: stands.text,
+            value: stands.value,
+            program: &program,
+            listing: &listing,
+            notes: &notes,
+            limits,
+        };
+        program::print(alloc, page, &told, refusal)?;
+    }
+    Ok(true)
+}
+
+// Puts the fault of a program that is not the manifest's.
+fn put_fault<T: Display>(page: &mut Page, code: &str, name: &str, shown: Shown, fault: &T) {
+    if shown.is_first {
+        return;
+    }
+    page.text("\nrefused too: ");
+    page.text(code);
+    page.text(" ");
+    page.foreign(name);
+    page.text(" ");
+    page.shown(fault);
+    page.text("\n");
+}
+
+// Why a program's text or bytes are none.
+#[derive(Clone, Copy)]
+enum Unread {
+    Text(AsmFault),
+    Bytes(DecodeFault),
+}
+
+impl Display for Unread {
+    fn fmt<W: fmt::Write>(&self, f: &mut fmt::Formatter<W>) -> fmt::Result {
+        match self {
+            Unread::Text(fault) => write!(f, "{fault}"),
+            Unread::Bytes(fault) => write!(f, "{fault}"),
+        }
+    }
+}
+
+// The program that a text or bytes are, or why they are none.
+fn program_of(alloc: Global, source: &Source<'_>) -> Result<Result<Program, Unread>, AllocError> {
+    match source {
+        Source::Asm(asm) => match assemble(alloc, asm) {
+            Ok(program) => Ok(Ok(program)),
+            Err(OrMemory::OutOfMemory) => Err(AllocError),
+            Err(OrMemory::Fault(fault)) => Ok(Err(Unread::Text(fault))),
+        },
+        Source::Code(bytes) => match decode(alloc, bytes) {
+            Ok(program) => Ok(Ok(program)),
+            Err(OrMemory::OutOfMemory) => Err(AllocError),
+            Err(OrMemory::Fault(fault)) => Ok(Err(Unread::Bytes(fault))),
+        },
+    }
+}
+
+// How a program's instructions are written.
+fn listing_of(
+    alloc: Global,
+    text: &str,
+    value: Span,
+    source: &Source<'_>,
+    program: &Program,
+) -> Result<Listing, AllocError> {
+    match source {
+        Source::Asm(asm) => of_text(alloc, text, value, asm),
+        Source::Code(bytes) => of_bytes(alloc, text, value, program, bytes),
+    }
+}
+
+// Puts why a program's text or bytes are none.
+fn print_unread(
+    alloc: Global,
+    stands: Stands<'_>,
+    entry: &ProgramEntry<'_>,
+    fault: Unread,
+    page: &mut Page,
+) -> Result<(), AllocError> {
+    match (fault, &entry.source) {
+        (Unread::Bytes(fault), Source::Code(bytes)) => {
+            print_undecoded(alloc, stands, bytes, fault, page)
+        }
+        (Unread::Text(fault), Source::Asm(asm)) => {
+            print_unassembled(alloc, stands, asm, fault, page)
+        }
+        _ => Ok(()),
+    }
 }
 
 // Puts why bytes are no program.
 fn print_undecoded(
     alloc: Global,
-    path: &str,
-    text: &str,
-    value: Span,
-    entry: &ProgramEntry<'_>,
+    stands: Stands<'_>,
+    bytes: &[u8],
     fault: DecodeFault,
     page: &mut Page,
 ) -> Result<(), AllocError> {
-    let Source::Code(bytes) = &entry.source else {
-        return Ok(());
+    let Stands { path, text, value } = stands;
+    let DecodeFault::At { slot, fault: insn } = fault else {
+        excerpt::print(page, path, text, value);
+        page.fill(
+            if bytes.len() == 1 {
+                "  = here: {} byte\n"
+            } else {
+                "  = here: {} bytes\n"
+            },
+            &[bytes.len() as u64],
+        );
+        return put_rule_of(alloc, page, &fault, false);
     };
-    match fault {
-        DecodeFault::At { slot, .. } => {
-            excerpt::print(page, path, text, pairs_of(alloc, text, value, slot)?);
-            let pairs = hexadecimal(alloc, bytes, slot)?;
-            page.fill("  = slot {}: ", &[slot as u64]);
-            page.text(pairs.as_str());
-            page.text("\n");
+    excerpt::print(page, path, text, pairs_of(alloc, text, value, slot)?);
+    let pairs = hexadecimal(alloc, bytes, slot)?;
+    page.fill("  = slot {}: ", &[slot as u64]);
+    page.text(pairs.as_str());
+    page.text("\n");
+    fields::put_fields(page, bytes, slot);
+    match insn {
+        InsnFault::UnusedField => {
+            put_rule_of(alloc, page, &fault, true)?;
+            fields::put_unused(page, bytes, slot);
+            Ok(())
         }
-        _ => {
-            excerpt::print(page, path, text, value);
-            page.fill("  = here: {} bytes\n", &[bytes.len() as u64]);
+        InsnFault::FramePointer => {
+            put_rule_of(alloc, page, &fault, true)?;
+            fields::put_frame_pointer(page);
+            Ok(())
         }
+        _ => put_rule_of(alloc, page, &fault, false),
     }
-    put_rule_of(alloc, page, &fault)
 }
 
 // Puts why a text is no program.
 fn print_unassembled(
     alloc: Global,
-    path: &str,
-    text: &str,
-    value: Span,
-    entry: &ProgramEntry<'_>,
+    stands: Stands<'_>,
+    asm: &str,
     fault: AsmFault,
     page: &mut Page,
 ) -> Result<(), AllocError> {
-    let Source::Asm(asm) = &entry.source else {
-        return Ok(());
-    };
     match fault {
-        AsmFault::At { line, .. } => print_line(path, text, value, asm, line, page),
-        AsmFault::NoProgram => excerpt::print(page, path, text, value),
+        AsmFault::At {
+            line,
+            fault: of_line,
+        } => {
+            print_line(stands, asm, line, page);
+            put_rule_of(alloc, page, &fault, true)?;
+            let written = nth_line(asm, line.saturating_sub(1));
+            if !asm_line::put_fault(page, of_line, written) {
+                put_mending_of(alloc, page, &fault)?;
+            }
+            Ok(())
+        }
+        AsmFault::NoProgram => {
+            excerpt::print(page, stands.path, stands.text, stands.value);
+            put_rule_of(alloc, page, &fault, false)
+        }
     }
-    put_rule_of(alloc, page, &fault)
 }
 
-// Puts the line of that number of an assembler text, which stands there.
-fn print_line(path: &str, text: &str, value: Span, asm: &str, line: usize, page: &mut Page) {
+// Puts the line of that number of an assembler text.
+fn print_line(stands: Stands<'_>, asm: &str, line: usize, page: &mut Page) {
+    let Stands { path, text, value } = stands;
     let part = line_part(asm, line);
     let place = match base_of(text, value, asm) {
         Some(base) => Span {
@@ -202,7 +390,7 @@ fn print_line(path: &str, text: &str, value: Span, asm: &str, line: usize, page:
     };
     excerpt::print(page, path, text, place);
     page.fill("  = line {} of the program: ", &[line as u64]);
-    page.foreign(asm.get(part.start..part.end).unwrap_or(""));
+    put_foreign(page, asm.get(part.start..part.end).unwrap_or(""));
     page.text("\n");
 }
 
@@ -212,41 +400,13 @@ fn line_part(text: &str, number: usize) -> Span {
     for line in text.split('\n').take(number.saturating_sub(1)) {
         start = start.saturating_add(line.len()).saturating_add(1);
     }
-    let line = explain_layout::nth_line(text, number.saturating_sub(1));
+    let line = nth_line(text, number.saturating_sub(1));
     let blanks = line.len().saturating_sub(line.trim_start().len());
     let start = start.saturating_add(blanks);
     Span {
         start,
         end: start.saturating_add(line.trim().len()),
     }
-}
-
-// Puts why a program is not accepted.
-fn print_unaccepted(
-    alloc: Global,
-    path: &str,
-    text: &str,
-    value: Span,
-    plan: &Plan<'_>,
-    entry: &ProgramEntry<'_>,
-    refusal: Refusal,
-    page: &mut Page,
-) -> Result<(), AllocError> {
-    let Some((program, listing)) = read(alloc, text, value, &entry.source)? else {
-        return Ok(());
-    };
-    let limits = limits_of(alloc, plan)?;
-    let log = log_of(alloc, &program, &limits)?;
-    let told = Told {
-        path,
-        text,
-        value,
-        program: &program,
-        listing: &listing,
-        log: &log,
-        limits: &limits,
-    };
-    program::print(alloc, page, &told, refusal)
 }
 
 /// A program as it is written, with how its instructions stand there.
@@ -256,20 +416,12 @@ pub fn read(
     value: Span,
     source: &Source<'_>,
 ) -> Result<Option<(Program, Listing)>, AllocError> {
-    match source {
-        Source::Asm(asm) => match assemble(alloc, asm) {
-            Ok(program) => Ok(Some((program, of_text(alloc, text, value, asm)?))),
-            Err(OrMemory::OutOfMemory) => Err(AllocError),
-            Err(OrMemory::Fault(_)) => Ok(None),
-        },
-        Source::Code(bytes) => match decode(alloc, bytes) {
-            Ok(program) => {
-                let listing = of_bytes(alloc, text, value, &program, bytes)?;
-                Ok(Some((program, listing)))
-            }
-            Err(OrMemory::OutOfMemory) => Err(AllocError),
-            Err(OrMemory::Fault(_)) => Ok(None),
-        },
+    match program_of(alloc, source)? {
+        Ok(program) => {
+            let listing = listing_of(alloc, text, value, source, &program)?;
+            Ok(Some((program, listing)))
+        }
+        Err(_) => Ok(None),
     }
 }
 

@@ -2,12 +2,17 @@
 // `explain_path` for the path, and on `listing` for how instructions are written.
 
 use crate::arguments::helper_of;
-use crate::kinds::{put_held, put_kept, put_registers};
+use crate::excerpt::put_foreign;
+use crate::kinds::{Around, put_held, put_number, put_register};
 use crate::program::Told;
 use bpf_insn::{Callee, Insn, LoadForm, Reg, jump_target};
+use check_description::Description;
+use check_register_kinds::{Kind, Region};
 use cli_text_page::Page;
-use explain_path::{Path, Registers, Sighting};
+use explain_path::{Path, Registers};
 use helpers::Helper;
+use scalar_domain::Scalar;
+use stack_domain::NumberPlace;
 
 /// How many instructions a path may have that is told whole.
 const WHOLE: usize = 48;
@@ -16,19 +21,29 @@ const WHOLE: usize = 48;
 /// exits.
 const LAST: usize = 16;
 
-/// Puts a path, an instruction a line, which goes on to a slot behind it.
-pub fn print(page: &mut Page, told: &Told<'_>, path: &Path, behind: Option<usize>) {
+/// How many turns are told of a path that has more: as many from its beginning as from its end.
+const TURNS: usize = 128;
+
+/// Puts a path, an instruction a line, which goes on to a slot after it.
+pub fn print(page: &mut Page, told: &Told<'_>, path: &Path, after: Option<usize>) {
     page.text("  slot   line\n");
-    let count = path.checks.len();
+    let count = path.slots.len();
+    let turns = path
+        .slots
+        .iter()
+        .filter(|slot| is_turn_at(told, **slot))
+        .count();
+    let mut turn = 0usize;
     let mut left_out = 0u64;
-    for (place, check) in path.checks.iter().enumerate() {
-        let Some(sighting) = told.log.sightings().get(*check) else {
+    for (place, slot) in path.slots.iter().enumerate() {
+        let Some(insn) = told.program.fetch(*slot) else {
             continue;
         };
-        let Some(insn) = told.program.fetch(sighting.slot) else {
-            continue;
-        };
-        if count > WHOLE && place.saturating_add(LAST) < count && !is_turn(insn) {
+        let is_told = is_turn(insn) && is_among(turn, turns);
+        if is_turn(insn) {
+            turn = turn.saturating_add(1);
+        }
+        if count > WHOLE && place.saturating_add(LAST) < count && !is_told {
             left_out = left_out.saturating_add(1);
             continue;
         }
@@ -38,13 +53,27 @@ pub fn print(page: &mut Page, told: &Told<'_>, path: &Path, behind: Option<usize
         left_out = 0;
         let next = match path.slots.get(place.saturating_add(1)) {
             Some(next) => Some(*next),
-            None => behind,
+            None => after,
         };
-        put_step(page, told, sighting, insn, next);
+        if let Some(check) = path.checks.get(place) {
+            put_step(page, told, *check, *slot, insn, next);
+        }
     }
 }
 
-// Whether an instruction may lead elsewhere than behind it.
+// Whether a turn is one of the first or of the last that are told.
+fn is_among(turn: usize, turns: usize) -> bool {
+    turn < TURNS || turns < turn.saturating_add(TURNS).saturating_add(1)
+}
+
+fn is_turn_at(told: &Told<'_>, slot: usize) -> bool {
+    match told.program.fetch(slot) {
+        Some(insn) => is_turn(insn),
+        None => false,
+    }
+}
+
+// Whether an instruction may lead elsewhere than to the next one.
 fn is_turn(insn: Insn) -> bool {
     matches!(insn, Insn::JumpIf { .. } | Insn::Call(_) | Insn::Exit)
 }
@@ -53,11 +82,15 @@ fn is_turn(insn: Insn) -> bool {
 fn put_step(
     page: &mut Page,
     told: &Told<'_>,
-    sighting: &Sighting,
+    check: usize,
+    slot: usize,
     insn: Insn,
     next: Option<usize>,
 ) {
-    let slot = sighting.slot;
+    let depth = match told.log().sightings().get(check) {
+        Some(sighting) => sighting.depth,
+        None => 1,
+    };
     page.aligned(slot as u64, 6);
     let text = match told.listing.at(slot) {
         Some(written) => {
@@ -71,11 +104,11 @@ fn put_step(
             ""
         }
     };
-    let wide = put_indented(page, sighting.depth, text);
+    let wide = put_indented(page, depth, text);
     if tells_more(insn) {
         page.blanks(told.listing.width.saturating_sub(wide));
         put_way(page, slot, insn, next);
-        put_known(page, told, sighting, insn);
+        put_known(page, told, check, depth, insn);
     }
     page.text("\n");
 }
@@ -86,7 +119,7 @@ fn put_indented(page: &mut Page, depth: usize, text: &str) -> usize {
         page.text("  ");
     }
     let before = page.len();
-    page.foreign(text);
+    put_foreign(page, text);
     let shown = page.len().saturating_sub(before);
     depth.saturating_mul(2).saturating_add(shown)
 }
@@ -118,36 +151,81 @@ fn put_way(page: &mut Page, slot: usize, insn: Insn, next: Option<usize>) {
 }
 
 // Puts what is known of the registers that matter to an instruction, and of freezes where it may end the run or move one.
-fn put_known(page: &mut Page, told: &Told<'_>, sighting: &Sighting, insn: Insn) {
-    let registers = mattering(insn);
-    if registers.count() > 0 {
-        page.text("  ");
-        put_registers(page, told.log, &sighting.known, registers);
-    }
-    put_loaded(page, sighting, insn);
-    if tells_freezes(insn) {
-        page.text("  ");
-        put_held(page, told.log, &sighting.known);
+fn put_known(page: &mut Page, told: &Told<'_>, check: usize, depth: usize, insn: Insn) {
+    let held = told.notes.held(check);
+    put_kinds(page, told, check, &Around { depth, held }, insn);
+    if let Some(held) = held {
+        if tells_freezes(insn) {
+            page.text(if mattering(insn).count() > 0 {
+                "; "
+            } else {
+                "  "
+            });
+            put_held(page, told.log(), &held);
+        }
     }
 }
 
-// Puts which number a load without a sign gives, if it is kept on the stack.
-fn put_loaded(page: &mut Page, sighting: &Sighting, insn: Insn) {
-    if let Insn::Load {
+// Puts what is known of the registers that matter to an instruction, and which number it loads.
+fn put_kinds(page: &mut Page, told: &Told<'_>, check: usize, around: &Around, insn: Insn) {
+    let registers = mattering(insn);
+    let kinds = told.notes.kinds(check);
+    let mut count = 0usize;
+    for number in 0u8..11 {
+        if let Some(reg) = held_in(registers, number) {
+            if let Some(kind) = kinds.get(count) {
+                page.text(if count == 0 { "  " } else { "; " });
+                count = count.saturating_add(1);
+                put_register(page, told.log(), around, reg, *kind);
+            }
+        }
+    }
+    if let Some(Kind::Number(number)) = kinds.get(count) {
+        page.text("; loads ");
+        put_number(page, *number);
+    }
+}
+
+// The register of that number, if it is one of these.
+fn held_in(registers: Registers, number: u8) -> Option<Reg> {
+    match Reg::from_number(number) {
+        Some(reg) if registers.has(reg) => Some(reg),
+        _ => None,
+    }
+}
+
+/// The number that an instruction loads, if it is a load without a sign and the number is kept on the stack.
+pub fn loaded(known: &Description, insn: Insn) -> Option<Scalar> {
+    let Insn::Load {
         form,
         src,
         offset,
         ..
     } = insn
-    {
-        let bytes = match form {
-            LoadForm::Byte => 1,
-            LoadForm::HalfWord => 2,
-            LoadForm::Word => 4,
-            LoadForm::DoubleWord => 8,
-            LoadForm::SignedByte | LoadForm::SignedHalfWord | LoadForm::SignedWord => return,
-        };
-        put_kept(page, &sighting.known, src, offset, bytes);
+    else {
+        return None;
+    };
+    let Kind::Address(Region::Frame(frame), offsets) = known.kind(src) else {
+        return None;
+    };
+    if offsets.least != offsets.most {
+        return None;
+    }
+    known.numbers.find(NumberPlace {
+        frame,
+        offset: offsets.least.saturating_add_signed(offset),
+        bytes: unsigned_bytes(form)?,
+    })
+}
+
+// How many bytes a load without a sign reads.
+fn unsigned_bytes(form: LoadForm) -> Option<u16> {
+    match form {
+        LoadForm::Byte => Some(1),
+        LoadForm::HalfWord => Some(2),
+        LoadForm::Word => Some(4),
+        LoadForm::DoubleWord => Some(8),
+        LoadForm::SignedByte | LoadForm::SignedHalfWord | LoadForm::SignedWord => None,
     }
 }
 
@@ -171,8 +249,8 @@ fn arguments(helper: Helper) -> Registers {
     registers
 }
 
-// Whether an instruction may end the run, or takes or gives up a freeze.
-fn tells_freezes(insn: Insn) -> bool {
+/// Whether an instruction may end the run, or takes or gives up a freeze.
+pub fn tells_freezes(insn: Insn) -> bool {
     match helper_of(insn) {
         Some(helper) => matches!(
             helper,

@@ -6,10 +6,14 @@ mod budget;
 mod log;
 mod path;
 mod registers;
+mod sketch;
 mod static_path;
+mod ways;
 
 pub use budget::longest_path;
-pub use log::{Log, Open, Sighting};
+pub use log::{Log, Sighting};
 pub use path::{Path, path_to};
 pub use registers::{Registers, written_by};
+pub use sketch::Sketch;
 pub use static_path::is_static_path;
+pub use ways::Open;

@@ -1,21 +1,22 @@
-// Who is shown a pass and keeps what it saw. It relies on `verifier` for what is shown, and on `check_description` for what is known.
+// Who is shown a pass and keeps what it saw. It relies on `verifier` for what is shown, and on `sketch` and `ways` for what is known.
 
-ghost use Rattle.std.specs.Prelude.{◌≡◌, [], false};
+ghost use Rattle.std.specs.Prelude.{◌≡◌, [], false, IfSome};
+ghost use Rattle.explain_path.specs.Logs.{AgreeAt};
 
 use crate::registers::Registers;
+use crate::sketch::Sketch;
+use crate::ways::{Open, Ways};
 use check_description::Description;
 use std::alloc::{AllocError, Global};
 use std::marker::Model;
 use verifier::Witness;
 
 /// A check that was made, or the one that failed.
-#[derive(Drop)]
+#[derive(Clone, Copy, Debug)]
 pub struct Sighting {
     pub slot: usize,
     /// How many functions were open there, from 1.
     pub depth: usize,
-    /// What was known there, by all ways together.
-    pub known: Description,
     // which of the log's arrivals are those at this check: the first of them; they go on to those of the next check
     first: usize,
 }
@@ -29,25 +30,14 @@ pub(crate) struct Arrival {
     pub(crate) stack_alike: bool,
 }
 
-/// A way that was shown, and leads to a check that is not made yet.
-#[derive(Drop)]
-pub struct Open {
-    pub slot: usize,
-    /// How many functions are open there, from 1.
-    pub depth: usize,
-    /// From which check it leads.
-    pub from: usize,
-    /// What is known by it alone; of a return, before the exit.
-    pub known: Description,
-}
-
-/// All that was shown of a pass, in its order: the number of a check is its place. Contracts see the checks, the open ways, and whether
-/// memory was refused.
+/// All that was shown of a pass, in its order: the number of a check is its place. What is known is kept of the last check and of open
+/// ways alone, so that little memory is taken. Contracts see the checks, and whether memory was refused.
 #[derive(Drop)]
 pub struct Log {
     sightings: Vec<Sighting>,
     arrivals: Vec<Arrival>,
-    ways: Vec<Open>,
+    ways: Ways,
+    last: Option<Sketch>,
     lacks_memory: bool,
 }
 
@@ -56,18 +46,19 @@ impl Model for Log {
 
     ghost Value = { LogState };
 
-    ghost view = { λ log. record { sightings = log.sightings.items; ways = log.ways.items; lacks_memory = log.lacks_memory } };
+    ghost view = { λ log. record { sightings = log.sightings.items; lacks_memory = log.lacks_memory } };
 }
 
 impl Log {
     /// Nothing yet.
     pub fn new(alloc: Global) -> Self
-        ensures { result ≡ record { sightings = []; ways = []; lacks_memory = false } }
+        ensures { result ≡ record { sightings = []; lacks_memory = false } }
     {
         Log {
             sightings: Vec::new(alloc),
             arrivals: Vec::new(alloc),
-            ways: Vec::new(alloc),
+            ways: Ways::none(alloc),
+            last: None,
             lacks_memory: false,
         }
     }
@@ -86,14 +77,21 @@ impl Log {
         self.sightings.as_slice()
     }
 
-    /// The ways that lead to checks that were not made: behind a check that failed all that stood open.
-    pub fn open(&self) -> &[Open]
-        ensures { result.now ≡ self.now.ways }
-    {
-        self.ways.as_slice()
+    /// What was known at the last check, by all ways together.
+    pub fn last(&self) -> Option<&Sketch> {
+        self.last.as_ref()
     }
 
-    // The ways by which control comes to the check of that number.
+    /// Two ways that lead to a slot and disagree on the freezes held or on the CCB's disposal: the last of all that lead there, after the
+    /// first of those which disagree with it.
+    pub fn disagreeing(&self, slot: usize) -> Option<(Open, Open)>
+        ensures slots { IfSome result (λ ways. (ways.0.slot ≡ slot) × (ways.1.slot ≡ slot)) }
+        ensures disagree { IfSome result (λ ways. AgreeAt ways.0.known ways.1.known → ⊥) }
+    {
+        self.ways.disagreeing(slot)
+    }
+
+    // The ways by which control comes to the check of that number; the one that was shown last comes first.
     pub(crate) fn arrivals_at(&self, number: usize) -> &[Arrival] {
         let all = self.arrivals.as_slice();
         let first = self.first_of(number);
@@ -116,56 +114,38 @@ impl Log {
     fn keep(&mut self, slot: usize, known: &Description) -> Result<(), AllocError> {
         let first = self.arrivals.len();
         let depth = known.stack.depth();
-        self.arrive(slot, depth, known)?;
-        let known = known.try_copy()?;
-        self.sightings.push(Sighting {
-            slot,
-            depth,
-            known,
-            first,
-        })?;
+        let known = Sketch::of(known);
+        self.arrive(slot, &known)?;
+        self.sightings.push(Sighting { slot, depth, first })?;
+        self.last = Some(known);
         Ok(())
     }
 
     // The ways that stand open and lead to that check come there.
-    fn arrive(&mut self, slot: usize, depth: usize, known: &Description) -> Result<(), AllocError> {
-        let mut place = 0usize;
-        for _way in 0..self.ways.len() {
-            if place >= self.ways.len() {
-                return Ok(());
-            }
-            if self.ways[place].slot == slot && self.ways[place].depth == depth {
-                let way = self.ways.swap_remove(place);
-                let alike = Registers::alike(&way.known, known);
-                let stack_alike = way.known.stack == known.stack;
-                self.arrivals.push(Arrival {
-                    from: way.from,
-                    alike,
-                    stack_alike,
-                })?;
-            } else {
-                place += 1;
-            }
+    fn arrive(&mut self, slot: usize, known: &Sketch) -> Result<(), AllocError> {
+        for _way in 0..self.ways.count() {
+            let Some(way) = self.ways.take_last(slot) else {
+                break;
+            };
+            self.arrivals.push(Arrival {
+                from: way.from,
+                alike: Registers::alike(&way.known, known),
+                stack_alike: way.known.stack == known.stack,
+            })?;
         }
         Ok(())
     }
 
     // Keeps a way.
-    fn keep_way(
-        &mut self,
-        number: u32,
-        slot: usize,
-        depth: usize,
-        known: &Description,
-    ) -> Result<(), AllocError> {
-        let known = known.try_copy()?;
-        self.ways.push(Open {
-            slot,
-            depth,
-            from: number as usize,
-            known,
-        })?;
-        Ok(())
+    fn keep_way(&mut self, number: u32, slot: usize, known: &Description) {
+        if !self.lacks_memory {
+            let kept = self.ways.keep(Open {
+                slot,
+                from: number as usize,
+                known: Sketch::of(known),
+            });
+            self.note(kept);
+        }
     }
 
     // What was kept was kept, or memory was refused.
@@ -185,17 +165,10 @@ impl Witness for Log {
     }
 
     fn leads(&mut self, number: u32, slot: usize, known: &Description) {
-        if !self.lacks_memory {
-            let kept = self.keep_way(number, slot, known.stack.depth(), known);
-            self.note(kept);
-        }
+        self.keep_way(number, slot, known);
     }
 
     fn leaves(&mut self, number: u32, slot: usize, known: &Description) {
-        if !self.lacks_memory {
-            let depth = known.stack.depth().saturating_sub(1);
-            let kept = self.keep_way(number, slot, depth, known);
-            self.note(kept);
-        }
+        self.keep_way(number, slot, known);
     }
 }

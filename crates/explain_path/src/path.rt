@@ -74,13 +74,13 @@ fn before(log: &Log, at: usize, matter: Registers) -> Option<usize> {
     }
 }
 
-// The check from which that way comes that says most of what all say.
+// The check from which that way comes that says most of what all say: of several such ways the one that was shown first.
 fn most_telling(arrivals: &[Arrival], matter: Registers) -> Option<usize> {
     let mut found = None;
     let mut most = 0u32;
     for arrival in arrivals {
         let telling = worth(*arrival, matter);
-        if found.is_none() || telling > most {
+        if telling >= most {
             found = Some(arrival.from);
             most = telling;
         }

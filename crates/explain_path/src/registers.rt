@@ -1,8 +1,8 @@
-// Sets of registers: those that an instruction reads or writes, and those of which two descriptions say the same. It relies on
-// `bpf_insn` and `check_description`.
+// Sets of registers: those that an instruction reads or writes, and those of which two sketches say the same. It relies on
+// `bpf_insn` and `sketch`.
 
+use crate::sketch::Sketch;
 use bpf_insn::{AluOp, Callee, Insn, Operand, Reg};
-use check_description::Description;
 
 /// A set of R0 to R10.
 #[derive(Clone, Copy, Debug, PartialEq, Eq)]
@@ -59,8 +59,8 @@ impl Registers {
         self.bits.count_ones()
     }
 
-    /// Those of which both descriptions say the same.
-    pub fn alike(one: &Description, other: &Description) -> Self {
+    /// Those of which both say the same.
+    pub fn alike(one: &Sketch, other: &Sketch) -> Self {
         let mut alike = Registers::none();
         for number in 0u8..11 {
             if let Some(reg) = Reg::from_number(number) {

@@ -1,6 +1,6 @@
 // Standard input as a case has it. It relies on `host_live` for what an input is.
 
-ghost use Rattle.std.specs.Prelude.{false};
+ghost use Rattle.std.specs.Prelude.{None, false};
 
 use host_live::{Came, Input};
 
@@ -47,6 +47,8 @@ impl Input for Pieces<'_> {
     ghost has_failed = { λ _. false };
 
     ghost has_ended = { λ pieces. pieces.has_ended };
+
+    ghost came = { λ _. None };
 
     fn wait(&mut self, until: Option<u64>) -> Came {
         if let Some(now) = self.now {

@@ -11,6 +11,7 @@ use Rattle.host_journal.specs.Order.{Told, nothing, bytes, answer, IsCovered, Is
 use Rattle.host_journal.specs.Journals.{AllWaits, IsAnsweredBy, IsAnswered, length_of, stood_behind}
 use Rattle.host_journal.proofs.Numbers.{both_so}
 use Rattle.host_journal.proofs.Quiet.{WentOn}
+use Rattle.host_journal.proofs.Steps.{kept_both}
 
 -- ---- steps that are known
 
@@ -197,21 +198,6 @@ pub told_first : (first : List ℕ) → Told first (first ++ []) ([] ++ first) [
 told_first first = subst (λ (t : List ℕ). Told first t first []) (sym (append-nil first)) (bytes [] [] first [] nothing)
 
 -- ---- what was kept
-
-kept_both : (first second : List Step) → kept_by (first ++ second) ≡ kept_by first ++ kept_by second
-kept_both [] second = refl
-kept_both (Locked ∷ steps) second = kept_both steps second
-kept_both (FolderMade ∷ steps) second = kept_both steps second
-kept_both (ManifestMade number text ∷ steps) second = kept_both steps second
-kept_both (SegmentMade number text ∷ steps) second = kept_both steps second
-kept_both (Opened number ∷ steps) second = kept_both steps second
-kept_both (CutTo count ∷ steps) second = kept_both steps second
-kept_both (Kept more ∷ steps) second = ap (λ (t : List ℕ). more ++ t) (kept_both steps second) ∙ sym (append_assoc more (kept_by steps) (kept_by second))
-kept_both (Synced ∷ steps) second = kept_both steps second
-kept_both (Out more ∷ steps) second = kept_both steps second
-kept_both (Refused ∷ steps) second = kept_both steps second
-kept_both (Failed file fault ∷ steps) second = kept_both steps second
-kept_both (NotOut ∷ steps) second = kept_both steps second
 
 loss_keeps : (steps : List Step) (step : Step) → IsLoss step → kept_by (steps ++ step ∷ []) ≡ kept_by steps
 loss_keeps steps (Failed file fault) loss = kept_both steps (Failed file fault ∷ []) ∙ append-nil (kept_by steps)

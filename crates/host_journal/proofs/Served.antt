@@ -118,7 +118,7 @@ the_none = []
 no_turns : (start : NumberedState) (manner : Manner) (Placed : List Record → ℕ → Type 0) (came : Option CameState) (stepped : Bool) → manner.is_stepped ≡ stepped → IsGoneOnInPart manner start Placed (known_of came) came [] []
 no_turns start manner Placed came false is = in_first is (All-nil (λ (told : Record). (r : ℕ) × IsAdvanceOf r told)) refl
 no_turns start manner Placed came true is =
-    let stops : Stops manner start Placed (known_of came) came [] [] = record { told = []; number = 0; turned = []; turns = no_turn; more = []; at = at_reading None refl (nothing_more came); all = refl } in
+    let stops : Stops manner start Placed (known_of came) came [] [] = record { told = []; number = 0; turned = []; turns = no_turn; more = []; at = at_reading None (λ still. refl) refl (nothing_more came); all = refl } in
     in_turns_on [] [] start refl (subst (λ (b : Bool). MatchBool b (the_none ≡ []) (AreDriven start [])) (sym is) refl) (λ before behind. subst (λ (rs : List Record). IsBehind rs start) (sym (append-nil before)) behind) stops
 
 -- nothing was appended either

@@ -3,7 +3,7 @@ use Rattle.std.specs.Prelude.{◌≡◌, ◌⊎◌, ◌<◌, ◌≤◌, ◌+◌,
 use Rattle.base.specs.declared.or_memory.OrMemory.{OrMemory}
 use Rattle.base.specs.declared.or_memory.OrMemory.TheVariants.{OutOfMemory, Fault}
 use Rattle.manifest.specs.Meaning.{HasFault}
-use Rattle.manifest.specs.declared.ManifestFault.{ManifestFault}
+use Rattle.manifest.specs.declared.fault.ManifestFault.{ManifestFault}
 use Rattle.trace.specs.declared.fault.TraceFault.TheVariants.{Line}
 use Rattle.world.specs.World.{Setup}
 use Rattle.host_recovery.specs.declared.fault.RecoveryFault.{RecoveryFault}

@@ -8,7 +8,7 @@ use Rattle.host_live.specs.Growth.{GrowsAs, GrowsBy, PrintedState}
 use Rattle.host_live.specs.Inputs.{CameState, all_of}
 use Rattle.host_live.specs.LinesCome.{Stands, TellsLine, Waits}
 use Rattle.host_live.specs.Served.{AnswersTurn, AreDrivenFirst, Carries, CarriesCut, DrivesFirst, EndsOrPart, GoesOnOr, GrowsWith, IsHandedOn, IsNow, IsPrintedBehind, IsGoneOn, IsGoneOnInPart, IsLineNow, IsTurned, IsTurnedInPart, NextIs, TurnsOr, in_drives, in_first, in_turns, in_turns_on, at_last}
-use Rattle.host_live.specs.Turns.{ActsOn, AreDriven, AreOfRuns, DrivesAll, Ends, Follows, IsReading, Leads, LeadsInPart, OneTurn, ReadThen, Stops, StopsAt, Turn, TurnInPart, Turns, answer_to, at_reading, fault_of, in_line, is_answered, whole_line, cut_line, timer_due, no_turn, one_more, at_end, at_quit, asked_for, carried, led_to_none, led_to_part, no_request, no_text, part_all, passed_over}
+use Rattle.host_live.specs.Turns.{ActsOn, AreDriven, AreOfRuns, DrivesAll, Ends, Follows, IsOfClock, IsReading, Leads, LeadsInPart, OneTurn, ReadThen, Stops, StopsAt, Turn, TurnInPart, Turns, answer_to, at_reading, fault_of, in_line, is_answered, whole_line, cut_line, timer_due, no_turn, one_more, at_end, at_quit, asked_for, carried, led_to_none, led_to_part, no_request, no_text, part_all, passed_over}
 use Rattle.host_live.specs.declared.host.Served.{Served}
 use Rattle.host_live.specs.declared.host.Served.TheVariants as served
 use Rattle.host_live.specs.declared.lines.Lines.{Lines}
@@ -50,11 +50,11 @@ led_in_part manner line acts became now (no_request state text other none nothin
 led_in_part manner line acts became now (asked_for request same state text other is does keeps) = led_to_part request text is (part_all request acts same state does) (λ still of. (keeps still of).0)
 
 pub none_in_part : (manner : Manner) (line : List ℕ) → TurnInPart manner line []
-none_in_part manner line = record { reading = None; part = read_only None [] (led_to_none refl) refl }
+none_in_part manner line = record { reading = None; of_clock = λ still. refl; part = read_only None [] (led_to_none refl) refl }
 
 turn_in_part : (manner : Manner) (line : List ℕ) (records : List Record) (became : Served) (now : NumberedState) → Turn manner line records became now → TurnInPart manner line records
 turn_in_part manner line records became now (passed_over state text skipped none) = subst (TurnInPart manner line) (sym none) (none_in_part manner line)
-turn_in_part manner line records became now (carried reading same state it) = record { reading = reading; part = read_these reading (λ acts leads. led_in_part manner line acts same state leads) records it }
+turn_in_part manner line records became now (carried reading same state of_clock it) = record { reading = reading; of_clock = of_clock; part = read_these reading (λ acts leads. led_in_part manner line acts same state leads) records it }
 
 -- where the lines stand behind these
 stands_in : (base told : List ℕ) (came : Option CameState) (lines : Lines) → Stands base came lines told → (line rest : List ℕ) → told ≡ line ++ rest → IfSome came (λ known. (more : List ℕ) × (all_of known ≡ base ++ (line ++ more)))
@@ -133,17 +133,17 @@ module _ (E F : Type 0) (manner : Manner) (base told : List ℕ) (came : Option 
     (
       it.0.line,
       subst (λ (b : Served). OneTurn manner told old.number it.0.line new.number records (answer_to manner new.number b answers.0) now) (sym turned.0)
-          (subst (λ (n : ℕ). OneTurn manner told old.number it.0.line n records (answer_to manner n (served.Refused Form) answers.0) now) (sym it.1) (cut_line it.0.line turned.1 records answers.0 now it.0.begins it.0.one_line it.0.some turned.2)),
+          (subst (λ (n : ℕ). OneTurn manner told old.number it.0.line n records (answer_to manner n (served.Refused Form) answers.0) now) (sym it.1) (cut_line it.0.line turned.1 records answers.0 now it.0.begins it.0.one_line it.0.some turned.2 turned.3)),
       answered_now printed at new.number answers.0 (fault_of became) (is_answered manner became) answers.2,
       it.0.stands,
     ),
   )
   next_is next.Cut it (turn.Line became) false turned answers = absurd (let bad : served.Refused Form ≡ served.Quit = sym turned.0 ∙ (answers.4 refl).1 in cc)
   next_is (next.Due reading) it turn.Timer true turned answers =
-      ([], answers.0 ∙ none_given given, ([], subst (λ (n : ℕ). OneTurn manner told old.number [] n records [] now) (sym it.1) (timer_due (Some reading) records now turned), tt, subst (Stands base came new) (sym (append-nil told)) it.0))
+      ([], answers.0 ∙ none_given given, ([], subst (λ (n : ℕ). OneTurn manner told old.number [] n records [] now) (sym it.1) (timer_due (Some reading) records now turned.0 turned.1), tt, subst (Stands base came new) (sym (append-nil told)) it.0))
   next_is (next.Due reading) it turn.Timer false turned answers = absurd (let bad : false ≡ true = answers.1 in cc)
   next_is next.Nothing it turn.Timer true turned answers =
-      ([], answers.0 ∙ none_given given, ([], subst (λ (n : ℕ). OneTurn manner told old.number [] n records [] now) (sym it.1) (timer_due None records now turned), tt, subst (Stands base came new) (sym (append-nil told)) it.0))
+      ([], answers.0 ∙ none_given given, ([], subst (λ (n : ℕ). OneTurn manner told old.number [] n records [] now) (sym it.1) (timer_due None records now (λ still. refl) turned), tt, subst (Stands base came new) (sym (append-nil told)) it.0))
   next_is next.Nothing it turn.Timer false turned answers = absurd (let bad : false ≡ true = answers.1 in cc)
   next_is next.End it turn.End true turned answers = absurd (let bad : true ≡ false = answers.1 in cc)
   next_is next.End it turn.End false turned answers = ([], answers.0 ∙ none_given given, inl (turned, refl, it.2))
@@ -151,8 +151,8 @@ module _ (E F : Type 0) (manner : Manner) (base told : List ℕ) (came : Option 
   next_is next.Line it turn.End is_more turned answers = absurd turned
   next_is next.Cut it turn.Timer is_more turned answers = absurd turned
   next_is next.Cut it turn.End is_more turned answers = absurd turned
-  next_is (next.Due reading) it (turn.Line became) is_more turned answers = absurd turned
-  next_is (next.Due reading) it turn.End is_more turned answers = absurd turned
+  next_is (next.Due reading) it (turn.Line became) is_more turned answers = absurd turned.1
+  next_is (next.Due reading) it turn.End is_more turned answers = absurd turned.1
   next_is next.Nothing it (turn.Line became) is_more turned answers = absurd turned
   next_is next.Nothing it turn.End is_more turned answers = absurd turned
   next_is next.End it (turn.Line became) is_more turned answers = absurd turned
@@ -174,11 +174,11 @@ module _ (E F : Type 0) (manner : Manner) (base told : List ℕ) (came : Option 
 
   stops_in_it : (what : Next) (it : Waits base old told what came new) (fault : E) → Carries manner what (line_now base told came old new what it).0 (err_of CarriedOut fault) now records → StopsAt manner base came told records
   stops_in_it next.Line it fault turned = in_that_line it.0 turned
-  stops_in_it next.Cut it fault turned = at_reading turned.0 turned.1 (still_told next.Cut it)
+  stops_in_it next.Cut it fault turned = at_reading turned.0 turned.1 turned.2 (still_told next.Cut it)
   stops_in_it next.Nothing it fault turned = absurd turned
-  stops_in_it (next.Due reading) it fault turned = at_reading (Some reading) turned (still_told (next.Due reading) it)
+  stops_in_it (next.Due reading) it fault turned = at_reading (Some reading) turned.0 turned.1 (still_told (next.Due reading) it)
   stops_in_it next.End it fault turned = absurd turned
-  stops_in_it next.Failed it fault turned = at_reading None turned (still_told next.Failed it)
+  stops_in_it next.Failed it fault turned = at_reading None (λ still. refl) turned (still_told next.Failed it)
 
   -- the engine stopped in the turn
   pub stops_in : (what : Next) (it : Waits base old told what came new) (fault : E) (last : F) → Carries manner what (line_now base told came old new what it).0 (err_of CarriedOut fault) now records
@@ -187,16 +187,16 @@ module _ (E F : Type 0) (manner : Manner) (base told : List ℕ) (came : Option 
 
   carried_in_it : (what : Next) (it : Waits base old told what came new) (out : CarriedOut) → Carries manner what (line_now base told came old new what it).0 (ok_of E out) now records → StopsAt manner base came told records
   carried_in_it next.Line it (turn.Line became) turned = in_that_line it.0 (turn_in_part manner it.0.line records became now turned)
-  carried_in_it next.Cut it (turn.Line became) turned = at_reading turned.1 turned.2 (still_told next.Cut it)
-  carried_in_it (next.Due reading) it turn.Timer turned = at_reading (Some reading) turned (still_told (next.Due reading) it)
-  carried_in_it next.Nothing it turn.Timer turned = at_reading None turned (still_told next.Nothing it)
-  carried_in_it next.End it turn.End turned = at_reading None turned (still_told next.End it)
+  carried_in_it next.Cut it (turn.Line became) turned = at_reading turned.1 turned.2 turned.3 (still_told next.Cut it)
+  carried_in_it (next.Due reading) it turn.Timer turned = at_reading (Some reading) turned.0 turned.1 (still_told (next.Due reading) it)
+  carried_in_it next.Nothing it turn.Timer turned = at_reading None (λ still. refl) turned (still_told next.Nothing it)
+  carried_in_it next.End it turn.End turned = at_reading None (λ still. refl) turned (still_told next.End it)
   carried_in_it next.Line it turn.Timer turned = absurd turned
   carried_in_it next.Line it turn.End turned = absurd turned
   carried_in_it next.Cut it turn.Timer turned = absurd turned
   carried_in_it next.Cut it turn.End turned = absurd turned
-  carried_in_it (next.Due reading) it (turn.Line became) turned = absurd turned
-  carried_in_it (next.Due reading) it turn.End turned = absurd turned
+  carried_in_it (next.Due reading) it (turn.Line became) turned = absurd turned.1
+  carried_in_it (next.Due reading) it turn.End turned = absurd turned.1
   carried_in_it next.Nothing it (turn.Line became) turned = absurd turned
   carried_in_it next.Nothing it turn.End turned = absurd turned
   carried_in_it next.End it (turn.Line became) turned = absurd turned
@@ -218,7 +218,7 @@ module _ (E F : Type 0) (manner : Manner) (base told : List ℕ) (came : Option 
 pub stops_before : {F : Type 0} (manner : Manner) (base told : List ℕ) (before came : Option CameState) (old new : Lines) (now : NumberedState) (printed : Printed) (at : Option (List ℕ)) (last : F) → came ≡ before → Stands base before old told
     → NextIs manner base told old.number came new (err_of Bool last) now printed at [] []
 stops_before manner base told before came old new now printed at last same stands =
-    (refl, at_reading None refl (subst (λ (c : Option CameState). IfSome c (λ known. (more : List ℕ) × (all_of known ≡ base ++ (told ++ more)))) (sym same) (told_all base told before old stands)))
+    (refl, at_reading None (λ still. refl) refl (subst (λ (c : Option CameState). IfSome c (λ known. (more : List ℕ) × (all_of known ≡ base ++ (told ++ more)))) (sym same) (told_all base told before old stands)))
 
 -- ---- turn by turn
 
@@ -244,7 +244,7 @@ stops_so_far manner base before lines old new at to failed fails given answered 
     turned = so_far.more;
     turns = so_far.these.1;
     more = [];
-    at = at_reading None refl (told_all base so_far.these.0 before lines so_far.these.2);
+    at = at_reading None (λ still. refl) refl (told_all base so_far.these.0 before lines so_far.these.2);
     all = sym (append-nil so_far.more);
   };
   by = so_far.by;
@@ -524,8 +524,8 @@ if_over F manner base told number came later now printed at true is records answ
 read_of : {P : List Record → Type 0} (now : Option ℕ) (records : List Record) (it : ReadThen now P records) → it.acts ≡ [] → IsReading now records
 read_of now records it none = subst (IsReading now) (sym (it.is ∙ (ap (λ (t : List Record). it.reading ++ t) none ∙ append-nil it.reading))) it.read
 
-pub cut_done : (E : Type 0) (manner : Manner) (became : Served) (state : NumberedState) (now : Option ℕ) (records : List Record) → ReadThen now (ActsOn manner None (ok_of E became) state) records → CarriesCut (ok_of E (turn.Line became)) records
-cut_done E manner became state now records it = (it.these.1, now, read_of now records it it.these.0)
+pub cut_done : (E : Type 0) (manner : Manner) (became : Served) (state : NumberedState) (now : Option ℕ) → IsOfClock manner now → (records : List Record) → ReadThen now (ActsOn manner None (ok_of E became) state) records → CarriesCut manner (ok_of E (turn.Line became)) records
+cut_done E manner became state now of_clock records it = (it.these.1, now, of_clock, read_of now records it it.these.0)
 
-pub cut_failed : (E F : Type 0) (manner : Manner) (fault : E) (last : F) (state : NumberedState) (now : Option ℕ) (records : List Record) → ReadThen now (ActsOn manner None (err_of Served fault) state) records → CarriesCut (err_of CarriedOut last) records
-cut_failed E F manner fault last state now records it = (now, read_of now records it it.these)
+pub cut_failed : (E F : Type 0) (manner : Manner) (fault : E) (last : F) (state : NumberedState) (now : Option ℕ) → IsOfClock manner now → (records : List Record) → ReadThen now (ActsOn manner None (err_of Served fault) state) records → CarriesCut manner (err_of CarriedOut last) records
+cut_failed E F manner fault last state now of_clock records it = (now, of_clock, read_of now records it it.these)

@@ -278,7 +278,7 @@ unopened_turns setup manner came base given = record {
     turned = [];
     turns = no_turn;
     more = [];
-    at = at_reading None refl (begun_is came);
+    at = at_reading None (λ still. refl) refl (begun_is came);
     all = refl;
   });
 }

@@ -12,7 +12,7 @@ use Rattle.world_calls.specs.declared.record.Record.TheVariants.{Called}
 use Rattle.engine_core.specs.ByNumber.{NumberedState, IsAdvanceOf}
 use Rattle.host_live.specs.LinesCome.{IsText}
 use Rattle.host_live.specs.Requests.{request_text}
-use Rattle.host_live.specs.Turns.{Acts, ActsHere, ActsOn, AreAdvances, AreOfRuns, Does, DoesInPart, DrivesStarted, DrivesTo, IsDriven, IsReading, Leads, MakesOne, ReadThen, ReadsDue, Tells, Turned, is_of_steps, is_telling, record_of_answer, run_to_drive, stepped_of, asked_to_quit, elsewhere, no_step, one_drive, only_told, part_drive, one_step, one_call, call_driven, part_none, part_call, no_text, no_request, asked_for, led_to_none, led_to_part, carried}
+use Rattle.host_live.specs.Turns.{Acts, ActsHere, ActsOn, AreAdvances, AreOfRuns, Does, DoesInPart, DrivesStarted, DrivesTo, IsDriven, IsOfClock, IsReading, Leads, MakesOne, ReadThen, ReadsDue, Tells, Turned, is_of_steps, is_telling, record_of_answer, run_to_drive, stepped_of, asked_to_quit, elsewhere, no_step, one_drive, only_told, part_drive, one_step, one_call, call_driven, part_none, part_call, no_text, no_request, asked_for, led_to_none, led_to_part, carried}
 use Rattle.host_live.specs.declared.host.Served.{Served}
 use Rattle.host_live.specs.declared.host.Served.TheVariants as served
 use Rattle.host_live.specs.declared.manner.Manner.{Manner}
@@ -173,22 +173,22 @@ nothing_on manner None fault now = refl
 
 -- ---- the turn of a line
 
-module _ {E : Type 0} (manner : Manner) (line : List ℕ) (state : NumberedState) (now : Option ℕ) (more : List Record) where
+module _ {E : Type 0} (manner : Manner) (line : List ℕ) (state : NumberedState) (now : Option ℕ) (of_clock : IsOfClock manner now) (more : List Record) where
   -- it can be none
   pub turned_no_text : (result : Result Served E) → (IsText line → ⊥) → ReadThen now (ActsOn manner None result state) more → Turned manner line result state more
   turned_no_text (Ok became) none it =
-      carried now became state (read_these now (λ acts these. subst (λ (b : Served). Leads manner line acts b state) (sym these.1) (no_text state none these.0)) more it)
-  turned_no_text (Err fault) none it = record { reading = now; part = read_these now (λ acts these. led_to_none these) more it }
+      carried now became state of_clock (read_these now (λ acts these. subst (λ (b : Served). Leads manner line acts b state) (sym these.1) (no_text state none these.0)) more it)
+  turned_no_text (Err fault) none it = record { reading = now; of_clock = of_clock; part = read_these now (λ acts these. led_to_none these) more it }
 
   pub turned_text : (result : Result Served E) (asked : Option Request) → IsText line → is_skipped line ≡ false → Reads (request_text manner.is_told) line asked → ReadThen now (ActsOn manner asked result state) more → Turned manner line result state more
-  turned_text (Ok became) (Some request) text other reads it = carried now became state (read_these now (λ acts these. asked_for request became state text other reads.said these.0 these.1) more it)
-  turned_text (Err fault) (Some request) text other reads it = record { reading = now; part = read_these now (λ acts these. led_to_part request text reads.said these.0 these.1) more it }
+  turned_text (Ok became) (Some request) text other reads it = carried now became state of_clock (read_these now (λ acts these. asked_for request became state text other reads.said these.0 these.1) more it)
+  turned_text (Err fault) (Some request) text other reads it = record { reading = now; of_clock = of_clock; part = read_these now (λ acts these. led_to_part request text reads.said these.0 these.1) more it }
   turned_text (Ok became) None text other reads it =
       let none : (request : Request) → request_text manner.is_told request ≢ Some line = λ request is. let bad = reads.back request is in absurd (cc) in
-      carried now became state (read_these now (λ acts these. subst (λ (b : Served). Leads manner line acts b state) (sym these.1) (no_request state text other none these.0)) more it)
-  turned_text (Err fault) None text other reads it = record { reading = now; part = read_these now (λ acts these. led_to_none these) more it }
+      carried now became state of_clock (read_these now (λ acts these. subst (λ (b : Served). Leads manner line acts b state) (sym these.1) (no_request state text other none these.0)) more it)
+  turned_text (Err fault) None text other reads it = record { reading = now; of_clock = of_clock; part = read_these now (λ acts these. led_to_none these) more it }
 
   -- memory was refused for it
   pub turned_refused : (result : Result Served E) → IsErr result → IsReading now more → Turned manner line result state more
   turned_refused (Ok became) bad read = absurd (let no : false ≡ true = bad in cc)
-  turned_refused (Err fault) is read = record { reading = now; part = read_only now more (led_to_none refl) read }
+  turned_refused (Err fault) is read = record { reading = now; of_clock = of_clock; part = read_only now more (led_to_none refl) read }

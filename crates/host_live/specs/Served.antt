@@ -10,7 +10,7 @@ use Rattle.host_live.specs.Growth.{GrowsBy, PrintedState}
 use Rattle.host_live.specs.Inputs.{CameState, all_of, known_of}
 use Rattle.host_live.specs.LinesCome.{IsAll, Stands}
 use Rattle.host_live.specs.Telling.{IsBegun, IsContinued, IsContinuedInPart, IsOutBehind, IsWrittenOut}
-use Rattle.host_live.specs.Turns.{AreDriven, AreOfRuns, Ends, Follows, IsReading, OneTurn, Quits, Stops, StopsAt, Turn, TurnInPart, answer_to, is_answered}
+use Rattle.host_live.specs.Turns.{AreDriven, AreOfRuns, Ends, Follows, IsOfClock, IsReading, OneTurn, Quits, Stops, StopsAt, Turn, TurnInPart, answer_to, is_answered}
 use Rattle.host_live.specs.declared.host.Served.TheVariants as served
 use Rattle.host_live.specs.declared.lines.Lines.{Lines}
 use Rattle.host_live.specs.declared.lines.Next.{Next}
@@ -171,11 +171,11 @@ CarriesLine manner line (Ok turn.End) now records = ⊥
 CarriesLine manner line (Err fault) now records = TurnInPart manner line records
 
 -- one that is cut off led to a reading at most
-abbrev pub CarriesCut : {E : Type 0} → Result CarriedOut E → List Record → Type 0
-CarriesCut (Ok (turn.Line became)) records = (became ≡ served.Refused Form) × (reading : Option ℕ) × IsReading reading records
-CarriesCut (Ok turn.Timer) records = ⊥
-CarriesCut (Ok turn.End) records = ⊥
-CarriesCut (Err fault) records = (reading : Option ℕ) × IsReading reading records
+abbrev pub CarriesCut : {E : Type 0} → Manner → Result CarriedOut E → List Record → Type 0
+CarriesCut manner (Ok (turn.Line became)) records = (became ≡ served.Refused Form) × (reading : Option ℕ) × IsOfClock manner reading × IsReading reading records
+CarriesCut manner (Ok turn.Timer) records = ⊥
+CarriesCut manner (Ok turn.End) records = ⊥
+CarriesCut manner (Err fault) records = (reading : Option ℕ) × IsOfClock manner reading × IsReading reading records
 
 -- so did a timer
 abbrev pub CarriesReading : {E : Type 0} → ℕ → Result CarriedOut E → List Record → Type 0
@@ -203,11 +203,20 @@ abbrev pub CarriesFailure : {E : Type 0} → Result CarriedOut E → List Record
 CarriesFailure (Ok out) records = ⊥
 CarriesFailure (Err fault) records = records ≡ []
 
+-- what may come: a timer is due only where the clock is read
+abbrev pub MayCome : Manner → Next → Type 0
+MayCome manner next.Line = ⊤
+MayCome manner next.Cut = ⊤
+MayCome manner next.Nothing = ⊤
+MayCome manner (next.Due reading) = IsOfClock manner (Some reading)
+MayCome manner next.End = ⊤
+MayCome manner next.Failed = ⊤
+
 -- what came was carried out
 abbrev pub Carries : {E : Type 0} → Manner → Next → List ℕ → Result CarriedOut E → NumberedState → List Record → Type 0
 Carries manner next.Line line result now records = CarriesLine manner line result now records
-Carries manner next.Cut line result now records = CarriesCut result records
-Carries manner (next.Due reading) line result now records = CarriesReading reading result records
+Carries manner next.Cut line result now records = CarriesCut manner result records
+Carries manner (next.Due reading) line result now records = IsOfClock manner (Some reading) × CarriesReading reading result records
 Carries manner next.Nothing line result now records = CarriesNothing result records
 Carries manner next.End line result now records = CarriesEnd result records
 Carries manner next.Failed line result now records = CarriesFailure result records

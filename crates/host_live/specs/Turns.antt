@@ -36,6 +36,10 @@ abbrev pub IsReading : Option ℕ → List Record → Type 0
 IsReading None records = records ≡ []
 IsReading (Some reading) records = (records ≡ []) ⊎ ((answer : CallAnswer) × (records ≡ Called answer (Clock reading) ∷ []))
 
+-- the input's clock is read only where the engine's goes by it
+abbrev pub IsOfClock : Manner → Option ℕ → Type 0
+IsOfClock manner reading = manner.is_clocked ≡ false → reading ≡ None
+
 -- a reading, and then these
 pub record ReadThen (now : Option ℕ) (These : List Record → Type 0) (records : List Record) : Type 0 where
   pub reading : List Record
@@ -199,11 +203,12 @@ LeadsTo manner line (Err fault) now records = LeadsInPart manner line records
 -- A line led to these records, with a reading of the clock in front, if there is one. A line that is skipped led to none.
 pub data Turn (manner : Manner) (line : List ℕ) (records : List Record) : Served → NumberedState → Type 0 where
   passed_over : (now : NumberedState) → IsText line → is_skipped line ≡ true → records ≡ [] → Turn manner line records served.Skipped now
-  carried : (reading : Option ℕ) (became : Served) (now : NumberedState) → ReadThen reading (λ acts. Leads manner line acts became now) records → Turn manner line records became now
+  carried : (reading : Option ℕ) (became : Served) (now : NumberedState) → IsOfClock manner reading → ReadThen reading (λ acts. Leads manner line acts became now) records → Turn manner line records became now
 
 -- or to a part of these
 pub record TurnInPart (manner : Manner) (line : List ℕ) (records : List Record) : Type 0 where
   pub reading : Option ℕ
+  pub of_clock : IsOfClock manner reading
   pub part : ReadThen reading (LeadsInPart manner line) records
 
 abbrev pub Turned : {E : Type 0} → Manner → List ℕ → Result Served E → NumberedState → List Record → Type 0
@@ -232,9 +237,9 @@ answer_to manner number became behind = if is_answered manner became then record
 pub data OneTurn (manner : Manner) (told : List ℕ) (number : ℕ) : List ℕ → ℕ → List Record → List Answer → NumberedState → Type 0 where
   whole_line : (line : List ℕ) (records : List Record) (became : Served) (behind : ℕ) (now : NumberedState) → EndsALine told → IsOneLine line → Turn manner line records became now → (manner.is_told ≡ true → became ≢ served.Quit)
       → OneTurn manner told number (line ++ 10 ∷ []) (number + 1) records (answer_to manner (number + 1) became behind) now
-  cut_line : (line : List ℕ) (reading : Option ℕ) (records : List Record) (behind : ℕ) (now : NumberedState) → EndsALine told → IsOneLine line → line ≢ [] → IsReading reading records
+  cut_line : (line : List ℕ) (reading : Option ℕ) (records : List Record) (behind : ℕ) (now : NumberedState) → EndsALine told → IsOneLine line → line ≢ [] → IsOfClock manner reading → IsReading reading records
       → OneTurn manner told number line (number + 1) records (answer_to manner (number + 1) (served.Refused Form) behind) now
-  timer_due : (reading : Option ℕ) (records : List Record) (now : NumberedState) → IsReading reading records → OneTurn manner told number [] number records [] now
+  timer_due : (reading : Option ℕ) (records : List Record) (now : NumberedState) → IsOfClock manner reading → IsReading reading records → OneTurn manner told number [] number records [] now
 
 -- The lines that came so far, and the timers that were due between them, turn by turn. Each answer stands where it may behind the records so
 -- far.
@@ -263,7 +268,7 @@ pub data Ends (manner : Manner) (start : NumberedState) (Placed : List Record �
 
 -- behind these lines it stopped at a reading at most, or in the turn of the next line
 pub data StopsAt (manner : Manner) (base : List ℕ) (came : Option CameState) (told : List ℕ) (records : List Record) : Type 0 where
-  at_reading : (reading : Option ℕ) → IsReading reading records → IfSome came (λ known. (rest : List ℕ) × (all_of known ≡ base ++ (told ++ rest))) → StopsAt manner base came told records
+  at_reading : (reading : Option ℕ) → IsOfClock manner reading → IsReading reading records → IfSome came (λ known. (rest : List ℕ) × (all_of known ≡ base ++ (told ++ rest))) → StopsAt manner base came told records
   in_line : (line : List ℕ) → EndsALine told → IsOneLine line → TurnInPart manner line records → IfSome came (λ known. (rest : List ℕ) × (all_of known ≡ base ++ (told ++ (line ++ 10 ∷ rest)))) → StopsAt manner base came told records
 
 -- It stopped behind some turns.

@@ -4,7 +4,7 @@ ghost use Rattle.std.specs.Prelude.{◌≡◌, ◌≢◌, ℕ, List, Option, Som
 ghost use Rattle.host_live.specs.Growth.{GrowsAs, GrowsBy};
 ghost use Rattle.engine_core.specs.ByNumber.{is_of_parking};
 ghost use Rattle.host_live.specs.LinesCome.{IsText};
-ghost use Rattle.host_live.specs.Turns.{Acts, ActsHere, ActsOn, IsNotHeld, IsReading, MakesOne, ReadThen, ReadsDue, Drives, DrivesAll, DrivesStarted, DrivesTo, Tells, Turned, fault_of, is_of_steps, record_of_answer, run_to_drive, stepped_of};
+ghost use Rattle.host_live.specs.Turns.{Acts, ActsHere, ActsOn, IsNotHeld, IsOfClock, IsReading, MakesOne, ReadThen, ReadsDue, Drives, DrivesAll, DrivesStarted, DrivesTo, Tells, Turned, fault_of, is_of_steps, record_of_answer, run_to_drive, stepped_of};
 ghost use Rattle.host_live.specs.declared.manner.Manner.{Manner as TheManner};
 ghost use Rattle.host_live.specs.declared.host.Served.TheVariants.{Quit, Skipped};
 ghost use Rattle.host_live.specs.declared.request.Request.TheVariants as asks;
@@ -156,6 +156,7 @@ impl<'a> Host<'a> {
         reports: &mut N,
         out: &mut S,
     ) -> Result<Served, HostFault>
+        requires clocked { IsOfClock manner now }
         ensures grown { (came : List ℕ) → MatchOption line.entry (IsText came → ⊥) (λ text. (text.now ≡ came) × IsText came) → GrowsAs (Turned manner came result self.new.engine.engine) self.old.engine (S.bytes out.old) (S.failures out.old) self.new.engine (S.bytes out.new) (S.failures out.new) }
         ensures answers { S.answers out.new ≡ S.answers out.old }
     {
@@ -175,6 +176,7 @@ impl<'a> Host<'a> {
         reports: &mut N,
         out: &mut S,
     ) -> Result<Served, HostFault>
+        requires clocked { IsOfClock manner now }
         ensures grown { IsText line.now → GrowsAs (Turned manner line.now result self.new.engine.engine) self.old.engine (S.bytes out.old) (S.failures out.old) self.new.engine (S.bytes out.new) (S.failures out.new) }
         ensures answers { S.answers out.new ≡ S.answers out.old }
     {

@@ -1,13 +1,18 @@
-// The lines of an input, one by one. It relies on `draft` for the line that comes, and on `input` for bytes.
+// The lines of an input, one by one. It relies on `draft` for the line that comes, on `input` for bytes, and on `manner` for whether the input's
+// clock is read.
 
 ghost use Rattle.std.specs.Prelude.{◌≡◌, ◌≢◌, ◌<◌, ◌^◌, ◌-◌, ◌+◌, ◌≤◌, ◌∷◌, ℕ, List, [], None, Option, false, true, length, take, drop, IfSome, IsTrue, MatchOption};
 ghost use Rattle.host_live.specs.Drafts.{IsDraftOf};
 ghost use Rattle.host_live.specs.Inputs.{CameState, known_of};
 ghost use Rattle.host_live.specs.LinesCome.{IsOver, IsTaken, IsText, IsOneLine, Stands, Takes, Waits};
+ghost use Rattle.host_live.specs.Served.{MayCome};
+ghost use Rattle.host_live.specs.Turns.{IsOfClock};
 ghost use Rattle.host_live.specs.declared.lines.Next.TheVariants.{End, Failed};
+ghost use Rattle.host_live.specs.declared.manner.Manner.{Manner as TheManner};
 
 use crate::draft::Draft;
 use crate::input::{Came, Input};
+use crate::manner::Manner;
 
 /// What comes next.
 #[derive(Clone, Copy, Debug, PartialEq, Eq)]
@@ -95,24 +100,34 @@ impl Lines {
         self.number
     }
 
-    /// What the engine's clock is to read now, in milliseconds; `None` if the input has no clock.
-    pub(crate) fn now<I: Input>(&self, input: &I) -> Option<u64> {
+    /// What the engine's clock is to read now, in milliseconds; `None` if it does not go by the input's, or the input has none.
+    pub(crate) fn now<I: Input>(&self, manner: Manner, input: &I) -> Option<u64>
+        ensures { IsOfClock manner result }
+    {
+        if !manner.is_clocked {
+            return None;
+        }
         match input.now() {
             Some(now) => Some(now.saturating_add(self.begun)),
             None => None,
         }
     }
 
-    // What the input's clock reads when the engine's reads that.
-    fn of_input(&self, until: Option<u64>) -> Option<u64> {
+    // What the input's clock reads when the engine's reads that; `None` if the engine's does not go by it.
+    fn of_input(&self, manner: Manner, until: Option<u64>) -> Option<u64> {
         match until {
-            Some(until) => Some(until.saturating_sub(self.begun)),
-            None => None,
+            Some(until) if manner.is_clocked => Some(until.saturating_sub(self.begun)),
+            _ => None,
         }
     }
 
     /// Waits for what comes next, where no line is there yet, and not longer than until the engine's clock is to read `until`, if there is one.
-    pub(crate) fn wait_next<I: Input>(&mut self, input: &mut I, until: Option<u64>) -> Next
+    pub(crate) fn wait_next<I: Input>(
+        &mut self,
+        manner: Manner,
+        input: &mut I,
+        until: Option<u64>,
+    ) -> Next
         requires room { self.old.number < 2 ^ 64 - 1 }
         requires untold { self.old.is_ended ≡ false → self.old.is_told ≡ false }
         requires ended { IsTrue self.old.is_ended → IsTrue (I.has_ended input.old) }
@@ -121,11 +136,12 @@ impl Lines {
         ensures ended { IsTrue self.new.is_ended → IsTrue (I.has_ended input.new) }
         ensures end { result ≡ End → IsTrue (I.has_ended input.new) }
         ensures waits { (base told : List ℕ) → Stands base (I.came input.old) self.old told → IsTaken (I.came input.old) self.old → Waits base self.old told result (I.came input.new) self.new }
+        ensures due { MayCome manner result }
     {
         if self.is_ended {
             return Next::End;
         }
-        match input.wait(self.of_input(until)) {
+        match input.wait(self.of_input(manner, until)) {
             Came::Bytes => {
                 self.taken = 0;
                 if self.take(input) {
@@ -134,7 +150,13 @@ impl Lines {
                     Next::Nothing
                 }
             }
-            Came::Due(reading) => Next::Due(reading.saturating_add(self.begun)),
+            Came::Due(reading) => {
+                if manner.is_clocked {
+                    Next::Due(reading.saturating_add(self.begun))
+                } else {
+                    Next::Nothing
+                }
+            }
             Came::Failed => Next::Failed,
             Came::End => self.end(),
         }
@@ -147,6 +169,7 @@ impl Lines {
         requires going { self.old.is_ended ≡ false }
         ensures ended { self.new.is_ended ≡ true }
         ensures read { result ≢ Failed }
+        ensures due { (manner : TheManner) → MayCome manner result }
         ensures waits { (base told : List ℕ) (came : Option CameState) → Stands base came self.old told → IsTaken came self.old → IsOver came → Waits base self.old told result came self.new }
     {
         self.is_ended = true;

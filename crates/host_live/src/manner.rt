@@ -7,4 +7,6 @@ pub struct Manner {
     pub is_stepped: bool,
     /// Each line is answered: the outlet is told what became of it. Only then `quit` and `help` are requests.
     pub is_told: bool,
+    /// The engine's clock goes by the input's. Otherwise that is not read, and only lines move the engine's.
+    pub is_clocked: bool,
 }

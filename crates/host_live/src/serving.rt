@@ -10,7 +10,7 @@ ghost use Rattle.host_live.specs.Drafts.{IsDraftOf};
 ghost use Rattle.host_live.specs.Growth.{GrowsAs, GrowsBy, StandsBehind, opened_printed, resumed_printed};
 ghost use Rattle.host_live.specs.Inputs.{known_of};
 ghost use Rattle.host_live.specs.LinesCome.{IsTaken, Stands, Waits};
-ghost use Rattle.host_live.specs.Served.{AnswersTurn, Carries, CarriesCut, CarriesLine, CarriesReading, ContinuesTurns, DrivesFirst, EndsOr, EndsOrPart, GoesOnOr, GrowsWith, IsLineNow, IsPrintedBehind, NextIs, ServesBy, ServesTurns, TurnsOr};
+ghost use Rattle.host_live.specs.Served.{AnswersTurn, Carries, CarriesCut, CarriesLine, CarriesReading, ContinuesTurns, DrivesFirst, EndsOr, EndsOrPart, GoesOnOr, GrowsWith, IsLineNow, IsPrintedBehind, MayCome, NextIs, ServesBy, ServesTurns, TurnsOr};
 ghost use Rattle.host_live.specs.Telling.{Continues, Serves};
 ghost use Rattle.host_live.specs.Turns.{DrivesAll};
 ghost use Rattle.host_live.specs.declared.lines.Next.TheVariants.{End, Failed};
@@ -72,9 +72,9 @@ enum Turn {
 
 /// Carries out what the lines of an input ask of an engine of this configuration, each as it comes, until the input ends; then the runs that
 /// are out are driven to their ends, unless they are parked. What goes out is the engine's trace: its first line at once, the lines of what a
-/// line led to before the next one is waited for, and the last line at the end. No record is kept. Lines that are not carried out are reported. Where the input
-/// has a clock, it is read before each line that is carried out, and whenever a timer is due. Where it reads more than an engine takes, that
-/// is recorded once, and time stands still. Where lines are answered, each is once the outlet took what it led to, and `quit` ends the input.
+/// line led to before the next one is waited for, and the last line at the end. No record is kept. Lines that are not carried out are reported. Where the engine's
+/// clock goes by the input's, that is read before each line that is carried out, and whenever a timer is due. Where it reads more than an
+/// engine takes, that is recorded once, and time stands still. Where lines are answered, each is once the outlet took what it led to, and `quit` ends the input.
 pub fn serve<I: Input, S: Outlet, N: Reports>(
     alloc: Global,
     config: &Config,
@@ -313,7 +313,7 @@ fn serve_next<I: Input, S: Outlet, N: Reports>(
     ensures ended { manner.is_told ≡ false → IfOk result (λ is_more. is_more ≡ false → IsTrue (I.has_ended input.new)) }
     ensures unwritten { result ≡ Err Unwritten → host.new.engine.printed.has_failed ≡ true }
 {
-    match take_next(host, input, lines, out) {
+    match take_next(host, manner, input, lines, out) {
         Ok(next) => match carry_out(host, manner, next, input, lines, out, reports) {
             Ok(turn) => answer(host, manner, lines.number(), turn, out),
             Err(fault) => Err(stop(host, out, fault)),
@@ -325,6 +325,7 @@ fn serve_next<I: Input, S: Outlet, N: Reports>(
 // Takes the next line, if it is there. Otherwise all goes out, and it waits for that line, or for the next timer.
 fn take_next<I: Input, S: Outlet>(
     host: &mut Host<'_>,
+    manner: Manner,
     input: &mut I,
     lines: &mut Lines,
     out: &mut S,
@@ -339,6 +340,7 @@ fn take_next<I: Input, S: Outlet>(
     ensures still { result ≢ Ok Failed → I.has_failed input.new ≡ I.has_failed input.old }
     ensures going { IsTrue lines.new.is_ended → IsTrue (I.has_ended input.new) }
     ensures end { result ≡ Ok End → IsTrue (I.has_ended input.new) }
+    ensures due { IfOk result (MayCome manner) }
     ensures unread { result ≢ Err Unread }
     ensures unwritten { result ≡ Err Unwritten → host.new.engine.printed.has_failed ≡ true }
 {
@@ -349,13 +351,13 @@ fn take_next<I: Input, S: Outlet>(
         };
     }
     match host.engine.settle(out) {
-        Ok(()) => Ok(wait_next(host, input, lines)),
+        Ok(()) => Ok(wait_next(host, manner, input, lines)),
         Err(failed) => Err(LiveFault::from(failed)),
     }
 }
 
 // Waits for the next line, or for the next timer. Nothing waits to go out meanwhile.
-fn wait_next<I: Input>(host: &Host<'_>, input: &mut I, lines: &mut Lines) -> Next
+fn wait_next<I: Input>(host: &Host<'_>, manner: Manner, input: &mut I, lines: &mut Lines) -> Next
     requires all { host.now.engine.printed.lines.waiting ≡ [] }
     requires room { lines.old.number < 2 ^ 64 - 1 }
     requires untold { lines.old.is_ended ≡ false → lines.old.is_told ≡ false }
@@ -365,8 +367,9 @@ fn wait_next<I: Input>(host: &Host<'_>, input: &mut I, lines: &mut Lines) -> Nex
     ensures still { result ≢ Failed → I.has_failed input.new ≡ I.has_failed input.old }
     ensures going { IsTrue lines.new.is_ended → IsTrue (I.has_ended input.new) }
     ensures end { result ≡ End → IsTrue (I.has_ended input.new) }
+    ensures due { MayCome manner result }
 {
-    lines.wait_next(input, host.next_due())
+    lines.wait_next(manner, input, host.next_due())
 }
 
 // Carries out what the line asks that came, or takes the reading at which a timer is due.
@@ -379,6 +382,7 @@ fn carry_out<I: Input, S: Outlet, N: Reports>(
     out: &mut S,
     reports: &mut N,
 ) -> Result<Turn, LiveFault>
+    requires due { MayCome manner next }
     ensures carried { (line : List ℕ) → IsLineNow next lines.now line → GrowsAs (Carries manner next line result host.new.engine.engine) host.old.engine (S.bytes out.old) (S.failures out.old) host.new.engine (S.bytes out.new) (S.failures out.new) }
     ensures answers { S.answers out.new ≡ S.answers out.old }
     ensures unread { result ≡ Err Unread → next ≡ Failed }
@@ -415,7 +419,7 @@ fn carry_line<I: Input, S: Outlet, N: Reports>(
         manner,
         lines.line(),
         lines.number(),
-        lines.now(input),
+        lines.now(manner, input),
         reports,
         out,
     ) {
@@ -433,13 +437,20 @@ fn carry_cut<I: Input, S: Outlet, N: Reports>(
     out: &mut S,
     reports: &mut N,
 ) -> Result<Turn, LiveFault>
-    ensures carried { GrowsAs (CarriesCut result) host.old.engine (S.bytes out.old) (S.failures out.old) host.new.engine (S.bytes out.new) (S.failures out.new) }
+    ensures carried { GrowsAs (CarriesCut manner result) host.old.engine (S.bytes out.old) (S.failures out.old) host.new.engine (S.bytes out.new) (S.failures out.new) }
     ensures answers { S.answers out.new ≡ S.answers out.old }
     ensures unread { result ≢ Err Unread }
     ensures ended { result ≢ Ok AtEnd }
     ensures written { result ≢ Err Unwritten }
 {
-    match host.serve_asked(manner, None, lines.number(), lines.now(input), reports, out) {
+    match host.serve_asked(
+        manner,
+        None,
+        lines.number(),
+        lines.now(manner, input),
+        reports,
+        out,
+    ) {
         Ok(served) => Ok(Turn::Line(served)),
         Err(fault) => Err(LiveFault::from(fault)),
     }

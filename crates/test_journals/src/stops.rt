@@ -85,6 +85,7 @@ fn served(alloc: Global, disk: Memory, input: &'static [u8], is_synced: bool) ->
     let manner = Manner {
         is_stepped: false,
         is_told: false,
+        is_clocked: false,
     };
     let manifest = Some(("m.toml", MANIFEST.as_bytes()));
     let mut input = Once::of(input);

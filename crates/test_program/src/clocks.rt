@@ -103,6 +103,7 @@ pub fn a_clock_beyond_the_last_reading(alloc: Global) -> bool {
         Manner {
             is_stepped: false,
             is_told: false,
+            is_clocked: true,
         },
         &mut input,
         &mut WriterSink::new(&mut out),

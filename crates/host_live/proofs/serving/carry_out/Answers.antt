@@ -1,5 +1,5 @@
 use Rattle.std.proofs.Common.{refl}
-use Rattle.host_live.proofs.Growing.{as_none}
+use Rattle.host_live.proofs.Growing.{as_none, as_these}
 use Rattle.host_live.proofs.serving.carry_out.Goals as goal
 
 pub returns-in-Line-clause-carried : goal.returns-in-Line-clause-carried
@@ -12,7 +12,7 @@ pub returns-in-Nothing-clause-carried : goal.returns-in-Nothing-clause-carried
 returns-in-Nothing-clause-carried g c = λ line it. rw c.in-Nothing.is (as_none _ _ _ refl)
 
 pub returns-in-Due-clause-carried : goal.returns-in-Due-clause-carried
-returns-in-Due-clause-carried g c = λ line it. rw c.in-Due.is (c.carry_reading.ensures.carried)
+returns-in-Due-clause-carried g c = λ line it. rw c.in-Due.is (let now = rw c.in-Due.is at c.requires.due in as_these _ _ _ _ _ _ (λ more made. (now, made)) c.carry_reading.ensures.carried)
 
 pub returns-in-End-clause-carried : goal.returns-in-End-clause-carried
 returns-in-End-clause-carried g c = λ line it. rw c.in-End.is (as_none _ _ _ refl)

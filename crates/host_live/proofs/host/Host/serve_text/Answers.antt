@@ -9,4 +9,4 @@ pub returns-then-is_skipped-clause-grown : goal.returns-then-is_skipped-clause-g
 returns-then-is_skipped-clause-grown g c = λ text. let yes : is_skipped c.args.line.now ≡ true = search (rules, c.is_skipped.ensures, c.if-is_skipped.true) in as_none _ _ _ (passed_over c.args.self.now.engine.engine text yes refl)
 
 pub returns-in-Ok-clause-grown : goal.returns-in-Ok-clause-grown
-returns-in-Ok-clause-grown g c = λ text. let other : is_skipped c.args.line.now ≡ false = search (rules, c.is_skipped.ensures, c.if-is_skipped.false) in as_these _ _ _ _ _ _ (λ more it. turned_text c.args.manner c.args.line.now c.serve_asked.new.self.engine.engine c.args.now more c.serve_asked.result c.in-Ok.request text other c.in-Ok.ensures it) c.serve_asked.ensures.grown
+returns-in-Ok-clause-grown g c = λ text. let other : is_skipped c.args.line.now ≡ false = search (rules, c.is_skipped.ensures, c.if-is_skipped.false) in as_these _ _ _ _ _ _ (λ more it. turned_text c.args.manner c.args.line.now c.serve_asked.new.self.engine.engine c.args.now c.requires.clocked more c.serve_asked.result c.in-Ok.request text other c.in-Ok.ensures it) c.serve_asked.ensures.grown

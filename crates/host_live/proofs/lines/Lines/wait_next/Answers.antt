@@ -25,3 +25,6 @@ returns-in-End-clause-waits g c = λ base told stands taken.
     let comes = subst (λ (r : Came). Comes (g.I.Input.came c.args.input.now) r (g.I.Input.came c.wait.new.self)) c.in-End.is c.wait.ensures.comes in
     c.end.ensures.waits base told (g.I.Input.came c.wait.new.self) (stands_over base told c.args.self.now (g.I.Input.came c.args.input.now) (g.I.Input.came c.wait.new.self) c.if-self.false comes stands)
     (taken_over (g.I.Input.came c.args.input.now) (g.I.Input.came c.wait.new.self) c.args.self.now comes taken) (is_over (g.I.Input.came c.args.input.now) (g.I.Input.came c.wait.new.self) comes)
+
+pub returns-in-End-clause-due : goal.returns-in-End-clause-due
+returns-in-End-clause-due g c = c.end.ensures.due c.args.manner

@@ -19,7 +19,7 @@ use Rattle.manifest.specs.Meaning.{lowest, lowest_fault, helpers_with, limits_of
 use Rattle.manifest.specs.declared.programs.NamedProgram.{NamedProgram}
 use Rattle.manifest_form.specs.declared.form.Plan.{Plan as Entries}
 use Rattle.manifest_form.specs.declared.entries.QueueEntry.{QueueEntry}
-use Rattle.manifest.specs.declared.ManifestFault.{ManifestFault}
+use Rattle.manifest.specs.declared.fault.ManifestFault.{ManifestFault}
 use Rattle.std.proofs.lemmas.List.{length-map}
 use Rattle.manifest_form.specs.Seen.{queue_seen, plan_seen}
 use Rattle.manifest.specs.Seen.{AreWrittenUnder, IsGivenFor, IsReady, IsLawfulPlan, named_seen}

@@ -9,8 +9,8 @@ use Rattle.verifier.specs.declared.refusal.Refusal.{Refusal}
 use Rattle.base.specs.declared.or_memory.OrMemory.{OrMemory}
 use Rattle.base.specs.declared.or_memory.OrMemory.TheVariants.{OutOfMemory, Fault}
 use Rattle.helpers.specs.declared.limits.HelperLimits.{HelperLimits}
-use Rattle.manifest.specs.declared.ManifestFault.{ManifestFault}
-use Rattle.manifest.specs.declared.ManifestFault.TheVariants.{Text, Key, Form, Range, Number, Name, Undecoded, Unassembled, Unaccepted, Migrated}
+use Rattle.manifest.specs.declared.fault.ManifestFault.{ManifestFault}
+use Rattle.manifest.specs.declared.fault.ManifestFault.TheVariants.{Text, Key, Form, Range, Number, Name, Undecoded, Unassembled, Unaccepted, Migrated}
 use Rattle.manifest_form.specs.Entries.{ProgramLine}
 use Rattle.manifest.specs.Meaning.{FirstIs, IsReadable, IsUnread, IsUnaccepted, IsAccepted, IsAcceptable, Named, IsRefused, IsReadAs}
 use Rattle.manifest_form.specs.Seen.{IfFault}
@@ -102,7 +102,7 @@ readable_lines (l ∷ ls) [] h = absurd h
 readable_lines (l ∷ ls) (r ∷ rs) h = ((r.program, h.0.program), readable_lines ls rs h.1)
 
 refused_line : (name : List ℕ) (refusal : Refusal) (line : ProgramLine) (read : ReadLine) → IsReadLine line read → IsRefusedLine name refusal read → (line.name ≡ name) × IsRefused refusal line
-refused_line name refusal line read h bad = (sym h.name ∙ bad.named, record { program = read.program; read = h.program; told = bad.told; not_plain = bad.not_plain })
+refused_line name refusal line read h bad = (sym h.name ∙ bad.named, record { program = read.program; read = h.program; told = bad.told; checked = bad.checked; not_plain = bad.not_plain })
 
 refused_first : (limits : HelperLimits) (name : List ℕ) (refusal : Refusal) (lines : List ProgramLine) (reads : List ReadLine) → AllZip IsReadLine lines reads
     → FirstIs (λ read. (named : Named) × IsAcceptedLine limits read named) (IsRefusedLine name refusal) reads

@@ -1,3 +1,4 @@
+pub mod FaultText
 pub mod Meaning
 pub mod Seen
 pub mod Migration

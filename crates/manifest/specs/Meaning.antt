@@ -15,12 +15,12 @@ use Rattle.helpers.specs.declared.limits.HelperSet.TheVariants.{Controllers, Que
 use Rattle.base.specs.declared.or_memory.OrMemory.TheVariants.{Fault}
 use Rattle.bpf_accepted.specs.Verdict.{Verdict}
 use Rattle.call_shape.specs.declared.lawful_shape.TheConstants.{MAX_WRITTEN_OUT}
-use Rattle.verifier.specs.Verdict.{IsVerdictOn, ToldOfShape}
+use Rattle.verifier.specs.Verdict.{IsVerdictOn, ToldOfChecks, ToldOfShape}
 use Rattle.verifier.specs.Plain.{IsPlain}
 use Rattle.verifier.specs.declared.refusal.Refusal.{Refusal}
 use Rattle.world.specs.World.{Setup, QueueSetup}
-use Rattle.manifest.specs.declared.ManifestFault.{ManifestFault}
-use Rattle.manifest.specs.declared.ManifestFault.TheVariants.{Text, Key, Form, Range, Number, Name, Undecoded, Unassembled, Unaccepted}
+use Rattle.manifest.specs.declared.fault.ManifestFault.{ManifestFault}
+use Rattle.manifest.specs.declared.fault.ManifestFault.TheVariants.{Text, Key, Form, Range, Number, Name, Undecoded, Unassembled, Unaccepted}
 use Rattle.manifest_form.specs.Entries.{Source, code, asm, QueueLine, ProgramLine, Plan, plan_of}
 use Rattle.manifest_form.specs.Faults.{has_lawful_keys, has_lawful_form, has_lawful_ranges}
 use Rattle.manifest_form.specs.Names.{has_lawful_numbers, has_lawful_names}
@@ -85,11 +85,12 @@ pub record IsAccepted (limits : HelperLimits) (line : ProgramLine) (named : Name
 abbrev pub IsAcceptable : HelperLimits → ProgramLine → Type 0
 IsAcceptable limits line = (named : Named) × IsAccepted limits line named
 
--- M8 of one program: what is told of it, which no plain program is
+-- M8 of one program: what is told of it, which no plain program is, nor one of which what is known is always enough
 pub record IsRefused (refusal : Refusal) (line : ProgramLine) : Type 0 where
   pub program : List Slot
   pub read : IsReadAs line.source program
   pub told : ToldOfShape program (Fault refusal)
+  pub checked : ToldOfChecks program (Fault refusal)
   pub not_plain : ¬ IsPlain program
 
 -- The first that is not good is bad.

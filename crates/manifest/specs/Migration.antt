@@ -5,8 +5,8 @@ use Rattle.toml.specs.Parse.{parse_document}
 use Rattle.world.specs.World.{Setup}
 use Rattle.manifest_form.specs.Entries.{Plan}
 use Rattle.manifest_form.specs.Migration.{IsUnderOne, with_one_controller}
-use Rattle.manifest.specs.declared.ManifestFault.{ManifestFault}
-use Rattle.manifest.specs.declared.ManifestFault.TheVariants.{Migrated}
+use Rattle.manifest.specs.declared.fault.ManifestFault.{ManifestFault}
+use Rattle.manifest.specs.declared.fault.ManifestFault.TheVariants.{Migrated}
 use Rattle.manifest.specs.Meaning.{HasFault, IsSetUp, Named, Writes}
 
 -- The text is TOML that says what that manifest says, with one controller.

@@ -3,11 +3,11 @@ use Rattle.std.specs.Arc.{arc_value}
 use Rattle.bpf_insn.specs.declared.program.Slot.{Slot}
 use Rattle.bpf_accepted.specs.Verdict.{Verdict}
 use Rattle.helpers.specs.declared.limits.HelperLimits.{HelperLimits}
-use Rattle.verifier.specs.Verdict.{IsVerdictOn, ToldOfShape}
+use Rattle.verifier.specs.Verdict.{IsVerdictOn, ToldOfChecks, ToldOfShape}
 use Rattle.verifier.specs.Plain.{IsPlain}
 use Rattle.verifier.specs.declared.refusal.Refusal.{Refusal}
-use Rattle.manifest.specs.declared.ManifestFault.{ManifestFault}
-use Rattle.manifest.specs.declared.ManifestFault.TheVariants.{Key, Form, Range, Undecoded, Unassembled, Unaccepted}
+use Rattle.manifest.specs.declared.fault.ManifestFault.{ManifestFault}
+use Rattle.manifest.specs.declared.fault.ManifestFault.TheVariants.{Key, Form, Range, Undecoded, Unassembled, Unaccepted}
 use Rattle.manifest_form.specs.declared.form_fault.FormFault.{FormFault}
 use Rattle.manifest_form.specs.declared.form_fault.FormFault.TheVariants as form
 use Rattle.manifest.specs.declared.programs.ReadProgram.{ReadProgram}
@@ -48,6 +48,7 @@ IsUnreadLine line _ = ⊥
 pub record IsRefusedLine (name : List ℕ) (refusal : Refusal) (read : ReadLine) : Type 0 where
   pub named : read.name ≡ name
   pub told : ToldOfShape read.program (Fault refusal)
+  pub checked : ToldOfChecks read.program (Fault refusal)
   pub not_plain : ¬ IsPlain read.program
 
 abbrev pub IsUnacceptedLine : ReadLine → ManifestFault → Type 0

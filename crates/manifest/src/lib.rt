@@ -8,25 +8,23 @@ ghost use Rattle.toml.specs.View.{view, table_view};
 ghost use Rattle.manifest_form.specs.Entries.{plan_of};
 ghost use Rattle.manifest.specs.Meaning.{AreShort, Means, HasFault, HasProgramFault, IsSetUp, helpers_with, lowest_fault};
 ghost use Rattle.manifest.specs.Migration.{HasMigrationFault, IsMigrated};
-ghost use Rattle.manifest.specs.declared.ManifestFault.TheVariants as ManifestFault;
+ghost use Rattle.manifest.specs.declared.fault.ManifestFault.TheVariants as ManifestFault;
 ghost use Rattle.manifest_form.specs.Seen.{plan_seen, queue_seen, IfFault};
 ghost use Rattle.manifest.specs.Seen.{named_seen, named, IsLawfulPlan};
 
+mod fault;
 mod migration;
 mod programs;
 mod setup;
 
 use base::OrMemory;
-use bpf_asm::AsmFault;
-use bpf_decode::DecodeFault;
 use engine_config::Config;
+pub use fault::{ManifestError, ManifestFault};
 use helpers::{HelperLimits, HelperSet, TableLengths};
 use manifest_form::{FormFault, Plan, QueueEntry, has_lawful_names, has_lawful_numbers};
 pub use programs::NamedProgram;
 use std::alloc::Global;
-use thiserror::Error;
 use toml::{Table, Value};
-use verifier::Refusal;
 
 /// What a manifest says.
 #[derive(Drop)]
@@ -35,46 +33,6 @@ pub struct Manifest {
     /// All programs in the text's order, also those that no queue names.
     pub programs: Vec<NamedProgram>,
 }
-
-/// What is wrong with a manifest. Where several faults hold the lowest is reported, and of M7 and M8 that of the
-/// first program with one.
-#[derive(Debug, Drop, Error)]
-pub enum ManifestFault {
-    /// The text is no TOML.
-    #[error("M1")]
-    Text,
-    /// A key is unknown, or one is missing.
-    #[error("M2")]
-    Key,
-    /// A value is of another type or form.
-    #[error("M3")]
-    Form,
-    /// `version` is neither 1 nor 2, `controllers` is not 1 to 8, a `controller` is not below it, `openings` is not 1 to 255, or
-    /// `length` not 1 to 4096.
-    #[error("M4")]
-    Range,
-    /// There is no queue or no program, or there are more than 64 of them or 16 tables.
-    #[error("M5")]
-    Number,
-    /// A name is not of the form, is repeated, or is of no program.
-    #[error("M6")]
-    Name,
-    /// The program of that name is not decoded.
-    #[error("M7 {0} {1}")]
-    Undecoded(String, DecodeFault),
-    /// The text of the program of that name says none.
-    #[error("M7 {0} {1}")]
-    Unassembled(String, AsmFault),
-    /// The program of that name is not accepted.
-    #[error("M8 {0} {1}")]
-    Unaccepted(String, Refusal),
-    /// The manifest is to be migrated, and is of version 2 already.
-    #[error("M9")]
-    Migrated,
-}
-
-/// Why a manifest was not read: memory was refused, or what it says is faulty.
-pub type ManifestError = OrMemory<ManifestFault>;
 
 /// Reads a manifest and verifies its programs. An error for want of memory says nothing of the text, and a fault is the one that
 /// `HasFault` names: the lowest, and of M7 and M8 that of the first program with one.

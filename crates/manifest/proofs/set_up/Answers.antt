@@ -1,7 +1,7 @@
 use Rattle.std.proofs.Common.{◌≡◌, ◌⊎◌, map, ap, ◌∙◌}
 use Rattle.std.proofs.lemmas.Result.{err_from_is_err_and}
 use Rattle.helpers.specs.declared.limits.HelperLimits.{HelperLimits}
-use Rattle.manifest.specs.declared.ManifestFault.{ManifestFault}
+use Rattle.manifest.specs.declared.fault.ManifestFault.{ManifestFault}
 use Rattle.manifest.specs.Meaning.{limits_of, HasProgramFault, IsUnread, IsUnaccepted}
 use Rattle.manifest_form.specs.Seen.{plan_seen, queue_seen, program_seen}
 use Rattle.manifest.specs.Seen.{named_seen}

@@ -1,6 +1,6 @@
 use Rattle.std.proofs.Common.{Vec, Global, inr, map, ◌⊎◌}
 use Rattle.std.specs.List.{AllZip}
-use Rattle.manifest.specs.declared.ManifestFault.{ManifestFault}
+use Rattle.manifest.specs.declared.fault.ManifestFault.{ManifestFault}
 use Rattle.manifest.specs.declared.programs.NamedProgram.{NamedProgram}
 use Rattle.manifest.specs.Meaning.{IsAccepted, IsUnread, IsUnaccepted}
 use Rattle.manifest_form.specs.Seen.{program_seen, IfFault}

@@ -52,6 +52,9 @@ pub struct Explanation {
     pub mended: &'static str,
 }
 
+/// How many times a line of an example is written out at most.
+const MOST_WRITTEN: u64 = 8;
+
 /// A program that is accepted: it gives its freeze back and lets the CCB wait again.
 pub const POLICY: &str =
     "jeq r2, 0, +2\nmov64 r1, r2\ncall 2\nmov64 r1, 1\ncall 4\nmov64 r0, 0\nexit";
@@ -112,6 +115,11 @@ impl Shown {
             Shown::Call => "A call of a host",
         }
     }
+
+    // Whether a line of comment may stand in an example.
+    fn has_comments(self) -> bool {
+        !matches!(self, Shown::Code | Shown::CodeHead | Shown::Trace)
+    }
 }
 
 /// Writes what the code means, its commonest cause, the smallest text that gives it, and that text mended. It fails if memory is refused,
@@ -132,16 +140,49 @@ fn put(code: Code, page: &mut Page) {
     page.text(".\n\n");
     page.text(row.shown.title());
     page.text(" that gives it:\n\n");
-    put_lines(row.example, page);
+    put_lines(row.example, row.shown, page);
     page.text("\nMended:\n\n");
-    put_lines(row.mended, page);
+    put_lines(row.mended, row.shown, page);
 }
 
-fn put_lines(text: &str, page: &mut Page) {
+// Puts the lines of an example, each as often as it says.
+fn put_lines(text: &str, shown: Shown, page: &mut Page) {
     let text = if text.is_empty() { "(nothing)" } else { text };
     for line in text.split('\n') {
-        page.text("    ");
-        page.text(line);
-        page.text("\n");
+        match line.split_once("   # ") {
+            Some((line, times)) => put_times(line, count_in(times), shown, page),
+            None => put_line(line, page),
+        }
     }
+}
+
+// N of `N times`.
+fn count_in(times: &str) -> u64 {
+    let number = times.split(' ').next().unwrap_or("");
+    number.parse::<u64>().unwrap_or(1)
+}
+
+// Puts a line so many times; if these are many, once, after how often it is meant.
+fn put_times(line: &str, count: u64, shown: Shown, page: &mut Page) {
+    if count <= MOST_WRITTEN {
+        for _time in 0..count {
+            put_line(line, page);
+        }
+        return;
+    }
+    page.fill(
+        if shown.has_comments() {
+            "    # the next line {} times\n"
+        } else {
+            "    (the next line {} times)\n"
+        },
+        &[count],
+    );
+    put_line(line, page);
+}
+
+fn put_line(line: &str, page: &mut Page) {
+    page.text("    ");
+    page.text(line);
+    page.text("\n");
 }

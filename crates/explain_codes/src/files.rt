@@ -155,7 +155,7 @@ pub(crate) const TRACES: &[Explanation] = &[
     },
     // X2
     Explanation {
-        meaning: "the line is the first that is not of the form, or stands behind the last one; where the last line is missing, the line behind the others",
+        meaning: "the line is the first that is not of the form, or stands after the `end` line; if the `end` line is missing, it is the line after the last",
         cause: "the file was cut off",
         advice: None,
         shown: Shown::Trace,

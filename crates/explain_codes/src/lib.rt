@@ -8,6 +8,10 @@ mod explanation;
 mod files;
 mod policies;
 mod programs;
+mod rule;
+mod unknown;
 
 pub use code::{Code, SERIES, Series};
 pub use explanation::{Explanation, POLICY, POLICY_BYTES, Shown, print};
+pub use rule::put_rule;
+pub use unknown::{is_spelled_as_code, put_unknown};

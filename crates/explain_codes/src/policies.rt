@@ -7,7 +7,7 @@ pub(crate) const POLICIES: &[Explanation] = &[
     // V1
     Explanation {
         meaning: "a register that is read is unwritten on some path",
-        cause: "R1 to R5 are lost by a call; where a function begins R0 and R6 to R9 are unwritten, and R0 behind a function that gives no result or an address of its own frame",
+        cause: "R1 to R5 are lost by a call; where a function begins R0 and R6 to R9 are unwritten, and R0 is unwritten after a function that returns no result, or returns an address of its own frame",
         advice: Some("give the register a value on each path that comes here"),
         shown: Shown::Head,
         example: "mov64 r6, r2\ncall 11\nmov64 r3, r2\nmov64 r2, r6",
@@ -35,14 +35,16 @@ pub(crate) const POLICIES: &[Explanation] = &[
     Explanation {
         meaning: "a store to the context",
         cause: "a field is to be changed, which is only read: `call 4` changes the retries",
-        advice: Some("copy the field to the stack, and change it there"),
+        advice: Some(
+            "a policy changes a CCB only by its calls: call 4 with r1 = 1 takes a retry, call 5 sets the final code",
+        ),
         shown: Shown::Head,
         example: "stw [r1+16], 0",
         mended: "stw [r10-4], 0",
     },
     // V5
     Explanation {
-        meaning: "an address or a freeze is computed with or compared, but for a `mov64`, an address plus or minus a number, and the test of a freeze for the constant 0",
+        meaning: "the instruction computes with an address or a freeze, or compares one; allowed are a `mov64`, an address plus or minus a number, and the test of a freeze for the constant 0",
         cause: "an address is aligned by a mask",
         advice: Some(
             "compute with numbers, and compare a freeze with the constant 0 by jeq or jne alone",
@@ -62,7 +64,7 @@ pub(crate) const POLICIES: &[Explanation] = &[
     },
     // V7
     Explanation {
-        meaning: "a helper's argument is against its rule; of helpers 6 to 8, where the table is not one known number, or the index may not be below its length; of helpers 9 and 10, where the bytes may not lie in the stack",
+        meaning: "an argument breaks the helper's rule: for helpers 6 to 8, if the table is not one known number or the index may reach its length; for helpers 9 and 10, if the bytes may not lie in the stack",
         cause: "a freeze that may be 0 is released, or was given back before; a number is not bounded",
         advice: Some(
             "bound the argument before the call; test a freeze for 0 before it is given back",
@@ -104,7 +106,7 @@ pub(crate) const POLICIES: &[Explanation] = &[
     },
     // V11
     Explanation {
-        meaning: "paths that join there disagree on the freezes held or on the CCB's disposal; the exits of a function join behind its call",
+        meaning: "paths that join there disagree on the freezes held or on the CCB's disposal; the exits of a function join after its call",
         cause: "one branch gives the freeze back, and the other does not",
         advice: Some(
             "let both ways do the same with freezes and CCB before they join, or let each go to an exit of its own",
@@ -125,7 +127,7 @@ pub(crate) const POLICIES: &[Explanation] = &[
     // V13
     Explanation {
         meaning: "an address or a freeze is stored otherwise than by `stxdw` at one known place of a frame, a multiple of 8 from its start, or in a table; or one that was stored so is read otherwise than by `ldxdw` from there, also by helper 10, or may be",
-        cause: "a part of a spill is loaded, or its place is no multiple of 8; V2, V3, V4 and V7 are told first",
+        cause: "a part of a spill is loaded, or its place is no multiple of 8; V2, V3, V4 and V7 are reported first",
         advice: Some(
             "keep it in R6 to R9, or store it whole to eight stack bytes at a multiple of 8 from R10",
         ),
@@ -136,7 +138,7 @@ pub(crate) const POLICIES: &[Explanation] = &[
     // V14
     Explanation {
         meaning: "R0 at the exit is no number",
-        cause: "no number was put there behind the last call",
+        cause: "no number was put there after the last call",
         advice: Some("put a number into r0 before the exit"),
         shown: Shown::Program,
         example: "jeq r2, 0, +2\nmov64 r1, r2\ncall 2\nmov64 r1, 1\ncall 4\nmov64 r0, r10\nexit",

@@ -12,10 +12,6 @@ const GROUPS: &str =
 // What to do about a jump that leads to no instruction.
 const TARGETS: &str = "let the jump lead to an instruction of the program; a label does";
 
-// What to do about a jump or a call between functions.
-const FUNCTIONS: &str =
-    "let jumps stay in their function, and `call local` lead to where one begins";
-
 /// The codes from A1 on, of texts that are to be assembled.
 pub(crate) const TEXTS: &[Explanation] = &[
     // A1
@@ -134,7 +130,9 @@ pub(crate) const BYTES: &[Explanation] = &[
     Explanation {
         meaning: "a register above 10",
         cause: "digits were lost before this slot",
-        advice: Some(GROUPS),
+        advice: Some(
+            "write the register into the second byte: dst in its low digit, src in its high digit",
+        ),
         shown: Shown::CodeHead,
         example: "b7 0b 00 00 00 00 00 00",
         mended: "b7 03 00 00 00 00 00 00",
@@ -143,7 +141,7 @@ pub(crate) const BYTES: &[Explanation] = &[
     Explanation {
         meaning: "a field that the instruction does not use is not 0",
         cause: "digits were lost before this slot",
-        advice: Some(GROUPS),
+        advice: Some("write 0 there; if the value is meant, another opcode is needed"),
         shown: Shown::CodeHead,
         example: "b7 03 01 00 00 00 00 00",
         mended: "b7 03 00 00 00 00 00 00",
@@ -152,7 +150,7 @@ pub(crate) const BYTES: &[Explanation] = &[
     Explanation {
         meaning: "an offset or an imm that selects no form of the instruction",
         cause: "digits were lost before this slot",
-        advice: Some(GROUPS),
+        advice: Some("write a value that selects a form of the instruction"),
         shown: Shown::CodeHead,
         example: "b7 03 00 00 00 00 00 00\nd4 03 00 00 07 00 00 00",
         mended: "b7 03 00 00 00 00 00 00\nd4 03 00 00 10 00 00 00",
@@ -161,7 +159,7 @@ pub(crate) const BYTES: &[Explanation] = &[
     Explanation {
         meaning: "a constant of 64 bits begins in the last slot",
         cause: "the bytes were cut off",
-        advice: Some(GROUPS),
+        advice: Some("add the second slot: 00 00 00 00, then the upper four bytes of the constant"),
         shown: Shown::Code,
         example: "18 03 00 00 01 00 00 00",
         mended: POLICY_BYTES,
@@ -170,7 +168,7 @@ pub(crate) const BYTES: &[Explanation] = &[
     Explanation {
         meaning: "R10 is written",
         cause: "the frame pointer is moved where a copy of it is meant",
-        advice: Some(GROUPS),
+        advice: Some("compute in a copy of r10"),
         shown: Shown::CodeHead,
         example: "07 0a 00 00 f8 ff ff ff",
         mended: "bf a3 00 00 00 00 00 00\n07 03 00 00 f8 ff ff ff",
@@ -219,7 +217,7 @@ pub(crate) const SHAPES: &[Explanation] = &[
     Explanation {
         meaning: "a local call's target is outside the program or a second slot",
         cause: "a distance was counted wrong: write a label",
-        advice: Some(FUNCTIONS),
+        advice: Some("write a label: `call local NAME`"),
         shown: Shown::Program,
         example: "mov64 r1, r2\ncall local +100\nmov64 r1, 1\ncall 4\nmov64 r0, 0\nexit\nthaw:\njeq r1, 0, +1\ncall 2\nexit",
         mended: "mov64 r1, r2\ncall local thaw\nmov64 r1, 1\ncall 4\nmov64 r0, 0\nexit\nthaw:\njeq r1, 0, +1\ncall 2\nexit",
@@ -228,7 +226,7 @@ pub(crate) const SHAPES: &[Explanation] = &[
     Explanation {
         meaning: "a jump leads out of its function",
         cause: "code is shared by a jump where a call is meant",
-        advice: Some(FUNCTIONS),
+        advice: Some("let jumps stay in their function, and `call local` lead to where one begins"),
         shown: Shown::Program,
         example: "mov64 r1, r2\ncall local thaw\nmov64 r1, 1\ncall 4\nmov64 r0, 0\njeq r0, 1, thaw\nexit\nthaw:\njeq r1, 0, +1\ncall 2\nexit",
         mended: "mov64 r1, r2\ncall local thaw\nmov64 r1, 1\ncall 4\nmov64 r0, 0\nexit\nthaw:\njeq r1, 0, +1\ncall 2\nexit",

@@ -1,7 +1,8 @@
-// Where tables, keys and values stand in a manifest's text, for those who are shown it. It relies on `toml_parser` for keys,
-// strings and blanks; what a manifest says is not its concern.
+// Where tables, keys and values stand in a manifest's text, and how a part of any text is shown with its line. It relies on `toml_parser`
+// for keys, strings and blanks, and on `cli_text_page` for what is shown; what a manifest says is not its concern.
 #![tactic(auto)]
 
+pub mod excerpt;
 mod lines;
 mod places;
 mod reading;

@@ -57,7 +57,8 @@ fn print_named(
         page.foreign(named.name.as_str());
         page.text(":\n");
         print_budget(alloc, &named.accepted, &program, page)?;
-        survey_of(alloc, &program, &listing, named.accepted.limits())?.put(page)?;
+        let limits = named.accepted.limits();
+        survey_of(alloc, &program, &listing, limits)?.put(alloc, limits, page)?;
     }
     Ok(())
 }

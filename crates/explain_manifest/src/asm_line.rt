@@ -1,20 +1,112 @@
-// What is wrong with a line of a program's text, as far as the line shows it, and how the line is mended. It relies on `helpers` for the
+// What is wrong with a line of a program's text, as far as the text shows it, and how the line is mended. It relies on `helpers` for the
 // names of helpers, and on `bpf_insn` for the mnemonics of operations and of conditions.
 
-use crate::excerpt::put_foreign;
+use crate::asm_commas::put_missing_comma;
+use crate::asm_near::put_near;
+use crate::asm_numbers;
 use bpf_asm::LineFault;
 use bpf_insn::{ALU_OPS, AluOp, Condition, Width};
 use cli_text_page::Page;
+use explain_layout::excerpt::put_foreign;
+use explain_layout::{Span, nth_line};
 use helpers::Helper;
+use std::alloc::{AllocError, Global};
 
-/// Puts what is wrong with such a line and how it is mended, and answers whether the line shows it.
-pub fn put_fault(page: &mut Page, fault: LineFault, line: &str) -> bool {
-    let code = line.split('#').next().unwrap_or("");
-    match fault {
+/// Puts what is wrong with the line of that number, from 1, of a program's text, and how the line is mended; and answers whether the text
+/// shows it.
+pub fn put_fault(
+    alloc: Global,
+    page: &mut Page,
+    fault: LineFault,
+    asm: &str,
+    number: usize,
+) -> Result<bool, AllocError> {
+    let code = code_of(nth_line(asm, number.saturating_sub(1)));
+    Ok(match fault {
         LineFault::NoToken => put_character(page, code) || put_number(page, code),
-        LineFault::NoMnemonic => put_label(page, code) || put_width(page, code),
-        LineFault::WrongForm => put_form(page, code),
-        LineFault::OutOfRange | LineFault::LabelDefinedBefore | LineFault::MissingLabel => false,
+        LineFault::NoMnemonic => {
+            put_label(page, code)
+                || put_width(page, code)
+                || put_near(alloc, page, first_word(code))?
+        }
+        LineFault::WrongForm => put_comma(page, code) || put_form(page, code),
+        LineFault::OutOfRange => put_out_of_range(page, code),
+        LineFault::LabelDefinedBefore => put_defined(page, asm, number, code),
+        LineFault::MissingLabel => false,
+    })
+}
+
+// A line without its comment.
+fn code_of(line: &str) -> &str {
+    line.split('#').next().unwrap_or("")
+}
+
+/// Which part of a line it is that is no token, if the fault is that: a character, or a word.
+pub fn faulty_part(fault: LineFault, line: &str) -> Option<Span> {
+    if fault != LineFault::NoToken {
+        return None;
+    }
+    let code = code_of(line);
+    for (start, letter) in code.char_indices() {
+        if !is_of_text(letter) {
+            let end = start.saturating_add(letter.len_utf8());
+            return Some(Span { start, end });
+        }
+    }
+    let mut start = 0usize;
+    for word in code.split(is_no_word) {
+        let end = start.saturating_add(word.len());
+        if is_no_token(word) {
+            return Some(Span { start, end });
+        }
+        start = end.saturating_add(1);
+    }
+    None
+}
+
+// Whether a word begins as a number and is none.
+fn is_no_token(word: &str) -> bool {
+    word.starts_with(is_no_beginning) && !is_number(word)
+}
+
+// Puts that a comma is missing in a line.
+fn put_comma(page: &mut Page, code: &str) -> bool {
+    match operands_of(first_word(code)) {
+        Some((operands, _)) => put_missing_comma(page, code, operands),
+        None => false,
+    }
+}
+
+// Puts which number of a line is out of its range.
+fn put_out_of_range(page: &mut Page, code: &str) -> bool {
+    match operands_of(first_word(code)) {
+        Some((operands, _)) => asm_numbers::put_number(page, code, operands),
+        None => false,
+    }
+}
+
+// Puts in which line before that of this number the label is defined that this line defines.
+fn put_defined(page: &mut Page, asm: &str, number: usize, code: &str) -> bool {
+    let name = label_of(code);
+    let mut at = 0u64;
+    for line in asm.split('\n').take(number.saturating_sub(1)) {
+        at = at.saturating_add(1);
+        if !name.is_empty() && label_of(code_of(line)) == name {
+            page.text("  = here: `");
+            put_foreign(page, name);
+            page.fill("` is defined in line {} of the program already\n", &[at]);
+            page.text("  = to mend it: give one of the two labels another name\n");
+            return true;
+        }
+    }
+    false
+}
+
+// The label that a line defines, or nothing.
+fn label_of(code: &str) -> &str {
+    match code.trim().strip_suffix(':') {
+        Some(name) => name.trim(),
+        None => "",
     }
 }
 
@@ -72,7 +164,8 @@ fn is_of_text(letter: char) -> bool {
     is_of_word(letter) || matches!(letter, ' ' | '\t' | ',' | ':' | '[' | ']' | '+' | '-')
 }
 
-fn is_of_word(letter: char) -> bool {
+/// What a name or a number has.
+pub fn is_of_word(letter: char) -> bool {
     matches!(letter, 'a'..='z' | '0'..='9' | '_')
 }
 
@@ -80,7 +173,7 @@ fn is_of_word(letter: char) -> bool {
 fn put_number(page: &mut Page, code: &str) -> bool {
     let mut column = 1u64;
     for word in code.split(is_no_word) {
-        if word.starts_with(is_no_beginning) && !is_number(word) {
+        if is_no_token(word) {
             page.text("  = here: `");
             put_foreign(page, word);
             page.fill(
@@ -94,7 +187,8 @@ fn put_number(page: &mut Page, code: &str) -> bool {
     false
 }
 
-fn is_no_word(letter: char) -> bool {
+/// What no name and no number has.
+pub fn is_no_word(letter: char) -> bool {
     !is_of_word(letter)
 }
 
@@ -168,7 +262,7 @@ fn put_form(page: &mut Page, code: &str) -> bool {
             page.text(mnemonic);
             page.text("`, which stores such a value");
         }
-        Slip::Other => page.text(advice_of(first)),
+        Slip::Other => page.text(advice_of(first, second)),
     }
     page.text("\n");
     true
@@ -181,12 +275,18 @@ fn put_one_form(page: &mut Page, word: &str, operands: &str) {
 }
 
 // How a line is written whose mnemonic takes these operands.
-fn advice_of(operands: &str) -> &'static str {
+fn advice_of(operands: &str, others: &str) -> &'static str {
     match operands {
         "" => "write nothing after the mnemonic",
         "T" => "for T write a label, or a distance with its sign, as +2",
         "N" => {
             "for N write the number of a helper, and for T a label, or a distance with its sign, as +2"
+        }
+        "rD" => "for rD write r0 to r9",
+        "rD, rS" if others.is_empty() => "for rD write r0 to r9, and for rS r0 to r10",
+        "rD, N" => "for rD write r0 to r9, and for N a number",
+        "rD, [rS+N]" => {
+            "for rD write r0 to r9, for rS r0 to r10, and for N a number; in brackets it has its sign, as in [r1+0]"
         }
         _ if operands.ends_with('T') => {
             "for rD and rS write r0 to r10, for N a number, and for T a label, or a distance with its sign, as +2"
@@ -194,7 +294,7 @@ fn advice_of(operands: &str) -> &'static str {
         _ if operands.contains('[') => {
             "for rD and rS write r0 to r10, and for N a number; in brackets it has its sign, as in [r1+0]"
         }
-        _ => "for rD and rS write r0 to r10, and for N a number",
+        _ => "for rD write r0 to r9, for rS r0 to r10, and for N a number",
     }
 }
 
@@ -265,8 +365,8 @@ fn last_operand(operands: &str) -> &str {
     }
 }
 
-// The first word of a line, without what is no part of it.
-fn first_word(code: &str) -> &str {
+/// The first word of a line, without what is no part of it.
+pub fn first_word(code: &str) -> &str {
     code.trim().split(is_no_word).next().unwrap_or("")
 }
 

@@ -1,27 +1,43 @@
 // Which rule of the verifier an instruction breaks, with the values that break it. It relies on `kinds` and `world_calls` for words, and on
 // `check_register_kinds` for the cause.
 
-use crate::arguments;
 use crate::arguments::{helper_of, put_breach};
+use crate::compute::is_comparison;
 use crate::kinds::{Around, put_held, put_kind, put_place, put_registers};
 use crate::program::Told;
-use crate::steps::mattering;
+use crate::{arguments, compute, unwritten};
 use bpf_insn::{Callee, Insn, LoadForm, Operand, Reg, StoreSize};
 use check_register_kinds::{Cause, Certainty, Held, Kind, Region};
 use cli_text_page::Page;
-use explain_path::{Open, Registers, Sketch};
+use explain_path::{Open, Path, Registers, Sketch};
 use helpers::Helper;
 
+/// How many bytes a frame has.
+const FRAME_BYTES: u16 = 512;
+
+/// How many ranges of unwritten bytes are named at most.
+const MOST_GAPS: u32 = 8;
+
 /// Puts what breaks the rule, where that is known before the instruction.
-pub fn put_values(page: &mut Page, told: &Told<'_>, cause: Cause, insn: Insn, known: &Sketch) {
+pub fn put_values(
+    page: &mut Page,
+    told: &Told<'_>,
+    cause: Cause,
+    path: Option<&Path>,
+    insn: Insn,
+    known: &Sketch,
+) {
     match cause {
-        Cause::UnwrittenRegister => put_unwritten(page, insn, known),
+        Cause::UnwrittenRegister => unwritten::put_unwritten(page, told, path, insn, known),
         Cause::UnwrittenByte => put_bytes(page, told, insn, known),
         Cause::AccessOutside | Cause::StoreToContext | Cause::AddressStored => {
             put_access(page, told, insn, known)
         }
         Cause::AddressAsNumber => {
-            put_registers(page, told.log(), known, Registers::read_by(insn))
+            put_registers(page, told.log(), known, Registers::read_by(insn));
+            if is_comparison(insn) && compute::freeze_in(insn, known).is_none() {
+                page.text(", and an address is never compared");
+            }
         }
         Cause::UnknownHelper => put_number(page, told, insn),
         Cause::ArgumentAgainstRule => put_arguments(page, told, insn, known),
@@ -37,24 +53,6 @@ pub fn put_values(page: &mut Page, told: &Told<'_>, cause: Cause, insn: Insn, kn
     }
 }
 
-// Puts which registers are read and may be unwritten.
-fn put_unwritten(page: &mut Page, insn: Insn, known: &Sketch) {
-    let mut count = 0u32;
-    for number in 0u8..11 {
-        let Some(reg) = Reg::from_number(number) else {
-            continue;
-        };
-        if mattering(insn).has(reg) && !known.kind(reg).is_written() {
-            page.text(if count > 0 { "; " } else { "" });
-            page.fill(
-                "r{} is read, and on some path here it is unwritten, or of another kind than on others",
-                &[u64::from(number)],
-            );
-            count = count.saturating_add(1);
-        }
-    }
-}
-
 // Puts which bytes are read and may be unwritten.
 fn put_bytes(page: &mut Page, told: &Told<'_>, insn: Insn, known: &Sketch) {
     match insn {
@@ -64,12 +62,10 @@ fn put_bytes(page: &mut Page, told: &Told<'_>, insn: Insn, known: &Sketch) {
             offset,
             ..
         } => put_unwritten_bytes(page, known, known.kind(src), offset, load_bytes(form)),
-        _ => {
-            put_arguments(page, told, insn, known);
-            if let Some(helper) = helper_of(insn) {
-                put_traced(page, known, helper);
-            }
-        }
+        _ => match traced_bytes(known) {
+            Some(traced) => put_traced(page, told, known, traced),
+            None => put_arguments(page, told, insn, known),
+        },
     }
 }
 
@@ -80,15 +76,33 @@ fn put_unwritten_bytes(page: &mut Page, known: &Sketch, base: Kind, offset: i16,
     };
     let first = moved(offsets.least, offset);
     let end = moved(offsets.most, offset).saturating_add(count);
-    page.text("unwritten on some path here:");
+    page.text("unwritten on some path here: ");
+    put_gaps(page, known, frame, first, end.min(FRAME_BYTES));
+}
+
+// Puts the ranges of bytes of a frame that may be unwritten, from one byte up to another, of very many the first ones.
+fn put_gaps(page: &mut Page, known: &Sketch, frame: u8, first: u16, end: u16) {
     let mut told = 0u32;
-    for byte in first..end.min(512) {
-        if !is_written(known, frame, byte) && told < 8 {
-            page.text(" ");
-            put_place(page, byte);
+    let mut start = first;
+    for byte in first..end {
+        if is_written(known, frame, byte) {
+            start = byte.saturating_add(1);
+        } else if told < MOST_GAPS && is_last_of_gap(known, frame, byte, end) {
+            page.text(if told > 0 { ", " } else { "" });
+            put_place(page, start);
+            page.text(if start < byte { " to " } else { "" });
+            if start < byte {
+                put_place(page, byte);
+            }
             told = told.saturating_add(1);
         }
     }
+}
+
+// Whether the byte after an unwritten one is written, or the last one that is looked at is this.
+fn is_last_of_gap(known: &Sketch, frame: u8, byte: u16, end: u16) -> bool {
+    let next = byte.saturating_add(1);
+    next >= end || is_written(known, frame, next)
 }
 
 // An offset in a frame, moved.
@@ -183,18 +197,68 @@ fn put_arguments(page: &mut Page, told: &Told<'_>, insn: Insn, known: &Sketch) {
     }
 }
 
-// Puts which bytes may be unwritten that are to be traced.
-fn put_traced(page: &mut Page, known: &Sketch, helper: Helper) {
-    if !matches!(helper, Helper::Trace) {
-        return;
+// The bytes of a frame that helper 10 may read: from one on, at least so many, and at most.
+#[derive(Clone, Copy)]
+struct Traced {
+    frame: u8,
+    first: u16,
+    least: u16,
+    count: u16,
+}
+
+// The bytes that are to be traced, if their number is as required, and their address is one.
+fn traced_bytes(known: &Sketch) -> Option<Traced> {
+    let Kind::Number(length) = known.kind(Reg::R2) else {
+        return None;
+    };
+    let Kind::Address(Region::Frame(frame), offsets) = known.kind(Reg::R1) else {
+        return None;
+    };
+    if length.least() > 64 || length.most() > 64 || offsets.least != offsets.most {
+        return None;
     }
-    match known.kind(Reg::R2) {
-        Kind::Number(length) if length.most() <= 64 => {
-            page.text("; ");
-            put_unwritten_bytes(page, known, known.kind(Reg::R1), 0, length.most() as u16)
+    Some(Traced {
+        frame,
+        first: offsets.least,
+        least: length.least() as u16,
+        count: length.most() as u16,
+    })
+}
+
+// How many of these bytes are written, up to the first that may be unwritten.
+fn written_from(known: &Sketch, traced: Traced) -> u16 {
+    let mut count = 0u16;
+    for place in 0..traced.count {
+        let byte = traced.first.saturating_add(place);
+        if count == place && is_written(known, traced.frame, byte) {
+            count = count.saturating_add(1);
         }
-        _ => {}
     }
+    count
+}
+
+// Puts which bytes are read that are to be traced, and which of them may be unwritten.
+fn put_traced(page: &mut Page, told: &Told<'_>, known: &Sketch, traced: Traced) {
+    let end = traced.first.saturating_add(traced.count);
+    page.text("helper 10, trace(ptr, length): ");
+    put_registers(
+        page,
+        told.log(),
+        known,
+        Registers::only(Reg::R1).with(Reg::R2),
+    );
+    page.text(", so that ");
+    put_place(page, traced.first);
+    page.text(" to ");
+    put_place(page, end.saturating_sub(1));
+    page.text(" may be read; unwritten on some path here: ");
+    put_gaps(
+        page,
+        known,
+        traced.frame,
+        traced.first,
+        end.min(FRAME_BYTES),
+    );
 }
 
 /// Puts how such a breach is mended, as far as the instruction and what is known before it tell, and answers whether they do.
@@ -202,10 +266,12 @@ pub fn put_mending(
     page: &mut Page,
     told: &Told<'_>,
     cause: Cause,
+    path: Option<&Path>,
     insn: Insn,
     known: &Sketch,
 ) -> bool {
     match cause {
+        Cause::UnwrittenRegister => unwritten::put_mending(page, told, path, insn, known),
         Cause::ArgumentAgainstRule => match helper_of(insn) {
             Some(helper) => arguments::put_mending(page, known, told.limits, helper),
             None => false,
@@ -213,8 +279,41 @@ pub fn put_mending(
         Cause::AccessOutside => put_inside(page, insn, known),
         Cause::FreezeHeld => put_release(page, &known.held),
         Cause::UnknownHelper => put_helpers(page, told, insn),
+        Cause::AddressAsNumber => compute::put_mending(page, told, insn, known),
+        Cause::AddressStored => put_spill(page, insn),
+        Cause::UnwrittenByte => put_shorter(page, insn, known),
         _ => false,
     }
+}
+
+// Puts how an address or a freeze is kept, if the instruction is to store it.
+fn put_spill(page: &mut Page, insn: Insn) -> bool {
+    let is_stored = matches!(insn, Insn::Store { .. } | Insn::Call(_));
+    if is_stored {
+        page.text(
+            "  = to mend it: keep it in R6 to R9, or store it whole to eight stack bytes at a multiple of 8 from R10\n",
+        );
+    }
+    is_stored
+}
+
+// Puts how fewer bytes are traced, if those before the first unwritten one are at least as many as the least length.
+fn put_shorter(page: &mut Page, insn: Insn, known: &Sketch) -> bool {
+    if !matches!(helper_of(insn), Some(Helper::Trace)) {
+        return false;
+    }
+    let Some(traced) = traced_bytes(known) else {
+        return false;
+    };
+    let written = written_from(known, traced);
+    if written < traced.least || written == 0 || written >= traced.count {
+        return false;
+    }
+    page.fill(
+        "  = to mend it: write all these bytes before, on each path that comes here, or let r2 be at most {}\n",
+        &[u64::from(written)],
+    );
+    true
 }
 
 // Puts which helpers may be called, where another one is.

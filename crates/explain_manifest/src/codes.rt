@@ -8,15 +8,6 @@ pub fn code_in(text: &str) -> Option<Code> {
     Code::of(text.split(' ').next()?)
 }
 
-/// Puts the rule that a code stands for.
-pub fn put_rule(page: &mut Page, code: Code) {
-    page.text("  = rule ");
-    page.shown(&code);
-    page.text(": ");
-    page.text(code.explanation().meaning);
-    page.text("\n");
-}
-
 /// Puts its commonest cause, and how it is usually mended.
 pub fn put_mending(page: &mut Page, code: Code) {
     let row = code.explanation();

@@ -1,12 +1,11 @@
 // Faults of a manifest's form in a report: keys, types, ranges, how many tables there are, and names. It relies on `keys` for what may
 // stand where, on `explain_layout` for places, and on `strsim` for names that are near.
 
-use crate::excerpt;
-use crate::excerpt::put_foreign;
 use crate::keys::{KEYS, Key, Presence, Wants, called, find, is_table};
 use crate::places::{end, table_span, value_span};
 use cli_text_page::Page;
-use explain_layout::{Entry, Layout, Span};
+use explain_layout::excerpt::put_foreign;
+use explain_layout::{Entry, Layout, Span, excerpt, line_at};
 use manifest::ManifestFault;
 use manifest_form::{Plan, has_lawful_numbers};
 use std::alloc::{AllocError, Global};
@@ -57,7 +56,7 @@ pub fn print(
 ) -> Result<Option<&'static str>, AllocError> {
     let is_second = !matches!(document.get("version"), Some(Value::Integer(1)));
     if let Some(version) = wrong_version(document, fault) {
-        put_version(path, text, layout, version, page);
+        put_version(path, text, layout, version, fault, page);
         return Ok(find("", "version", is_second).map(|key| key.advice));
     }
     let found = match fault {
@@ -83,7 +82,14 @@ fn wrong_version(document: &Value, fault: &ManifestFault) -> Option<i64> {
 }
 
 // Puts that there is no such version.
-fn put_version(path: &str, text: &str, layout: &Layout, version: i64, page: &mut Page) {
+fn put_version(
+    path: &str,
+    text: &str,
+    layout: &Layout,
+    version: i64,
+    fault: &ManifestFault,
+    page: &mut Page,
+) {
     let place = match layout.entry(0, "version") {
         Some(entry) => entry.value,
         None => end(layout),
@@ -91,6 +97,12 @@ fn put_version(path: &str, text: &str, layout: &Layout, version: i64, page: &mut
     excerpt::print(page, path, text, place);
     page.text("  = here: `version` is 1 or 2, and not ");
     page.signed(version);
+    if let ManifestFault::Key = fault {
+        page.text(", so the keys are judged as those of version 2");
+        if layout.entry(0, "controllers").is_none() {
+            page.text(", and `controllers` is missing");
+        }
+    }
     page.text("\n");
 }
 
@@ -567,19 +579,20 @@ fn print_names(
     page: &mut Page,
 ) -> Result<Option<&'static str>, AllocError> {
     for (number, program) in plan.programs.iter().enumerate() {
-        let twice = plan
+        let before = plan
             .programs
             .iter()
             .take(number)
-            .any(|other| other.name == program.name);
-        if twice || !is_name(program.name) {
+            .position(|other| other.name == program.name);
+        if before.is_some() || !is_name(program.name) {
             let place = value_span(layout, "program", number, "name");
             excerpt::print(page, path, text, place);
-            page.text(if twice {
-                "  = here: an earlier program has this name\n"
-            } else {
-                "  = here: a name has 1 to 32 of the characters a to z, 0 to 9, `_` and `-`\n"
-            });
+            match before {
+                Some(before) => put_earlier(page, text, layout, before),
+                None => page.text(
+                    "  = here: a name has 1 to 32 of the characters a to z, 0 to 9, `_` and `-`\n",
+                ),
+            }
             return Ok(Some(OTHER_NAME));
         }
     }
@@ -597,6 +610,15 @@ fn print_names(
         }
     }
     Ok(None)
+}
+
+// Puts in which line the program of that number has its name.
+fn put_earlier(page: &mut Page, text: &str, layout: &Layout, number: usize) {
+    let place = value_span(layout, "program", number, "name");
+    page.fill(
+        "  = here: the program in line {} has this name\n",
+        &[line_at(text, place.start).number as u64],
+    );
 }
 
 fn is_name(name: &str) -> bool {

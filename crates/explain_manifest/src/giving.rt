@@ -9,14 +9,26 @@ use check_register_kinds::{FreezeName, Kind};
 use explain_path::{Path, written_by};
 use helpers::Helper;
 
-/// The slot on a path at which the freeze was given back of which r1 is a copy at its last instruction, if the path shows it.
-pub fn given_back(told: &Told<'_>, path: &Path) -> Option<usize> {
+/// A freeze that was given back, the slot at which it was, and whether it was left to a timer there.
+#[derive(Clone, Copy)]
+pub struct GivenBack {
+    pub name: FreezeName,
+    pub slot: usize,
+    pub is_timed: bool,
+}
+
+/// The freeze of which r1 is a copy at the last instruction of a path, if the path shows that it was given back before.
+pub fn given_back(told: &Told<'_>, path: &Path) -> Option<GivenBack> {
     let name = origin(told, path)?;
     let before = path.slots.len().saturating_sub(1);
     for (check, slot) in path.checks.iter().zip(path.slots.iter()).take(before) {
         let insn = told.program.fetch(*slot)?;
         if is_release(insn) && told.notes.kinds(*check).first() == Some(&Kind::Freeze(name)) {
-            return Some(*slot);
+            return Some(GivenBack {
+                name,
+                slot: *slot,
+                is_timed: matches!(helper_of(insn), Some(Helper::ReleaseAfter)),
+            });
         }
     }
     None
@@ -53,8 +65,8 @@ fn origin(told: &Told<'_>, path: &Path) -> Option<FreezeName> {
     None
 }
 
-// How many functions were open at that place of a path.
-fn depth_at(told: &Told<'_>, path: &Path, place: usize) -> usize {
+/// How many functions were open at that place of a path.
+pub fn depth_at(told: &Told<'_>, path: &Path, place: usize) -> usize {
     match path.checks.get(place) {
         Some(check) => match told.log().sightings().get(*check) {
             Some(sighting) => sighting.depth,
@@ -64,8 +76,8 @@ fn depth_at(told: &Told<'_>, path: &Path, place: usize) -> usize {
     }
 }
 
-// The register that a move copies whole.
-fn moved_from(insn: Insn) -> Option<Reg> {
+/// The register that a move copies whole.
+pub fn moved_from(insn: Insn) -> Option<Reg> {
     match insn {
         Insn::Alu {
             width: Width::Bits64,

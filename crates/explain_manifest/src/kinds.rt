@@ -13,6 +13,9 @@ const SIGN: u64 = 1 << 63;
 /// How many bytes a frame has: R10 points behind them.
 const FRAME_BYTES: u16 = 512;
 
+/// How many freezes are named one by one at most.
+const FEW: usize = 2;
+
 /// What a register's words depend on beside its kind: how many functions are open, and which freezes are held.
 #[derive(Clone, Copy)]
 pub struct Around {
@@ -58,9 +61,12 @@ pub fn put_number(page: &mut Page, scalar: Scalar) {
     if least == 0 && most == u64::MAX {
         put_signed(page, scalar);
     } else {
-        put_word(page, least);
-        page.text(" to ");
-        put_word(page, most);
+        page.fill("{} to {}", &[least, most]);
+        if most >= SIGN && !has_any_sign(scalar) {
+            page.text(" (signed ");
+            put_signed_ends(page, scalar);
+            page.text(")");
+        }
     }
     put_bits(page, scalar);
 }
@@ -82,12 +88,20 @@ fn put_signed(page: &mut Page, scalar: Scalar) {
         page.text("any number");
         return;
     }
-    let least = least.wrapping_sub(SIGN).cast_signed();
-    let most = most.wrapping_sub(SIGN).cast_signed();
-    page.signed(least);
-    page.text(" to ");
-    page.signed(most);
+    put_signed_ends(page, scalar);
     page.text(", signed");
+}
+
+// Whether the signed range says nothing.
+fn has_any_sign(scalar: Scalar) -> bool {
+    scalar.signed.least == 0 && scalar.signed.most == u64::MAX
+}
+
+// Puts the least and the greatest number of the signed range.
+fn put_signed_ends(page: &mut Page, scalar: Scalar) {
+    page.signed(scalar.signed.least.wrapping_sub(SIGN).cast_signed());
+    page.text(" to ");
+    page.signed(scalar.signed.most.wrapping_sub(SIGN).cast_signed());
 }
 
 // Puts what the bits are that are known, by a mask, where the range does not say so: those that are alike in all numbers of it are
@@ -154,8 +168,8 @@ fn put_copy(page: &mut Page, log: &Log, around: &Around, name: FreezeName) {
     }
 }
 
-// Puts the name of a freeze: where it was taken.
-fn put_name(page: &mut Page, log: &Log, name: FreezeName) {
+/// Puts the name of a freeze: where it was taken.
+pub fn put_name(page: &mut Page, log: &Log, name: FreezeName) {
     match name {
         FreezeName::Start => page.text("the start's freeze"),
         FreezeName::Call(number) => match log.sightings().get(number as usize) {
@@ -173,12 +187,58 @@ pub fn put_held(page: &mut Page, log: &Log, held: &Held) {
         return;
     }
     page.text("the run holds ");
+    if held.len() > FEW {
+        put_many(page, log, held);
+        return;
+    }
     for (place, freeze) in held.iter().enumerate() {
         if place > 0 {
             page.text(" and ");
         }
         put_freeze(page, log, *freeze);
     }
+}
+
+// Puts freezes that are more than a few: how many they are, whether they may be 0, and then by what each was taken.
+fn put_many(page: &mut Page, log: &Log, held: &[HeldFreeze]) {
+    let open = held
+        .iter()
+        .filter(|freeze| freeze.certainty == Certainty::Open)
+        .count();
+    page.fill("{} freezes", &[held.len() as u64]);
+    if open == held.len() {
+        page.text(", each of which may be 0");
+    } else if open > 0 {
+        page.fill(", of which {} may be 0", &[open as u64]);
+    }
+    page.text(": ");
+    let mut before = "that of slot ";
+    for freeze in held {
+        match freeze.name {
+            FreezeName::Start => {
+                page.text("the start's");
+                before = if held.len() > 2 {
+                    " and those of slots "
+                } else {
+                    " and that of slot "
+                };
+            }
+            FreezeName::Call(number) => {
+                page.text(before);
+                put_slot_of(page, log, number);
+                before = ", ";
+            }
+        }
+    }
+}
+
+// Puts the slot at which a freeze was taken.
+fn put_slot_of(page: &mut Page, log: &Log, number: u32) {
+    let slot = match log.sightings().get(number as usize) {
+        Some(sighting) => sighting.slot,
+        None => 0,
+    };
+    page.number(slot as u64);
 }
 
 fn put_freeze(page: &mut Page, log: &Log, freeze: HeldFreeze) {
@@ -213,6 +273,10 @@ pub fn put_registers(page: &mut Page, log: &Log, known: &Sketch, registers: Regi
 
 /// Puts what a register holds.
 pub fn put_register(page: &mut Page, log: &Log, around: &Around, reg: Reg, kind: Kind) {
+    if reg == Reg::R10 {
+        page.text("r10 = frame pointer");
+        return;
+    }
     page.fill("r{} = ", &[u64::from(reg.number())]);
     put_kind(page, log, around, kind);
 }

@@ -6,13 +6,18 @@
 
 mod accepting;
 mod arguments;
+mod asm_commas;
 mod asm_line;
+mod asm_near;
+mod asm_numbers;
+mod calls;
 mod causes;
 mod codes;
-mod excerpt;
+mod compute;
 mod explaining;
 mod fields;
 mod form;
+mod functions;
 mod giving;
 mod keys;
 mod kinds;
@@ -22,8 +27,11 @@ mod places;
 mod program;
 mod reaching;
 mod refusing;
+mod retries;
+mod sources;
 mod steps;
 mod survey;
 mod toml_fault;
+mod unwritten;
 
 pub use explaining::{Explanation, explain};

@@ -1,6 +1,7 @@
 // A program's instructions as they are written: lines of an assembler text, or bytes with their disassembly. It relies on `bpf_asm` for
-// tokens and for the disassembly.
+// tokens and for the disassembly, and on `sources` for lines of a source.
 
+use crate::sources::Sources;
 use base::OrMemory;
 use bpf_asm::{disassemble, tokens};
 use bpf_insn::Program;
@@ -33,6 +34,8 @@ pub struct Written {
     pub slot: usize,
     pub standing: Standing,
     pub text: String,
+    /// The place in a source of which it was made, or nothing.
+    pub source: String,
 }
 
 /// A program's instructions, in the order of their slots.
@@ -51,6 +54,14 @@ impl Listing {
             Some(insn) if insn.slot == slot => Some(insn),
             _ => None,
         }
+    }
+}
+
+/// Puts the place in a source of which an instruction was made, if that is known, after what is to stand before it.
+pub fn put_source(page: &mut Page, before: &str, written: &Written) {
+    if !written.source.is_empty() {
+        page.text(before);
+        page.foreign(written.source.as_str());
     }
 }
 
@@ -108,6 +119,15 @@ pub fn of_text(
     })
 }
 
+/// How many slots the instructions of an assembler text take.
+pub fn slots_in(alloc: Global, asm: &str) -> Result<usize, AllocError> {
+    let listing = of_text(alloc, "", Span { start: 0, end: 0 }, asm)?;
+    Ok(match listing.insns.as_slice().last() {
+        Some(insn) => insn.slot.saturating_add(slots_of(insn.text.as_str())),
+        None => 0,
+    })
+}
+
 /// Where an assembler text begins in the manifest's text, if it stands there as it is.
 pub fn base_of(manifest: &str, value: Span, asm: &str) -> Option<usize> {
     let written = manifest.get(value.start..value.end)?;
@@ -139,6 +159,7 @@ impl<'a> Lines<'a> {
             slot,
             standing,
             text: String::from_str(alloc, text)?,
+            source: String::new(alloc),
         })?;
         self.slot = slot.saturating_add(slots_of(text));
         Ok(())
@@ -181,6 +202,7 @@ pub fn of_bytes(
     let mut lines = text.as_str().split('\n');
     let standings = standings(alloc, manifest, value)?;
     let elsewhere = whole(manifest, value);
+    let sources = Sources::of(alloc, manifest, value)?;
     let mut insns = Vec::new(alloc);
     for slot in 0..program.len() {
         if program.fetch(slot).is_none() {
@@ -200,6 +222,7 @@ pub fn of_bytes(
             slot,
             standing,
             text,
+            source: String::from_str(alloc, sources.at(slot))?,
         })?;
     }
     Ok(Listing {

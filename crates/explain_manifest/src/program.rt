@@ -6,17 +6,20 @@ ghost use Rattle.bpf_insn.specs.declared.program.TheConstants.{MAX_SLOTS};
 
 use crate::causes::{put_mending, put_side, put_values};
 use crate::codes::code_in;
-use crate::excerpt::put_foreign;
-use crate::giving::{given_back, is_release};
-use crate::listing::Listing;
+use crate::functions::function_of;
+use crate::giving::{GivenBack, given_back, is_release};
+use crate::kinds::put_name;
+use crate::listing::{Listing, put_source};
 use crate::notes::Notes;
 use crate::reaching::reaches;
-use crate::{codes, excerpt, steps};
+use crate::{calls, codes, steps};
 use bpf_insn::{Insn, Program};
 use call_shape::{Onward, ShapeFault};
 use check_register_kinds::Cause;
 use cli_text_page::Page;
-use explain_layout::Span;
+use explain_codes::put_rule;
+use explain_layout::excerpt::put_foreign;
+use explain_layout::{Span, excerpt};
 use explain_path::{Log, Open, Path, path_to};
 use helpers::HelperLimits;
 use std::alloc::{AllocError, Global};
@@ -67,7 +70,7 @@ pub fn print(
     let text = format!(in alloc; "{refusal}")?;
     let code = code_in(text.as_str());
     if let Some(code) = code {
-        codes::put_rule(page, code);
+        put_rule(page, code);
     }
     let is_mended = put_reasons(alloc, page, told, refusal, slot)?;
     match code {
@@ -91,8 +94,23 @@ fn put_reasons(
             put_backward(page, told, slot);
             Ok(true)
         }
-        Refusal::Shape(_) => {
+        Refusal::Shape(ShapeFault::TargetSecondSlot(_)) => {
+            put_second_slot(page, told, slot);
+            Ok(true)
+        }
+        Refusal::Shape(ShapeFault::TooManyFrames) => {
+            calls::put_depth(page, told.program);
+            Ok(false)
+        }
+        Refusal::Shape(ShapeFault::TooLong) => {
+            calls::put_length(page, told.program);
+            Ok(false)
+        }
+        Refusal::Shape(fault) => {
             put_target(page, told, slot);
+            if let ShapeFault::LeavesFunction(_) = fault {
+                put_functions(page, told, slot);
+            }
             Ok(false)
         }
         Refusal::Check(Cause::PathsDisagree, _) => { put_sides(alloc, page, told, slot) }
@@ -134,11 +152,14 @@ fn put_place(page: &mut Page, told: &Told<'_>, slot: usize) {
         page.text(": ");
         put_foreign(page, text);
     }
+    if let Some(written) = told.listing.at(slot) {
+        put_source(page, "\n  = source: ", written);
+    }
     page.text("\n");
 }
 
 // Where the instruction of a slot leads, if it is a jump or a local call.
-fn target_of(program: &Program, slot: usize) -> Option<usize>
+pub fn target_of(program: &Program, slot: usize) -> Option<usize>
     ensures { IfSome result (λ _. slot < MAX_SLOTS) }
 {
     let insn = program.fetch(slot)?;
@@ -161,19 +182,66 @@ fn put_target(page: &mut Page, told: &Told<'_>, slot: usize) {
     );
 }
 
+// Puts in which functions a jump and its target are, if these are two, and answers whether they are.
+fn put_functions(page: &mut Page, told: &Told<'_>, slot: usize) -> bool {
+    let Some(to) = target_of(told.program, slot) else {
+        return false;
+    };
+    let of_target = function_of(told.program, to);
+    let of_jump = function_of(told.program, slot);
+    if of_target == of_jump {
+        return false;
+    }
+    page.fill(
+        "  = here: slot {} is in the function that begins at slot {}, and this jump in the one that begins at slot {}\n",
+        &[to as u64, of_target as u64, of_jump as u64],
+    );
+    true
+}
+
+// Puts that a jump leads to the second slot of a constant, and to which slots it may lead in its place.
+fn put_second_slot(page: &mut Page, told: &Told<'_>, slot: usize) {
+    let Some(to) = target_of(told.program, slot) else {
+        return;
+    };
+    let first = to.saturating_sub(1);
+    page.fill(
+        "  = here: the jump leads to slot {}, the second slot of `",
+        &[to as u64],
+    );
+    if let Some(written) = told.listing.at(first) {
+        put_foreign(page, written.text.as_str());
+    }
+    page.fill(
+        "` at slot {}\n  = to mend it: let it lead to slot {} (",
+        &[first as u64, first as u64],
+    );
+    put_distance(page, slot, first);
+    page.fill(") or {} (", &[to.saturating_add(1) as u64]);
+    put_distance(page, slot, to.saturating_add(1));
+    page.text("); write a label\n");
+}
+
+// Puts how far a jump at a slot goes that leads to another one.
+fn put_distance(page: &mut Page, slot: usize, to: usize) {
+    let next = slot.saturating_add(1);
+    page.fill(
+        if to >= next { "+{}" } else { "-{}" },
+        &[to.saturating_sub(next).max(next.saturating_sub(to)) as u64],
+    );
+}
+
 // Puts whether a jump that does not lead forward closes a loop, and what to do about it.
 fn put_backward(page: &mut Page, told: &Told<'_>, slot: usize) {
     let Some(to) = target_of(told.program, slot) else {
         return;
     };
-    page.fill(
-        if reaches(told.program, to, slot) {
-            LOOP
-        } else {
-            NO_LOOP
-        },
-        &[to as u64],
-    );
+    let is_loop = reaches(told.program, to, slot);
+    if !is_loop && put_functions(page, told, slot) {
+        page.text("  = to mend it: let the function return, and jump after the call\n");
+        return;
+    }
+    page.fill(if is_loop { LOOP } else { NO_LOOP }, &[to as u64]);
 }
 
 // Puts what is known where the last check failed, by which path control comes there, and how that is mended, if this tells. It answers
@@ -191,9 +259,6 @@ fn put_check(
     let (Some(insn), Some(known)) = (told.program.fetch(sighting.slot), told.log().last()) else {
         return Ok(false);
     };
-    page.text("  = here: ");
-    put_values(page, told, cause, insn, known);
-    page.text("\n");
     let path = path_to(
         alloc,
         told.program,
@@ -201,26 +266,43 @@ fn put_check(
         number,
         steps::mattering(insn),
     )?;
+    page.text("  = here: ");
+    put_values(page, told, cause, path.as_ref(), insn, known);
+    page.text("\n");
     let again = match &path {
         Some(path) if cause == Cause::ArgumentAgainstRule && is_release(insn) => {
             given_back(told, path)
         }
         _ => None,
     };
-    if let Some(slot) = again {
-        page.fill(
-            "  = here: r1 was a freeze, which was given back at slot {}\n",
-            &[slot as u64],
-        );
+    if let Some(again) = again {
+        put_again(page, told, again);
     }
     if let Some(path) = &path {
         put_path(page, told, path, None);
     }
-    if again.is_some() {
-        page.text("  = to mend it: give each freeze back once: leave out this call or that one\n");
+    if let Some(again) = again {
+        page.fill(
+            "  = to mend it: leave out the call at slot {} or this one\n",
+            &[again.slot as u64],
+        );
         return Ok(true);
     }
-    Ok(put_mending(page, told, cause, insn, known))
+    Ok(put_mending(page, told, cause, path.as_ref(), insn, known))
+}
+
+// Puts where a freeze was given back before.
+fn put_again(page: &mut Page, told: &Told<'_>, again: GivenBack) {
+    page.text("  = here: r1 was ");
+    put_name(page, told.log(), again.name);
+    page.fill(
+        if again.is_timed {
+            ", which was left to a timer at slot {}\n"
+        } else {
+            ", which was given back at slot {}\n"
+        },
+        &[again.slot as u64],
+    );
 }
 
 // Puts a path, and on to a slot after it.

@@ -1,18 +1,19 @@
 // Why a manifest is refused, in a report. It relies on `form` for faults of the form, and on `program` for those of programs.
 
 use crate::codes::code_in;
-use crate::excerpt::put_foreign;
-use crate::listing::{Listing, base_of, hexadecimal, of_bytes, of_text, pairs_of};
+use crate::listing::{Listing, base_of, hexadecimal, of_bytes, of_text, pairs_of, slots_in};
 use crate::notes::notes_of;
 use crate::places::source_span;
 use crate::program::Told;
-use crate::{asm_line, codes, excerpt, fields, form, program, toml_fault};
+use crate::{asm_line, codes, fields, form, program, toml_fault};
 use base::OrMemory;
-use bpf_asm::{AsmFault, assemble};
+use bpf_asm::{AsmFault, LineFault, assemble};
 use bpf_decode::{DecodeFault, InsnFault, decode};
 use bpf_insn::Program;
 use cli_text_page::Page;
-use explain_layout::{Layout, Span, layout, nth_line, without_mark};
+use explain_codes::put_rule;
+use explain_layout::excerpt::put_foreign;
+use explain_layout::{Layout, Span, excerpt, layout, nth_line, without_mark};
 use helpers::{HelperLimits, HelperSet, TableLengths};
 use manifest::ManifestFault;
 use manifest_form::{Plan, ProgramEntry, Source};
@@ -64,7 +65,7 @@ fn put_rule_of<T: Display>(
 ) -> Result<(), AllocError> {
     let text = format!(in alloc; "{fault}")?;
     if let Some(code) = code_in(text.as_str()) {
-        codes::put_rule(page, code);
+        put_rule(page, code);
         if !more_is_known {
             codes::put_mending(page, code);
         }
@@ -328,25 +329,17 @@ fn print_undecoded(
         );
         return put_rule_of(alloc, page, &fault, false);
     };
-    excerpt::print(page, path, text, pairs_of(alloc, text, value, slot)?);
+    let shown = fields::faulty_slot(insn, bytes, slot);
+    excerpt::print(page, path, text, pairs_of(alloc, text, value, shown)?);
     let pairs = hexadecimal(alloc, bytes, slot)?;
     page.fill("  = slot {}: ", &[slot as u64]);
     page.text(pairs.as_str());
     page.text("\n");
     fields::put_fields(page, bytes, slot);
-    match insn {
-        InsnFault::UnusedField => {
-            put_rule_of(alloc, page, &fault, true)?;
-            fields::put_unused(page, bytes, slot);
-            Ok(())
-        }
-        InsnFault::FramePointer => {
-            put_rule_of(alloc, page, &fault, true)?;
-            fields::put_frame_pointer(page);
-            Ok(())
-        }
-        _ => put_rule_of(alloc, page, &fault, false),
-    }
+    let more_is_known = fields::is_known(insn);
+    put_rule_of(alloc, page, &fault, more_is_known)?;
+    fields::put_fault(page, insn, bytes, slot);
+    Ok(())
 }
 
 // Puts why a text is no program.
@@ -362,47 +355,62 @@ fn print_unassembled(
             line,
             fault: of_line,
         } => {
-            print_line(stands, asm, line, page);
+            print_line(stands, asm, line, of_line, page);
             put_rule_of(alloc, page, &fault, true)?;
-            let written = nth_line(asm, line.saturating_sub(1));
-            if !asm_line::put_fault(page, of_line, written) {
+            if !asm_line::put_fault(alloc, page, of_line, asm, line)? {
                 put_mending_of(alloc, page, &fault)?;
             }
             Ok(())
         }
         AsmFault::NoProgram => {
             excerpt::print(page, stands.path, stands.text, stands.value);
+            let slots = slots_in(alloc, asm)?;
+            page.fill("  = here: there are {} slots\n", &[slots as u64]);
             put_rule_of(alloc, page, &fault, false)
         }
     }
 }
 
-// Puts the line of that number of an assembler text.
-fn print_line(stands: Stands<'_>, asm: &str, line: usize, page: &mut Page) {
+// Puts the line of that number of an assembler text, with a mark under what is no token, or under all of it.
+fn print_line(stands: Stands<'_>, asm: &str, line: usize, fault: LineFault, page: &mut Page) {
     let Stands { path, text, value } = stands;
-    let part = line_part(asm, line);
+    let whole = line_part(asm, line);
+    let part = match asm_line::faulty_part(fault, nth_line(asm, line.saturating_sub(1))) {
+        Some(part) => shifted(part, line_start(asm, line)),
+        None => whole,
+    };
     let place = match base_of(text, value, asm) {
-        Some(base) => Span {
-            start: base.saturating_add(part.start),
-            end: base.saturating_add(part.end),
-        },
+        Some(base) => shifted(part, base),
         None => value,
     };
     excerpt::print(page, path, text, place);
     page.fill("  = line {} of the program: ", &[line as u64]);
-    put_foreign(page, asm.get(part.start..part.end).unwrap_or(""));
+    put_foreign(page, asm.get(whole.start..whole.end).unwrap_or(""));
     page.text("\n");
 }
 
-// Where the line of that number, from 1, stands in a text, without blanks around it.
-fn line_part(text: &str, number: usize) -> Span {
+// A part so many bytes later.
+fn shifted(part: Span, by: usize) -> Span {
+    Span {
+        start: by.saturating_add(part.start),
+        end: by.saturating_add(part.end),
+    }
+}
+
+// The byte at which the line of that number, from 1, begins in a text.
+fn line_start(text: &str, number: usize) -> usize {
     let mut start = 0usize;
     for line in text.split('\n').take(number.saturating_sub(1)) {
         start = start.saturating_add(line.len()).saturating_add(1);
     }
+    start
+}
+
+// Where the line of that number, from 1, stands in a text, without blanks around it.
+fn line_part(text: &str, number: usize) -> Span {
     let line = nth_line(text, number.saturating_sub(1));
     let blanks = line.len().saturating_sub(line.trim_start().len());
-    let start = start.saturating_add(blanks);
+    let start = line_start(text, number).saturating_add(blanks);
     Span {
         start,
         end: start.saturating_add(line.trim().len()),

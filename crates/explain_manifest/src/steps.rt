@@ -2,13 +2,14 @@
 // `explain_path` for the path, and on `listing` for how instructions are written.
 
 use crate::arguments::helper_of;
-use crate::excerpt::put_foreign;
 use crate::kinds::{Around, put_held, put_number, put_register};
+use crate::listing::put_source;
 use crate::program::Told;
 use bpf_insn::{Callee, Insn, LoadForm, Reg, jump_target};
 use check_description::Description;
 use check_register_kinds::{Kind, Region};
 use cli_text_page::Page;
+use explain_layout::excerpt::put_foreign;
 use explain_path::{Path, Registers};
 use helpers::Helper;
 use scalar_domain::Scalar;
@@ -48,7 +49,14 @@ pub fn print(page: &mut Page, told: &Told<'_>, path: &Path, after: Option<usize>
             continue;
         }
         if left_out > 0 {
-            page.fill("              .. {} more\n", &[left_out]);
+            page.fill(
+                if left_out == 1 {
+                    "              .. {} instruction\n"
+                } else {
+                    "              .. {} instructions\n"
+                },
+                &[left_out],
+            );
         }
         left_out = 0;
         let next = match path.slots.get(place.saturating_add(1)) {
@@ -109,6 +117,9 @@ fn put_step(
         page.blanks(told.listing.width.saturating_sub(wide));
         put_way(page, slot, insn, next);
         put_known(page, told, check, depth, insn);
+    }
+    if let Some(written) = told.listing.at(slot) {
+        put_source(page, "  ; ", written);
     }
     page.text("\n");
 }

@@ -1,11 +1,10 @@
 // Why a text is no TOML, in a report. It relies on `toml` for the fault, and on `explain_layout` for where keys and texts stand.
 
-use crate::codes::{put_mending, put_rule};
-use crate::excerpt;
+use crate::codes::put_mending;
 use crate::form::is_single;
 use cli_text_page::Page;
-use explain_codes::Code;
-use explain_layout::{Layout, Span, line_at};
+use explain_codes::{Code, put_rule};
+use explain_layout::{Layout, Span, excerpt, line_at};
 use std::alloc::AllocError;
 use toml::de::Error;
 
@@ -27,7 +26,7 @@ pub fn print(
     let message = error.message();
     let advice = match message {
         "duplicate key" => Some(print_twice(path, text, layout, part, page)),
-        "invalid string" => print_open(path, text, layout, page),
+        "invalid string" => print_open(path, text, layout, part, page),
         _ => None,
     };
     if advice.is_none() {
@@ -113,7 +112,13 @@ fn before(part: Span, place: usize) -> Option<usize> {
 }
 
 // Puts where a text of several lines was opened that nothing closes, and answers how that is mended.
-fn print_open(path: &str, text: &str, layout: &Layout, page: &mut Page) -> Option<&'static str> {
+fn print_open(
+    path: &str,
+    text: &str,
+    layout: &Layout,
+    part: Span,
+    page: &mut Page,
+) -> Option<&'static str> {
     let start = layout.unread_string?;
     let rest = text.get(start..)?;
     let (here, advice) = if is_open(rest, "\"\"\"") {
@@ -127,7 +132,7 @@ fn print_open(path: &str, text: &str, layout: &Layout, page: &mut Page) -> Optio
             "write ''' after its last line",
         )
     } else {
-        return None;
+        return print_open_line(path, text, start, part, page);
     };
     let opening = Span {
         start,
@@ -135,6 +140,31 @@ fn print_open(path: &str, text: &str, layout: &Layout, page: &mut Page) -> Optio
     };
     excerpt::print(page, path, text, opening);
     page.text(here);
+    Some(advice)
+}
+
+// The same of a text of one line, which begins at that byte and is found to be none in that part.
+fn print_open_line(
+    path: &str,
+    text: &str,
+    start: usize,
+    part: Span,
+    page: &mut Page,
+) -> Option<&'static str> {
+    let line = line_at(text, start);
+    let rest = line.text.get(line.column..)?;
+    let (quote, advice) = if is_open(rest, "\"") {
+        ("\"", "write \" after it")
+    } else if is_open(rest, "'") {
+        ("'", "write ' after it")
+    } else {
+        return None;
+    };
+    let before = line.text.get(..line.column)?.chars().count();
+    excerpt::print(page, path, text, part);
+    page.text("  = here: nothing closes the text that is opened by ");
+    page.text(quote);
+    page.fill(" at column {}\n", &[before.saturating_add(1) as u64]);
     Some(advice)
 }
 

@@ -1,0 +1,250 @@
+// The report of a trace whose lines are of the form, of which one does not follow: the line that would have followed. It relies on
+// `engine_core` and `replay` for the engine behind the lines before, and on `trace` for the texts of lines.
+
+use crate::lines::{Line, line_of};
+use crate::telling::{put_cause, put_code, put_line};
+use cli_text_page::Page;
+use engine_core::{Config, NumberedEngine};
+use replay::{ReplayFault, follows};
+use std::alloc::{AllocError, Global};
+use trace::{header, print_entry, print_totals, read_record};
+use trace_lines::Text;
+use world_calls::{Call, Record, Totals, Version};
+
+/// Puts what there is to say of a trace, its path and text, of which a line does not follow over a configuration. The memory that it takes
+/// does not grow with the trace.
+pub fn put(
+    alloc: Global,
+    path: &str,
+    text: &str,
+    config: &Config,
+    fault: ReplayFault,
+    page: &mut Page,
+) -> Result<(), AllocError> {
+    match fault {
+        ReplayFault::Header => {
+            put_version(&line_of(path, text, 1), config, page);
+            put_code(page, "X3");
+            page.text("  = to mend it: give the manifest over which the trace was written\n");
+        }
+        ReplayFault::Behind(count) => {
+            let line = line_of(path, text, count.saturating_add(2));
+            put_line(page, &line, 0, line.line.len());
+            put_next(alloc, text, config, count, line.line, page)?;
+            put_code(page, "X3");
+            put_cause(page, "X3");
+        }
+    }
+    Ok(())
+}
+
+/// Puts, of a trace without its last line, which of its lines is the first that does not follow, as `put` does; or that all follow, as in a
+/// journal's segment that is still written.
+pub fn put_unended(
+    alloc: Global,
+    path: &str,
+    text: &str,
+    config: &Config,
+    page: &mut Page,
+) -> Result<(), AllocError> {
+    match first_unfollowed(alloc, text, config)? {
+        Some(fault) => {
+            page.text("\nrefused too: ");
+            page.shown(&fault);
+            page.text("\n");
+            put(alloc, path, text, config, fault, page)
+        }
+        None => {
+            page.text(
+                "  = note: all lines before it follow, as in a journal's segment that an engine still writes\n",
+            );
+            Ok(())
+        }
+    }
+}
+
+// Which whole line of a text is the first that does not follow.
+fn first_unfollowed(
+    alloc: Global,
+    text: &str,
+    config: &Config,
+) -> Result<Option<ReplayFault>, AllocError> {
+    if !text.starts_with(header(Version::of(config.helpers()))) {
+        return Ok(Some(ReplayFault::Header));
+    }
+    let mut engine = NumberedEngine::open(alloc, config)?;
+    let end = text.rfind('\n').unwrap_or(0);
+    let whole = text.get(..end).unwrap_or("");
+    first_after(alloc, &mut engine, Version::of(config.helpers()), whole)
+}
+
+// The same by an engine after which no line was followed yet.
+fn first_after(
+    alloc: Global,
+    engine: &mut NumberedEngine<'_>,
+    version: Version,
+    text: &str,
+) -> Result<Option<ReplayFault>, AllocError> {
+    let mut count = 0usize;
+    for line in text.split('\n').skip(1) {
+        if !is_followed(alloc, engine, version, line)? {
+            return Ok(Some(ReplayFault::Behind(count)));
+        }
+        count = count.saturating_add(1);
+    }
+    Ok(None)
+}
+
+// Whether a line follows, if it is that of a record; then it is one of those that the engine followed.
+fn is_followed(
+    alloc: Global,
+    engine: &mut NumberedEngine<'_>,
+    version: Version,
+    line: &str,
+) -> Result<bool, AllocError> {
+    match read_record(alloc, version, line)? {
+        Some(record) => follows(engine, &record),
+        None => Ok(true),
+    }
+}
+
+// Puts that a trace is of another version than a manifest.
+fn put_version(line: &Line<'_>, config: &Config, page: &mut Page) {
+    put_line(page, line, 0, line.line.len());
+    let version = Version::of(config.helpers());
+    page.text(match version {
+        Version::One => "  = here: the trace is of version 2, and the manifest of version 1\n",
+        Version::Two => "  = here: the trace is of version 1, and the manifest of version 2\n",
+    });
+    page.text("  = would have been the first line: ");
+    page.text(header(version).trim_end());
+    page.text("\n");
+}
+
+// Puts the line that would have followed the first line and so many others, if the same was asked as in a line.
+fn put_next(
+    alloc: Global,
+    text: &str,
+    config: &Config,
+    count: usize,
+    line: &str,
+    page: &mut Page,
+) -> Result<(), AllocError> {
+    let version = Version::of(config.helpers());
+    let mut engine = NumberedEngine::open(alloc, config)?;
+    follow_first(alloc, &mut engine, version, text, count)?;
+    put_after(alloc, &mut engine, version, count, line, page)
+}
+
+// Lets an engine follow so many lines after the first.
+fn follow_first(
+    alloc: Global,
+    engine: &mut NumberedEngine<'_>,
+    version: Version,
+    text: &str,
+    count: usize,
+) -> Result<(), AllocError> {
+    for line in text.split('\n').skip(1).take(count) {
+        is_followed(alloc, engine, version, line)?;
+    }
+    Ok(())
+}
+
+// Puts what an engine that followed so many lines makes of the next one.
+fn put_after(
+    alloc: Global,
+    engine: &mut NumberedEngine<'_>,
+    version: Version,
+    count: usize,
+    line: &str,
+    page: &mut Page,
+) -> Result<(), AllocError> {
+    match read_record(alloc, version, line)? {
+        Some(record) => put_record(engine, record, page),
+        None => {
+            put_sums(engine.totals(count as u64), page);
+            Ok(())
+        }
+    }
+}
+
+// Puts the last line that would have followed.
+fn put_sums(totals: Totals, page: &mut Page) {
+    page.text("  = here: these are not the sums after the lines before it\n");
+    let mut text = Text::none();
+    print_totals(totals, &mut text);
+    put_followed(page, &text);
+}
+
+// Puts the record that an engine makes if it is asked the same as in a record.
+fn put_record(
+    engine: &mut NumberedEngine<'_>,
+    record: Record,
+    page: &mut Page,
+) -> Result<(), AllocError> {
+    let made = match record {
+        Record::Called { answer: _, call } => called(engine, call, page)?,
+        Record::Advance { run, .. } => advanced(engine, run, page)?,
+    };
+    if let Some(made) = made {
+        put_made(&made, page);
+    }
+    Ok(())
+}
+
+// Puts the record that an engine made.
+fn put_made(made: &Record, page: &mut Page) {
+    page.text("  = here: the engine answers otherwise after the lines before it\n");
+    let mut text = Text::none();
+    if print_entry(made, &mut text).is_ok() {
+        put_followed(page, &text);
+    }
+}
+
+// What an engine makes of a call; that it is asked in vain is put on the page.
+fn called(
+    engine: &mut NumberedEngine<'_>,
+    call: Call,
+    page: &mut Page,
+) -> Result<Option<Record>, AllocError> {
+    match engine.call(&call)? {
+        Some(answer) => Ok(Some(Record::Called { answer, call })),
+        None => {
+            page.text(in_vain(&call));
+            Ok(None)
+        }
+    }
+}
+
+// Why a call is no event.
+fn in_vain(call: &Call) -> &'static str {
+    match call {
+        Call::GuestRelease { .. } =>
+            "  = here: no guest holds this freeze after the lines before it\n",
+        Call::Park { .. } => "  = here: this run is not out after the lines before it\n",
+        _ => "  = here: no engine is asked so\n",
+    }
+}
+
+// The next stop of a run; that it is not out is put on the page.
+fn advanced(
+    engine: &mut NumberedEngine<'_>,
+    run: u32,
+    page: &mut Page,
+) -> Result<Option<Record>, AllocError> {
+    let made = engine.advance(run)?;
+    if made.is_none() {
+        page.fill(
+            "  = here: run {} is not out after the lines before it\n",
+            &[u64::from(run)],
+        );
+    }
+    Ok(made)
+}
+
+// Puts a line that would have followed.
+fn put_followed(page: &mut Page, text: &Text) {
+    page.text("  = would have followed: ");
+    page.foreign(str::from_utf8(text.as_slice()).unwrap_or("").trim_end());
+    page.text("\n");
+}

@@ -1,0 +1,146 @@
+// The report of a text that is no trace, since its first line is of no version, or another line is not of the form. It relies on `trace` for
+// lines, on `firsts` for what is against one, and on `telling` for the report of it.
+
+use crate::fields::fields_slip;
+use crate::firsts::{Kept, line_slip};
+use crate::lines::{Line, line_of, without_return};
+use crate::slips::{Found, Slip};
+use crate::stops::first_word;
+use crate::telling::put as put_line_report;
+use cli_text_page::Page;
+use std::alloc::{AllocError, Global};
+use trace::{TraceFault, header, read_record, read_totals};
+use trace_lines::{Kind, Slots};
+use world_calls::Version;
+
+/// The kinds of the sums in the last line.
+const SUMS: Slots<Kind> = Slots {
+    first: Some(Kind::LongNumber),
+    second: Some(Kind::Number),
+    third: Some(Kind::Number),
+    fourth: Some(Kind::Number),
+};
+
+/// With what the first line of each version begins.
+const FRONT: &str = "camr-trace ";
+
+/// Puts what there is to say of a text, its path and itself, that is no trace by that fault.
+pub fn put(
+    alloc: Global,
+    path: &str,
+    text: &str,
+    fault: TraceFault,
+    page: &mut Page,
+) -> Result<(), AllocError> {
+    match fault {
+        TraceFault::Header => put_header(&line_of(path, text, 1), page),
+        TraceFault::Line(number) => {
+            let found = faulty_slip(alloc, text, number)?;
+            let line = line_of(path, text, number);
+            put_line_report(page, &line, &found, Kept::Trace, "X2");
+        }
+    }
+    Ok(())
+}
+
+// Puts what is against the first line of a text.
+fn put_header(line: &Line<'_>, page: &mut Page) {
+    put_line_report(page, line, &header_slip(line.line), Kept::Trace, "X1");
+    page.text(
+        "  = note: the first line is `camr-trace 1`, or `camr-trace 2` if the manifest is of version 2\n",
+    );
+}
+
+fn header_slip(line: &str) -> Found {
+    let whole = without_return(line);
+    let trimmed = whole.trim_start();
+    if line.starts_with('\u{feff}') {
+        return Found::of(Slip::Mark, 0, 3);
+    }
+    if is_header(whole) {
+        return if whole.len() < line.len() {
+            Found::of(Slip::Return, whole.len(), line.len())
+        } else {
+            Found::of(Slip::NoFeed, line.len(), line.len())
+        };
+    }
+    if trimmed.len() < whole.len() {
+        return Found::of(Slip::Indented, 0, whole.len().saturating_sub(trimmed.len()));
+    }
+    let end = whole.trim_end().len();
+    if is_header(whole.trim_end()) {
+        return Found::of(Slip::Trailing, end, whole.len());
+    }
+    match whole.strip_prefix(FRONT) {
+        Some(version) if !version.is_empty() => {
+            Found::of(Slip::NoVersion, FRONT.len(), whole.len())
+        }
+        _ => Found::of(Slip::NoHeader, 0, line.len()),
+    }
+}
+
+// Whether a line is the first one of a version.
+fn is_header(line: &str) -> bool {
+    header(Version::One).trim_end() == line || header(Version::Two).trim_end() == line
+}
+
+/// Whether a text has that fault since it ends before its last line, at the end of a line or within one.
+pub fn is_unended(text: &str, fault: TraceFault) -> bool {
+    match fault {
+        TraceFault::Header => false,
+        TraceFault::Line(number) => {
+            let line = line_of("", text, number);
+            line.start.saturating_add(line.line.len()) == text.len()
+        }
+    }
+}
+
+// What is against the line of that number, which is the first that is not of the form, or follows the last one.
+fn faulty_slip(alloc: Global, text: &str, number: usize) -> Result<Found, AllocError> {
+    let line = line_of("", text, number);
+    let has_feed = line.start.saturating_add(line.line.len()) < text.len();
+    let before = line_of("", text, number.saturating_sub(1)).line;
+    if line.line.is_empty() && !has_feed {
+        return Ok(Found::of(Slip::NoEnd, 0, 0));
+    }
+    if number > 2 && read_totals(before).is_some() {
+        return Ok(Found::of(Slip::AfterEnd, 0, line.line.len()));
+    }
+    if !has_feed {
+        let slip = if is_of_form(alloc, text, line.line)? {
+            Slip::NoFeed
+        } else {
+            Slip::CutOff
+        };
+        return Ok(Found::of(slip, line.line.len(), line.line.len()));
+    }
+    let whole = without_return(line.line);
+    if first_word(whole) == "end" {
+        return Ok(last_slip(whole, line.line));
+    }
+    line_slip(alloc, line.line, Kept::Trace)
+}
+
+// What is against the last line, with and without a carriage return at its end.
+fn last_slip(whole: &str, line: &str) -> Found {
+    match fields_slip(&SUMS, whole, 3) {
+        Some(found) => found,
+        None if whole.len() < line.len() => Found::of(Slip::Return, whole.len(), line.len()),
+        None => Found::of(Slip::Other, 0, line.len()),
+    }
+}
+
+// Whether a line is that of a record which a text may have that begins so, or has sums.
+fn is_of_form(alloc: Global, text: &str, line: &str) -> Result<bool, AllocError> {
+    let version = version_of(text);
+    Ok(read_totals(line).is_some() || read_record(alloc, version, line)?.is_some())
+}
+
+/// The version that a text's first line says; the second if it says none.
+pub fn version_of(text: &str) -> Version {
+    if text.starts_with(header(Version::One)) {
+        Version::One
+    } else {
+        Version::Two
+    }
+}

@@ -1,9 +1,10 @@
-// Whether an event is wanted. It relies on `show_events` for what is wanted, and on `engine_config` for which queues are under a
-// controller.
+// Whether an event is wanted. It relies on `show_events` for what is wanted, on `show_sense` for what sense data reports, and on
+// `engine_config` for which queues are under a controller.
 
 use ccb::{Place, QueueId};
 use engine_config::Config;
-use show_events::{Event, Filter};
+use show_events::{Event, Filter, RefusedFilter, SenseFilter};
+use show_sense::sense_code;
 
 /// Whether the event fits all that is wanted.
 pub(crate) fn fits(filter: &Filter, event: &Event, config: &Config) -> bool {
@@ -13,6 +14,42 @@ pub(crate) fn fits(filter: &Filter, event: &Event, config: &Config) -> bool {
         && is_at(filter.queue, event.subject.place, config)
         && filter.from.is_none_or(|from| from <= event.clock)
         && filter.to.is_none_or(|to| event.clock <= to)
+        && has_reported(filter, event)
+        && is_refused(filter.refused, event)
+}
+
+// Whether it is a completion that reports what is wanted of completions, or nothing is.
+fn has_reported(filter: &Filter, event: &Event) -> bool {
+    match filter.status {
+        Some(_) => event.scsi_status() == filter.status && has_sense(filter.sense, event),
+        None => has_sense(filter.sense, event),
+    }
+}
+
+// Whether it is a completion with the sense data that is wanted, or none is.
+fn has_sense(wanted: Option<SenseFilter>, event: &Event) -> bool {
+    let Some(wanted) = wanted else {
+        return true;
+    };
+    match sense_code(event.sense()) {
+        Some(code) => {
+            code.key == wanted.key
+                && wanted.asc.is_none_or(|asc| asc == code.asc)
+                && wanted.ascq.is_none_or(|ascq| ascq == code.ascq)
+        }
+        None => false,
+    }
+}
+
+// Whether it is a call that is refused so, or none is wanted.
+fn is_refused(wanted: Option<RefusedFilter>, event: &Event) -> bool {
+    match wanted {
+        None => true,
+        Some(RefusedFilter::Any) => event.happening.is_refused(),
+        Some(RefusedFilter::So(refusal)) => {
+            event.happening.is_refused() && event.values.refusal == refusal
+        }
+    }
 }
 
 // Whether that number is wanted, or none is.

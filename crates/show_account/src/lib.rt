@@ -3,9 +3,10 @@
 #![tactic(auto)]
 
 mod fitting;
+mod known;
 mod line;
 mod names;
 mod writing;
 
-pub use names::{failure_of, name_of_code, status_name};
+pub use line::{put_code, put_failure};
 pub use writing::account;

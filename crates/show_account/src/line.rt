@@ -1,9 +1,11 @@
-// The line of an event: when, where, and what. It relies on `show_events` for its words, and on `names` for names.
+// The line of an event: when, where, and what. It relies on `show_events` for its words, on `names` for names, and on `show_sense` for SCSI
+// statuses and sense data.
 
 use crate::names::{failure_of, name_of_code, status_name};
-use ccb::CamStatus;
+use ccb::{CallRefusal, CamStatus};
 use cli_text_page::Page;
 use show_events::{Cause, Event, Programs, Subject, Values};
+use show_sense::{put_scsi_status, put_sense, sense_code};
 
 /// How many digits a time has at least, and the bytes after it.
 const TIME: usize = 6;
@@ -67,6 +69,7 @@ fn put_value(part: &str, event: &Event, programs: &Programs<'_>, page: &mut Page
             let program = programs.of(event.queue().unwrap_or(u32::MAX));
             page.foreign(programs.name(program));
         }
+        Some(b'x') => put_why_not(event, page),
         Some(letter) => put_held(*letter, &event.values, page),
         None => {}
     }
@@ -86,12 +89,51 @@ fn put_held(letter: u8, values: &Values, page: &mut Page) {
         b'g' => page.number(u64::from(values.guest)),
         b's' => page.text(status_name(values.status)),
         b'v' => put_failure(values, page),
+        b'y' => put_reported(values, page),
         b'k' => put_code(values.code, page),
-        b'x' => page.text(values.refusal.cause()),
+        b'o' => page.shown(&values.refusal),
+        b'p' => put_openings(values.numbers[2], page),
         b'w' => put_cause(values.cause, page),
         b'b' => put_traced(values.bytes.as_slice(), page),
         _ => {}
     }
+}
+
+// Why a call is refused. If something is not there that it names, this says what.
+fn put_why_not(event: &Event, page: &mut Page) {
+    if event.values.refusal == CallRefusal::Unknown {
+        put_unknown(&event.subject, page);
+    } else {
+        page.text(event.values.refusal.cause());
+    }
+}
+
+// What of the subject of a call is not there: the run, else the CCB, else the queue or the controller. A CCB that has a queue was there.
+fn put_unknown(subject: &Subject, page: &mut Page) {
+    if let Some(run) = subject.run {
+        page.fill("no run {} is parked", &[u64::from(run)]);
+    } else if let Some(ccb) = subject.ccb {
+        let words = if subject.place.is_some() {
+            "ccb {} is finished"
+        } else {
+            "there is no ccb {}"
+        };
+        page.fill(words, &[u64::from(ccb)]);
+    } else if let Some(place) = subject.place {
+        page.text("there is no ");
+        page.text(place.kind_word());
+        page.fill(" {}", &[u64::from(place.number())]);
+    }
+}
+
+// So many openings.
+fn put_openings(count: u64, page: &mut Page) {
+    let words = if count == 1 {
+        "{} opening"
+    } else {
+        "{} openings"
+    };
+    page.fill(words, &[count]);
 }
 
 // So many times.
@@ -110,22 +152,50 @@ fn put_state(frozen: u32, page: &mut Page) {
     }
 }
 
-// What became of a CCB that failed: with the SCSI status and the sense bytes that came, if any did.
-fn put_failure(values: &Values, page: &mut Page) {
-    page.text(failure_of(values.status));
-    if values.status == CamStatus::ScsiStatusError || values.scsi != 0 {
-        page.text(" (");
-        page.byte(values.scsi);
-        page.text(")");
-    }
-    if !values.bytes.is_empty() {
-        page.text(" with sense ");
-        put_bytes(values.bytes.as_slice(), page);
+/// Puts what became of a CCB that failed: with the SCSI status and the sense that came, if any did.
+pub fn put_failure(values: &Values, page: &mut Page) {
+    if values.status == CamStatus::ScsiStatusError {
+        page.text("got SCSI status ");
+        put_status_and_sense(values, page);
+    } else {
+        page.text(failure_of(values.status));
+        put_reported(values, page);
     }
 }
 
-// A final code: the name of the status that it is, and its two digits.
-fn put_code(code: u8, page: &mut Page) {
+// The SCSI status and the sense that a completion reports, if it reports any.
+fn put_reported(values: &Values, page: &mut Page) {
+    if values.scsi != 0 {
+        page.text(" with SCSI status ");
+        put_status_and_sense(values, page);
+    } else if !values.bytes.is_empty() {
+        page.text(" with ");
+        put_sense_data(values.bytes.as_slice(), page);
+    }
+}
+
+// A SCSI status, and the sense data that came with it, if any did.
+fn put_status_and_sense(values: &Values, page: &mut Page) {
+    put_scsi_status(values.scsi, page);
+    if !values.bytes.is_empty() {
+        page.text(", ");
+        put_sense_data(values.bytes.as_slice(), page);
+    }
+}
+
+// Sense data: decoded, or as its bytes if it is of no known format.
+fn put_sense_data(bytes: &[u8], page: &mut Page) {
+    match sense_code(bytes) {
+        Some(code) => put_sense(code, page),
+        None => {
+            page.text("sense bytes ");
+            put_bytes(bytes, page);
+        }
+    }
+}
+
+/// Puts a final code: the name of the status that it is, and its two digits.
+pub fn put_code(code: u8, page: &mut Page) {
     let name = name_of_code(code);
     let (before, after) = if name.is_empty() {
         ("code ", "")

@@ -3,7 +3,7 @@
 use ccb::CamStatus;
 
 /// The name of a status, in words.
-pub fn status_name(status: CamStatus) -> &'static str {
+pub(crate) fn status_name(status: CamStatus) -> &'static str {
     match status {
         CamStatus::RequestInProgress => "request in progress",
         CamStatus::RequestCompleted => "request completed",
@@ -19,7 +19,7 @@ pub fn status_name(status: CamStatus) -> &'static str {
 }
 
 /// What became of a CCB that failed with that status, as `timed out`.
-pub fn failure_of(status: CamStatus) -> &'static str {
+pub(crate) fn failure_of(status: CamStatus) -> &'static str {
     match status {
         CamStatus::RequestInProgress => "was in progress",
         CamStatus::RequestCompleted => "was completed",
@@ -34,8 +34,8 @@ pub fn failure_of(status: CamStatus) -> &'static str {
     }
 }
 
-/// The name of the status that a final code is; nothing where it is none.
-pub fn name_of_code(code: u8) -> &'static str {
+/// The name of the status that a final code is; nothing if it is none.
+pub(crate) fn name_of_code(code: u8) -> &'static str {
     match CamStatus::from_code(code) {
         Some(status) => status_name(status),
         None => "",

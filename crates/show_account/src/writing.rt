@@ -1,29 +1,31 @@
 // The account of a whole trace, or of what of it is wanted. It relies on `show_events` for the events, and on `line` for their lines.
 
 use crate::fitting::fits;
+use crate::known::Known;
 use crate::line::put_line;
 use cli_text_page::Page;
 use engine_config::Config;
-use show_events::{Event, Filter, NamedAccepted, Programs, Walk};
+use show_events::{Ending, Event, Filter, NamedAccepted, Programs, Shown, Walk};
 use std::alloc::{AllocError, Global};
 use std::io;
 use std::io::Write;
-use world_calls::{Record, Trace};
+use world_calls::Record;
 
 /// Writes a line for each event of a trace of this configuration that fits the filter: the clock in milliseconds, the queue or the
-/// controller, and what happened. If none fits it says so. The programs are the manifest's, with their names. The trace is one that a
-/// replay accepts. Of its lines it keeps nothing: what it takes is for what is live. It fails if memory is refused, as such an
-/// error, or if the writer does; some may be out then.
+/// controller, and what happened. If none fits it says so, and if there is no such queue, CCB, run or freeze it says that. The programs
+/// are the manifest's, with their names. The trace is one that a replay accepts, or is open. Of its lines it keeps nothing: what it takes
+/// is for what is live, and a byte for each CCB. It fails if memory is refused, as such an error, or if the writer does; some may be out
+/// then.
 pub fn account<'a, W: Write>(
     alloc: Global,
     config: &'a Config,
     named: &'a [NamedAccepted<'a>],
-    trace: &Trace,
+    shown: Shown<'_>,
     filter: &Filter,
     out: &mut W,
 ) -> io::Result<()> {
     let mut telling = Telling::open(alloc, config, named)?;
-    telling.write(trace, filter, out)
+    telling.write(shown, filter, out)
 }
 
 /// A walk along a trace, with the lines of the record that it came to.
@@ -33,6 +35,7 @@ struct Telling<'a> {
     programs: Programs<'a>,
     walk: Walk<'a>,
     events: Vec<Event>,
+    known: Known,
     page: Page,
 }
 
@@ -48,14 +51,20 @@ impl<'a> Telling<'a> {
             programs: Programs::new(alloc, config, named)?,
             walk: Walk::open(alloc, config)?,
             events: Vec::new(alloc),
+            known: Known::default(),
             page: Page::new(alloc),
         })
     }
 
     // Writes the lines of all events that fit.
-    fn write<W: Write>(&mut self, trace: &Trace, filter: &Filter, out: &mut W) -> io::Result<()> {
+    fn write<W: Write>(
+        &mut self,
+        shown: Shown<'_>,
+        filter: &Filter,
+        out: &mut W,
+    ) -> io::Result<()> {
         let mut has_any = false;
-        for record in trace.records.iter() {
+        for record in shown.trace.records.iter() {
             if self.goes_on(record, filter)? {
                 has_any = true;
                 self.page.write_to(out)?;
@@ -63,6 +72,11 @@ impl<'a> Telling<'a> {
         }
         if !has_any {
             self.page.text("no event fits\n");
+        }
+        self.known.put_missing(filter, self.config, &mut self.page);
+        if let Ending::Open | Ending::Cut = shown.ending {
+            self.page.fill(shown.words(), &[shown.line()]);
+            self.page.text("\n");
         }
         self.page.write_to(out)
     }
@@ -74,6 +88,7 @@ impl<'a> Telling<'a> {
         self.events.clear();
         self.walk.step(record, &mut self.events)?;
         for event in &self.events {
+            self.known.see(event);
             if fits(filter, event, self.config) {
                 put_line(event, &self.programs, width, &mut self.page);
                 has_any = true;

@@ -65,7 +65,7 @@ fn queue_values(info: QueueInfo) -> Values {
 }
 
 impl Walk<'_> {
-    /// Goes behind the record of an advance, and tells it.
+    /// Goes on by the record of an advance, and tells it.
     pub(crate) fn advanced(
         &mut self,
         run: u32,
@@ -175,7 +175,7 @@ impl Walk<'_> {
         })
     }
 
-    // The run took a freeze, or none where it was answered 0.
+    // The run took a freeze, or none if it was answered 0.
     fn taken(
         &mut self,
         caller: &Caller,

@@ -4,12 +4,12 @@ use crate::event::{Cause, Event, Subject, Values};
 use crate::happening::Happening;
 use crate::times::RunTimes;
 use crate::walk::Walk;
-use ccb::{CcbId, Place, QueueId};
+use ccb::{Place, QueueId};
 use std::alloc::AllocError;
 use world_calls::{Call, CallAnswer, CompletionRecord};
 
 impl Walk<'_> {
-    /// Goes behind the record of a call, and tells it.
+    /// Goes on by the record of a call, and tells it.
     pub(crate) fn called(
         &mut self,
         answer: CallAnswer,
@@ -30,9 +30,8 @@ impl Walk<'_> {
                 self.dispatched(answer, *queue, events)
             }
             Call::Complete { completion } => {
-                let queue = self.queue_of(completion.ccb());
                 let _ = self.engine.call(call)?;
-                self.completed(answer, completion, queue, events)
+                self.completed(answer, completion, events)
             }
             Call::GuestFreeze { place, guest } => {
                 let _ = self.engine.call(call)?;
@@ -42,9 +41,9 @@ impl Walk<'_> {
                 let _ = self.engine.call(call)?;
                 self.given_back_by_guest(*freeze, events)
             }
-            Call::Clock { reading: _ } => {
+            Call::Clock { reading } => {
                 let _ = self.engine.call(call)?;
-                self.clock_read(answer, events)
+                self.clock_read(answer, *reading, events)
             }
             Call::Park { run } => {
                 let _ = self.engine.call(call)?;
@@ -60,11 +59,6 @@ impl Walk<'_> {
                 self.resumed(answer, *run, events)
             }
         }
-    }
-
-    // The queue of a live CCB.
-    fn queue_of(&self, ccb: CcbId) -> Option<QueueId> {
-        Some(self.engine.ccb(ccb)?.ccb().queue)
     }
 
     /// A run, with its CCB and queue.
@@ -92,7 +86,7 @@ impl Walk<'_> {
         };
         match answer {
             CallAnswer::Ccb(ccb) => {
-                let _ = self.times.move_ccb(ccb.0, self.engine.clock())?;
+                self.times.submit(ccb.0, queue, self.engine.clock())?;
                 subject.ccb = Some(ccb.0);
                 let values = Values::numbers(u64::from(priority), u64::from(retries));
                 self.tell(subject, Happening::Submitted, values, events)
@@ -156,20 +150,18 @@ impl Walk<'_> {
         &mut self,
         answer: CallAnswer,
         completion: &CompletionRecord,
-        queue: Option<QueueId>,
         events: &mut Vec<Event>,
     ) -> Result<(), AllocError> {
         let ccb = completion.ccb().0;
-        let status = completion.status();
         let mut subject = Subject {
             ccb: Some(ccb),
-            place: queue.map(Place::Device),
+            place: self.times.queue_of(ccb).map(Place::Device),
             ..Subject::default()
         };
         match answer {
             CallAnswer::Done => {
                 let active = self.times.drop_ccb(ccb, self.engine.clock());
-                let values = Values::numbers(active, 0);
+                let values = Values::reported(completion, active);
                 self.tell(subject, Happening::Completed, values, events)
             }
             CallAnswer::Started { run, freeze } => {
@@ -179,8 +171,8 @@ impl Walk<'_> {
             }
             CallAnswer::Refused(refusal) => {
                 let values = Values {
-                    status,
-                    ..Values::refused(refusal)
+                    refusal,
+                    ..Values::reported(completion, 0)
                 };
                 self.tell(subject, Happening::NotCompleted, values, events)
             }
@@ -220,10 +212,8 @@ impl Walk<'_> {
             Happening::Failed
         };
         let values = Values {
-            status,
-            scsi: completion.scsi(),
-            bytes: completion.sense(),
-            ..Values::frozen(frozen, active)
+            frozen,
+            ..Values::reported(completion, active)
         };
         self.tell(subject, happening, values, events)
     }

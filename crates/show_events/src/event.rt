@@ -4,7 +4,7 @@
 use crate::happening::Happening;
 use base::ShortBytes;
 use ccb::{CamStatus, Place};
-use world_calls::CallRefusal;
+use world_calls::{CallRefusal, CompletionRecord};
 
 /// What an event is about. What it is not about is absent.
 #[derive(Clone, Copy, Default)]
@@ -80,6 +80,16 @@ impl Values {
         }
     }
 
+    /// What a completion reports, and a time.
+    pub(crate) fn reported(completion: &CompletionRecord, time: u64) -> Self {
+        Values {
+            status: completion.status(),
+            scsi: completion.scsi(),
+            bytes: completion.sense(),
+            ..Values::numbers(time, 0)
+        }
+    }
+
     /// How often the place is frozen, and a time.
     pub(crate) fn frozen(frozen: u32, time: u64) -> Self {
         Values {
@@ -100,6 +110,29 @@ pub struct Event {
 }
 
 impl Event {
+    /// The SCSI status that a completion reports, be it taken or refused. None if its device reported no status: the command was not
+    /// carried out, and the byte is 0.
+    pub fn scsi_status(&self) -> Option<u8> {
+        let was_carried_out = matches!(
+            self.values.status,
+            CamStatus::RequestCompleted | CamStatus::ScsiStatusError
+        );
+        if self.happening.is_report() && (was_carried_out || self.values.scsi != 0) {
+            Some(self.values.scsi)
+        } else {
+            None
+        }
+    }
+
+    /// The sense data that a completion reports, be it taken or refused; nothing if it reports none.
+    pub fn sense(&self) -> &[u8] {
+        if self.happening.is_report() {
+            self.values.bytes.as_slice()
+        } else {
+            &[]
+        }
+    }
+
     /// The queue that it is about, if it is a queue.
     pub fn queue(&self) -> Option<u32> {
         match self.subject.place {

@@ -19,6 +19,7 @@ pub enum Happening {
     Failed,
     /// The CCB failed, and the run begins without a freeze.
     FailedAtLimit,
+    /// A completion was refused. The CCB has its queue if it was ever submitted.
     NotCompleted,
     /// A guest took the freeze.
     FrozenByGuest,
@@ -27,6 +28,7 @@ pub enum Happening {
     GivenBackByGuest,
     /// The clock was read, and no timer came.
     ClockRead,
+    /// A reading was refused: which one.
     NotRead,
     /// The timer of the freeze came: how long the freeze was there.
     TimerCame,
@@ -57,32 +59,60 @@ pub enum Happening {
 // In the words of a happening stand, each after a `%`:
 //
 // - `c`, `r`, `f`: the CCB, the run and the freeze that it is about, with the word for it;
-// - `1` to `5`: numbers; `t`: so many times; `z`: that the place is frozen so many times still, or thawed;
-// - `s`: a status by its name; `v`: what became of the CCB; `k`: a final code by its name; `x`: why not;
+// - `1` to `5`: numbers; `p`: the third number, of openings; `t`: so many times; `z`: that the place is frozen so many times still, or thawed;
+// - `s`: a CAM status by its name; `v`: what became of a CCB that failed; `y`: the SCSI status and the sense that came, if any did; `k`: a final code by its name;
+// - `x`: why a call is refused; `o`: the code of the refusal;
 // - `g`: a guest; `n`: the name of the queue's program; `w`: why the freeze was there; `b`: bytes, as digits and as text.
 impl Happening {
+    /// Whether a completion was taken.
+    pub fn is_completion(self) -> bool {
+        matches!(
+            self,
+            Happening::Completed | Happening::Failed | Happening::FailedAtLimit
+        )
+    }
+
+    /// Whether a completion came, be it taken or refused.
+    pub(crate) fn is_report(self) -> bool {
+        matches!(self, Happening::NotCompleted) || self.is_completion()
+    }
+
+    /// Whether a call was refused.
+    pub fn is_refused(self) -> bool {
+        matches!(
+            self,
+            Happening::NotSubmitted
+                | Happening::NotStarted
+                | Happening::NotStartedFrozen
+                | Happening::NotCompleted
+                | Happening::NotFrozenByGuest
+                | Happening::NotRead
+                | Happening::NotResumed
+        )
+    }
+
     /// The words that tell it, with a letter after a `%` for each value.
     pub fn words(self) -> &'static str {
         match self {
             Happening::Submitted => "%c waits: priority %1, retries %2",
-            Happening::NotSubmitted => "no ccb is submitted: %x",
+            Happening::NotSubmitted => "no ccb is submitted: %x (%o)",
             Happening::Started => "%c starts: attempt %1, it waited %2 ms",
-            Happening::NotStarted => "no ccb starts: %x",
-            Happening::NotStartedFrozen => "no ccb starts: %x, %t",
-            Happening::Completed => "%c is finished: request completed (01) after %1 ms",
+            Happening::NotStarted => "no ccb starts: %x (%o)",
+            Happening::NotStartedFrozen => "no ccb starts: %x, %t (%o)",
+            Happening::Completed => "%c is finished: request completed (01)%y after %1 ms",
             Happening::Failed => "%c %v after %1 ms: frozen %t by %f, and %r of %n begins",
             Happening::FailedAtLimit =>
-                "%c %v after %1 ms: no freeze at a limit, and %r of %n begins",
-            Happening::NotCompleted => "no completion of %c (%s): %x",
+                "%c %v after %1 ms: no freeze was taken, since a limit is reached; %r of %n begins",
+            Happening::NotCompleted => "no completion of %c (%s%y): %x (%o)",
             Happening::FrozenByGuest => "frozen %t: guest %g took %f",
-            Happening::NotFrozenByGuest => "no freeze for guest %g: %x",
+            Happening::NotFrozenByGuest => "no freeze for guest %g: %x (%o)",
             Happening::GivenBackByGuest => "%z: guest %g gave %f back after %1 ms",
             Happening::ClockRead => "no timer came",
-            Happening::NotRead => "not read: %x",
+            Happening::NotRead => "the reading %1 ms is refused: %x (%o)",
             Happening::TimerCame => "%z: the timer of %f came (%1 ms after %w)",
             Happening::Parked => "%r is parked",
             Happening::Resumed => "%r goes on",
-            Happening::NotResumed => "%r does not go on: %x",
+            Happening::NotResumed => "%r does not go on: %x (%o)",
             Happening::FrozenByRun => "frozen %t: %r took %f",
             Happening::NotFrozenByRun => "no freeze for %r: a limit is reached",
             Happening::GivenBackByRun => "%z: %r gave %f back after %1 ms",
@@ -102,8 +132,7 @@ fn words_of_effect(effect: HelperEffect) -> &'static str {
         HelperEffect::GetWord => "%r read word %2 of table %1: %4",
         HelperEffect::PutWord => "%r put word %2 of table %1: %4, then %3",
         HelperEffect::AddWord => "%r added to word %2 of table %1: %5, then %4",
-        HelperEffect::TellQueue =>
-            "%r read its queue: frozen %t, %1 active, %2 waiting, %3 openings",
+        HelperEffect::TellQueue => "%r read its queue: frozen %t, %1 active, %2 waiting, %p",
         HelperEffect::SetOpenings => "%r set the openings: %4, then %1",
         HelperEffect::TellController => "%r read how often it is frozen: %t",
         _ => "%r read the clock",

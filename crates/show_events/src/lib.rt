@@ -8,13 +8,15 @@ mod event;
 mod filter;
 mod happening;
 mod programs;
+mod shown;
 mod timers;
 mod times;
 mod walk;
 
 pub use event::{Cause, Event, Subject, Values};
-pub use filter::Filter;
+pub use filter::{Filter, RefusedFilter, SenseFilter};
 pub use happening::Happening;
 pub use programs::{NamedAccepted, Programs};
+pub use shown::{Ending, Shown};
 pub use times::{FreezeTimes, RunTimes};
 pub use walk::Walk;

@@ -44,7 +44,7 @@ impl<'a> Programs<'a> {
         self.named.is_empty()
     }
 
-    /// Which of them the queue has; behind the last where it has none of them.
+    /// Which of them the queue has; after the last if it has none of them.
     pub fn of(&self, queue: u32) -> usize {
         match self.of_queues.get(queue as usize) {
             Some(place) => *place,
@@ -52,7 +52,7 @@ impl<'a> Programs<'a> {
         }
     }
 
-    /// The name of one; nothing behind the last.
+    /// The name of one; nothing after the last.
     pub fn name(&self, place: usize) -> &'a str {
         match self.named.get(place) {
             Some(program) => program.name,
@@ -60,7 +60,7 @@ impl<'a> Programs<'a> {
         }
     }
 
-    /// The most instructions of a run of one; 0 behind the last.
+    /// The most instructions of a run of one; 0 after the last.
     pub fn budget(&self, place: usize) -> u32 {
         match self.named.get(place) {
             Some(program) => program.accepted.budget(),
@@ -69,7 +69,7 @@ impl<'a> Programs<'a> {
     }
 }
 
-// Where the first of them stands that has these instructions; behind the last where none has.
+// Where the first of them stands that has these instructions; after the last if none has.
 fn place_of(program: &Accepted, named: &[NamedAccepted<'_>]) -> usize {
     for (place, other) in named.iter().enumerate() {
         if *other.accepted.program() == *program.program() {

@@ -9,10 +9,11 @@ use std::alloc::AllocError;
 use world_calls::CallAnswer;
 
 impl Walk<'_> {
-    /// The clock was read, and the engine is behind it.
+    /// The clock was read, and the engine has taken the reading.
     pub(crate) fn clock_read(
         &mut self,
         answer: CallAnswer,
+        reading: u64,
         events: &mut Vec<Event>,
     ) -> Result<(), AllocError> {
         match answer {
@@ -24,7 +25,10 @@ impl Walk<'_> {
             ),
             CallAnswer::Removed(_) => self.timers_came(events),
             CallAnswer::Refused(refusal) => {
-                let values = Values::refused(refusal);
+                let values = Values {
+                    refusal,
+                    ..Values::numbers(reading, 0)
+                };
                 self.tell(Subject::default(), Happening::NotRead, values, events)
             }
             _ => Ok(()),
@@ -38,7 +42,7 @@ impl Walk<'_> {
             let Some(number) = self.came.get(at).copied() else {
                 return Ok(());
             };
-            let more = self.gone_behind(at);
+            let more = self.gone_after(at);
             if let Some(times) = self.times.freezes.remove(&number) {
                 self.timer_came(number, &times, more, events)?;
             }
@@ -58,8 +62,8 @@ impl Walk<'_> {
         Ok(())
     }
 
-    // How many freezes of the same place went behind that one.
-    fn gone_behind(&self, at: usize) -> u32 {
+    // How many freezes of the same place went after that one.
+    fn gone_after(&self, at: usize) -> u32 {
         let mut count = 0u32;
         let Some(first) = self.place_gone(at) else {
             return 0;

@@ -1,8 +1,8 @@
-// What of a trace only time tells: since when a CCB is where it is, a freeze is there, and a run is live. By number, beside the world,
-// which says the rest. It relies on `event` for why a freeze is there.
+// What of a trace the world does not say: since when a CCB is where it is, a freeze is there, and a run is live; and the queue of each CCB,
+// also of one that is finished. It relies on `event` for why a freeze is there.
 
 use crate::event::Cause;
-use ccb::{CamStatus, Place};
+use ccb::{CamStatus, Place, QueueId};
 use std::alloc::{AllocError, Global};
 use std::collections::BTreeMap;
 
@@ -23,22 +23,42 @@ pub struct RunTimes {
     pub instructions: u64,
 }
 
-/// Of all that is live.
+/// Of all that is live; and of each CCB that was submitted its queue, by its number less 1.
 #[derive(Drop)]
 pub(crate) struct Times {
     pub(crate) ccbs: BTreeMap<u32, u64>,
     pub(crate) freezes: BTreeMap<u32, FreezeTimes>,
     pub(crate) runs: BTreeMap<u32, RunTimes>,
+    queues: Vec<u8>,
 }
 
 impl Times {
-    /// Nothing is live.
+    /// Nothing is live, and no CCB was submitted.
     pub(crate) fn new(alloc: Global) -> Self {
         Times {
             ccbs: BTreeMap::new(alloc),
             freezes: BTreeMap::new(alloc),
             runs: BTreeMap::new(alloc),
+            queues: Vec::new(alloc),
         }
+    }
+
+    /// A CCB was submitted to that queue: the next one, since CCBs are numbered as they come.
+    pub(crate) fn submit(
+        &mut self,
+        ccb: u32,
+        queue: QueueId,
+        clock: u64,
+    ) -> Result<(), AllocError> {
+        let _ = self.move_ccb(ccb, clock)?;
+        self.queues.push(u8::try_from(queue.0).unwrap_or(u8::MAX))?;
+        Ok(())
+    }
+
+    /// The queue to which the CCB of that number was submitted, if there was one.
+    pub(crate) fn queue_of(&self, ccb: u32) -> Option<QueueId> {
+        let queue = self.queues.get(ccb.wrapping_sub(1) as usize)?;
+        Some(QueueId(u32::from(*queue)))
     }
 
     /// The CCB is where it is since that reading: how long it was where it was before.

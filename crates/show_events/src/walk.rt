@@ -12,7 +12,7 @@ use std::alloc::{AllocError, Global};
 use std::collections::BTreeMap;
 use world_calls::Record;
 
-/// The world behind some records of a trace, with what only time tells.
+/// The world after some records of a trace, with what only time tells.
 #[derive(Drop)]
 pub struct Walk<'a> {
     pub(crate) config: &'a Config,
@@ -33,7 +33,7 @@ impl<'a> Walk<'a> {
         })
     }
 
-    /// Goes behind one record more, which has to follow as a replay says, and puts what it tells behind the events: one event a
+    /// Goes on by one record, which has to follow as a replay says, and puts what it tells after the events: one event a
     /// record, but for a clock reading, which tells one for each timer that came. A record that does not follow tells what it says
     /// of itself.
     pub fn step(&mut self, record: &Record, events: &mut Vec<Event>) -> Result<(), AllocError> {
@@ -48,7 +48,7 @@ impl<'a> Walk<'a> {
         }
     }
 
-    /// The engine behind the records.
+    /// The engine after the records.
     pub fn engine(&self) -> &NumberedEngine<'a> {
         &self.engine
     }

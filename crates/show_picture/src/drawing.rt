@@ -1,7 +1,7 @@
 // Draws stretches: the wide ones each by itself, with a text, and those that are too thin together, a path a row of a lane. It relies on
 // `lanes` and `scale` for where, and on `widths` for which are wide.
 
-use crate::lanes::{LEFT, Lanes};
+use crate::lanes::Lanes;
 use crate::scale::{COLUMNS, Scale};
 use crate::stretch::{ROWS, Row, Stretch, What};
 use crate::widths::{LEAST, MOST, Widths, width_of};
@@ -113,7 +113,10 @@ impl Drawing {
     // Puts a stretch by itself.
     fn put_wide(&self, stretch: &Stretch, page: &mut Page) {
         let (below, height) = stretch.row.extent();
-        let x = self.scale.column(stretch.from).saturating_add(LEFT);
+        let x = self
+            .scale
+            .column(stretch.from)
+            .saturating_add(self.lanes.left);
         let lane = self.lanes.lane(stretch.place);
         let y = self.lanes.top(lane).saturating_add(below);
         let width = width_of(stretch, &self.scale);
@@ -157,7 +160,7 @@ impl Drawing {
         let y = self.lanes.top(lane).saturating_add(below);
         let mut has_any = false;
         let mut width = 0u64;
-        let mut x = LEFT;
+        let mut x = self.lanes.left;
         for is_marked in &thin.columns {
             if *is_marked {
                 width = width.saturating_add(1);

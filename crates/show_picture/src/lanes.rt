@@ -1,29 +1,38 @@
 // The lanes of a picture: one for each queue and, below these, one for each controller. It relies on `engine_config` for how many there
-// are.
+// are, and on `show_events` for the names that stand before them.
 
 use ccb::Place;
 use engine_config::Config;
+use show_events::Programs;
 
-/// How high a lane is, where the first begins, and where the columns begin.
+/// How high a lane is, and where the first begins.
 pub(crate) const HEIGHT: u64 = 36;
 
 pub(crate) const TOP: u64 = 64;
 
-pub(crate) const LEFT: u64 = 190;
+/// Where the names of lanes begin, and where the columns begin at least.
+pub(crate) const NAMES: u64 = 8;
 
-/// How many lanes there are of each kind.
+const LEFT: u64 = 190;
+
+/// How wide a character of a program's name is at most. A name has letters, digits and `_` and `-` alone, and they are all as wide.
+const CHARACTER: u64 = 7;
+
+/// How many lanes there are of each kind, and where their columns begin.
 #[derive(Clone, Copy)]
 pub(crate) struct Lanes {
     pub(crate) queues: u32,
     pub(crate) controllers: u32,
+    pub(crate) left: u64,
 }
 
 impl Lanes {
-    /// Those of a configuration.
-    pub(crate) fn of(config: &Config) -> Self {
+    /// Those of a configuration. The columns begin after the longest name of a program.
+    pub(crate) fn of(config: &Config, programs: &Programs<'_>) -> Self {
         Lanes {
             queues: config.queues(),
             controllers: config.controllers(),
+            left: LEFT.max(longest(programs)),
         }
     }
 
@@ -51,4 +60,15 @@ impl Lanes {
     pub(crate) fn bottom(&self) -> u64 {
         self.top(self.count())
     }
+}
+
+// Where the longest name of a program ends, and some more.
+fn longest(programs: &Programs<'_>) -> u64 {
+    let mut most = 0usize;
+    for program in 0..programs.len() {
+        most = most.max(programs.name(program).len());
+    }
+    (most as u64)
+        .saturating_mul(CHARACTER)
+        .saturating_add(2 * NAMES)
 }

@@ -5,6 +5,7 @@ mod drawing;
 mod escaped;
 mod frame;
 mod lanes;
+mod marks;
 mod picture;
 mod scale;
 mod stretch;

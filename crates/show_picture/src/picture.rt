@@ -1,32 +1,33 @@
 // The picture of a whole trace. It relies on `tracking` for the stretches, and on `drawing` and `frame` for how they are drawn.
 
 use crate::drawing::Drawing;
-use crate::frame::{begin, end};
+use crate::frame::{Thin, begin, end};
 use crate::lanes::Lanes;
+use crate::marks::Marks;
 use crate::scale::Scale;
 use crate::tracking::Tracking;
 use cli_text_page::Page;
 use engine_config::Config;
-use show_events::{Event, NamedAccepted, Programs, Walk};
+use show_events::{Event, NamedAccepted, Programs, Shown, Walk};
 use std::alloc::{AllocError, Global};
 use std::io;
 use std::io::Write;
 use world_calls::{Record, Trace};
 
 /// Writes the picture of a trace of this configuration as SVG: a lane for each queue and each controller, over the clock in milliseconds,
-/// or over the records if the clock never moved. In a lane stand the stretches for which a CCB was active, one waited, and
-/// the place was frozen by a run, a timer or a guest, each with its numbers as a hover text. Stretches too thin to see are drawn together,
-/// and the picture says so. The programs are the manifest's, with their names. The trace is one that a replay accepts. It fails if memory
-/// is refused, as such an error, or if the writer does; some may be out then.
+/// or over the records if the clock never moved. In a lane stand the stretches for which a CCB was active, one waited, and the place was
+/// frozen by a run, a timer or a guest, each with its numbers as a hover text, and marks where a CCB failed and where a run finished one.
+/// Stretches too thin to see are drawn together, and the picture says so. The programs are the manifest's, with their names. The trace is
+/// one that a replay accepts, or is open. It fails if memory is refused, as such an error, or if the writer does; some may be out then.
 pub fn draw<'a, W: Write>(
     alloc: Global,
     config: &'a Config,
     named: &'a [NamedAccepted<'a>],
-    trace: &Trace,
+    shown: Shown<'_>,
     out: &mut W,
 ) -> io::Result<()> {
-    let mut picture = Picture::open(alloc, config, named, trace)?;
-    picture.write(trace, out)
+    let mut picture = Picture::open(alloc, config, named, shown.trace)?;
+    picture.write(shown, out)
 }
 
 /// A picture of a trace, on which the stretches are drawn that ended up to some record.
@@ -39,6 +40,7 @@ struct Picture<'a> {
     events: Vec<Event>,
     tracking: Tracking,
     drawing: Drawing,
+    marks: Marks,
     page: Page,
 }
 
@@ -51,15 +53,17 @@ impl<'a> Picture<'a> {
         trace: &Trace,
     ) -> Result<Self, AllocError> {
         let scale = Scale::of(trace);
-        let lanes = Lanes::of(config);
+        let programs = Programs::new(alloc, config, named)?;
+        let lanes = Lanes::of(config, &programs);
         Ok(Picture {
             scale,
             lanes,
-            programs: Programs::new(alloc, config, named)?,
+            programs,
             walk: Walk::open(alloc, config)?,
             events: Vec::new(alloc),
             tracking: Tracking::new(alloc),
             drawing: Drawing::new(alloc, scale, lanes)?,
+            marks: Marks::new(alloc, scale, lanes)?,
             page: Page::new(alloc),
         })
     }
@@ -75,7 +79,7 @@ impl<'a> Picture<'a> {
         self.drawing.trim()
     }
 
-    // Goes behind the record of that number, from 1.
+    // Goes on by the record of that number, from 1.
     fn step(&mut self, record: &Record, number: usize) -> Result<(), AllocError> {
         self.events.clear();
         self.walk.step(record, &mut self.events)?;
@@ -84,17 +88,24 @@ impl<'a> Picture<'a> {
             if let Some(stretch) = self.tracking.see(event, at)? {
                 self.drawing.add(&stretch)?;
             }
+            self.marks.see(event, at)?;
         }
         Ok(())
     }
 
     // Writes the picture of the whole trace.
-    fn write<W: Write>(&mut self, trace: &Trace, out: &mut W) -> io::Result<()> {
-        self.go(trace)?;
-        let (columns, thinner) = self.drawing.limit();
+    fn write<W: Write>(&mut self, shown: Shown<'_>, out: &mut W) -> io::Result<()> {
+        self.go(shown.trace)?;
+        let (columns, stretches) = self.drawing.limit();
+        let thin = Thin {
+            stretches,
+            columns,
+            marks: self.marks.further(),
+        };
         begin(&self.lanes, &self.scale, &self.programs, &mut self.page);
         self.drawing.write(&mut self.page, out)?;
-        end(&self.lanes, &self.scale, columns, thinner, &mut self.page);
+        self.marks.write(&mut self.page, out)?;
+        end(&self.lanes, &self.scale, thin, shown, &mut self.page);
         self.page.write_to(out)
     }
 }

@@ -6,6 +6,12 @@ use world_calls::{Call, CallAnswer, Record, Trace};
 /// How many columns the picture has for its time.
 pub(crate) const COLUMNS: u64 = 1200;
 
+/// How many steps of the scale there are at most.
+pub(crate) const STEPS: u64 = 8;
+
+/// How many round steps there are: three for each power of ten.
+const ROUND: u32 = 60;
+
 /// By what the picture goes from left to right, and from where to where.
 #[derive(Clone, Copy)]
 pub(crate) struct Scale {
@@ -53,6 +59,32 @@ impl Scale {
         }
     }
 
+    /// The least of the steps 1, 2, 5, 10, 20, 50 and so on of which the picture has no more than may be.
+    pub(crate) fn step(&self) -> u64 {
+        let span = self.last.saturating_sub(self.first);
+        let mut power = 1u64;
+        let mut digit = 1u64;
+        for _ in 0..ROUND {
+            if digit.saturating_mul(power).saturating_mul(STEPS) < span {
+                if digit == 5 {
+                    power = power.saturating_mul(10);
+                }
+                digit = next_digit(digit);
+            }
+        }
+        digit.saturating_mul(power)
+    }
+
+    /// The first multiple of the step that the picture has.
+    pub(crate) fn first_multiple(&self, step: u64) -> u64 {
+        let beyond = self.first.checked_rem(step).unwrap_or(0);
+        if beyond == 0 {
+            self.first
+        } else {
+            self.first.saturating_sub(beyond).saturating_add(step)
+        }
+    }
+
     /// Its column, 0 to COLUMNS.
     pub(crate) fn column(&self, place: u64) -> u64 {
         let span = self.last.saturating_sub(self.first);
@@ -65,6 +97,15 @@ impl Scale {
         }
         let column = u128::from(from) * u128::from(COLUMNS) / u128::from(span);
         u64::try_from(column).unwrap_or(COLUMNS).min(COLUMNS)
+    }
+}
+
+// The first digit of the round number that comes after one with that digit.
+fn next_digit(digit: u64) -> u64 {
+    match digit {
+        1 => 2,
+        2 => 5,
+        _ => 1,
     }
 }
 

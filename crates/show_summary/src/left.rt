@@ -8,7 +8,7 @@ use show_events::{FreezeTimes, RunTimes, Walk};
 
 /// Puts what is left, a line each.
 pub(crate) fn print_left(walk: &Walk<'_>, page: &mut Page) {
-    page.fill("left at {} ms\n", &[walk.clock()]);
+    page.fill("left at the end, {} ms\n", &[walk.clock()]);
     if walk.runs().is_empty() && walk.freezes().is_empty() && walk.ccbs().is_empty() {
         page.text("  nothing\n");
     }
@@ -73,9 +73,9 @@ fn print_ccb(walk: &Walk<'_>, ccb: u32, since: u64, page: &mut Page) {
         return;
     };
     let pattern = match it.state() {
-        CcbState::Waiting => "  ccb {} of queue {} waits since {} ms\n",
-        CcbState::Active => "  ccb {} of queue {} is active since {} ms\n",
-        CcbState::InRecovery => "  ccb {} of queue {} is in recovery since {} ms\n",
+        CcbState::Waiting => "  ccb {} of queue {} has waited since {} ms\n",
+        CcbState::Active => "  ccb {} of queue {} has been active since {} ms\n",
+        CcbState::InRecovery => "  ccb {} of queue {} has been in recovery since {} ms\n",
     };
     let queue = u64::from(it.ccb().queue.0);
     page.fill(pattern, &[u64::from(ccb), queue, since]);

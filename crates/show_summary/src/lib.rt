@@ -2,13 +2,19 @@
 // counted over the records alone, by `show_counts`; how long, over the events, which `show_events` tells.
 #![tactic(auto)]
 
+mod attempts;
+mod durations;
 mod frozen;
 mod left;
 mod openings;
 mod places;
 mod programs;
 mod queues;
+mod refusals;
+mod reports;
+mod seen;
 mod summary;
 mod sums;
+mod words;
 
 pub use summary::summarise;

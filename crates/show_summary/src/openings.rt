@@ -84,7 +84,7 @@ impl Openings {
         }
         let more = self.count.saturating_sub(TOLD as u64);
         if more > 0 {
-            page.fill(", and behind {} further changes {}", &[more, self.last]);
+            page.fill(", and after {} further changes {}", &[more, self.last]);
         }
     }
 }

@@ -1,38 +1,51 @@
 // What a summary says of a queue. It relies on `sums`, and on `show_account` for the names of statuses and codes.
 
-use crate::places::print_frozen;
+use crate::places::{print_frozen, print_its_controller};
 use crate::sums::Sums;
 use ccb::{Place, QueueId};
 use cli_text_page::Page;
 use helpers::Helper;
-use show_account::name_of_code;
+use show_account::put_code;
 use show_counts::{CODES, Counts, HELPERS};
 
 /// Puts the table of a queue.
 pub(crate) fn print_queue(sums: &Sums<'_>, queue: u32, page: &mut Page) {
     page.fill("queue {}, program ", &[u64::from(queue)]);
     page.foreign(sums.programs.name(sums.programs.of(queue)));
-    print_counts(&sums.counts, queue as usize, page);
+    print_completions(sums, queue, page);
+    print_recoveries(&sums.counts, queue as usize, page);
+    sums.seen.durations.print(queue, page);
     print_frozen(sums, Place::Device(QueueId(queue)), page);
+    if sums.config.controllers() > 0 {
+        print_its_controller(sums, queue, page);
+    }
     page.text("  openings      ");
-    sums.openings.print(queue, page);
+    sums.seen.openings.print(queue, page);
     print_left(sums, queue, page);
 }
 
-// What was counted of the queue.
-fn print_counts(counts: &Counts, queue: usize, page: &mut Page) {
-    let submissions = Counts::at(&counts.submissions, queue);
-    let starts = Counts::at(&counts.starts, queue);
+// What became of the queue's CCBs, up to their completions.
+fn print_completions(sums: &Sums<'_>, queue: u32, page: &mut Page) {
+    let counts = &sums.counts;
+    let row = queue as usize;
+    let submissions = Counts::at(&counts.submissions, row);
+    let starts = Counts::at(&counts.starts, row);
     page.fill(
         "\n  submissions   {}\n  starts        {}\n  completions   ",
         &[submissions, starts],
     );
-    print_codes(&counts.completions, queue, page);
+    print_codes(&counts.completions, row, page);
+    page.text("\n");
+    sums.seen.reports.print(queue, page);
+}
+
+// What the queue's runs did.
+fn print_recoveries(counts: &Counts, queue: usize, page: &mut Page) {
     let recoveries = Counts::at(&counts.recoveries, queue);
     let requeues = cell(queue, HELPERS, u32::from(Helper::Requeue.number()));
     let requeues = Counts::at(&counts.calls, requeues);
     page.fill(
-        "\n  recoveries    {}\n  requeues      {}\n  finishes      ",
+        "  recoveries    {}\n  requeues      {}\n  finishes      ",
         &[recoveries, requeues],
     );
     print_codes(&counts.finishes, queue, page);
@@ -73,20 +86,11 @@ fn print_codes(counts: &[u64], queue: usize, page: &mut Page) {
         }
     }
     if !has_any {
-        page.text("0");
+        page.text("none");
     }
 }
 
 fn print_code(code: u32, count: u64, page: &mut Page) {
-    let code = u8::try_from(code).unwrap_or(u8::MAX);
-    let name = name_of_code(code);
-    let (before, behind) = if name.is_empty() {
-        ("code ", " {}")
-    } else {
-        (" (", ") {}")
-    };
-    page.text(name);
-    page.text(before);
-    page.byte(code);
-    page.fill(behind, &[count]);
+    put_code(u8::try_from(code).unwrap_or(u8::MAX), page);
+    page.fill(": {}", &[count]);
 }

@@ -8,31 +8,35 @@ use cli_text_page::Page;
 use engine_config::Config;
 use helpers::Helper;
 use show_counts::{Counts, HELPERS};
-use show_events::NamedAccepted;
+use show_events::{Ending, NamedAccepted, Shown};
 use std::alloc::Global;
 use std::io;
 use std::io::Write;
-use world_calls::Trace;
 
 /// Writes the summary of a trace of this configuration: a table for each queue, each controller and each program, and what is left at
-/// its end. Times are milliseconds of its clock. The programs are the manifest's, with their names; where two have the same
-/// instructions, the first stands for both. The trace is one that a replay accepts. It fails if memory is refused, as such an error
+/// its end. Times are milliseconds of its clock. The programs are the manifest's, with their names; if two have the same
+/// instructions, the first stands for both. The trace is one that a replay accepts, or is open. It fails if memory is refused, as such an error
 /// and with nothing out, or if the writer does; some may be out then.
 pub fn summarise<W: Write>(
     alloc: Global,
     config: &Config,
     named: &[NamedAccepted<'_>],
-    trace: &Trace,
+    shown: Shown<'_>,
     out: &mut W,
 ) -> io::Result<()> {
-    let sums = Sums::of(alloc, config, named, trace)?;
+    let sums = Sums::of(alloc, config, named, shown.trace)?;
     let mut page = Page::new(alloc);
-    page.fill("{} records\n", &[trace.records.len() as u64]);
+    page.fill("{} records\n", &[shown.trace.records.len() as u64]);
+    if let Ending::Open | Ending::Cut = shown.ending {
+        page.fill(shown.words(), &[shown.line()]);
+        page.text("\n");
+    }
     print_all(&sums, &mut page);
     page.write_to(out)
 }
 
 fn print_all(sums: &Sums<'_>, page: &mut Page) {
+    sums.seen.refused.print(page);
     for queue in 0..sums.config.queues() {
         print_queue(sums, queue, page);
     }
@@ -40,6 +44,8 @@ fn print_all(sums: &Sums<'_>, page: &mut Page) {
     for program in 0..sums.programs.len() {
         print_program(sums, program, page);
     }
+    sums.seen.tried.print(page);
+    sums.seen.words.print(page);
     print_left(&sums.walk, page);
 }
 
@@ -54,7 +60,7 @@ fn print_program(sums: &Sums<'_>, program: usize, page: &mut Page) {
     page.text("program ");
     page.foreign(sums.programs.name(program));
     let budget = sums.programs.budget(program);
-    sums.instructions.of(program).print(runs, budget, page);
+    sums.seen.instructions.of(program).print(runs, budget, page);
     print_calls(sums, program, page);
 }
 
@@ -72,8 +78,19 @@ fn print_calls(sums: &Sums<'_>, program: usize, page: &mut Page) {
         if calls > 0 {
             page.fill("  helper {}, ", &[u64::from(number)]);
             page.text(name_of(number));
-            page.fill(": calls {}, answers of 0 {}\n", &[calls, zeros]);
+            page.fill(words_of(calls, zeros), &[calls, zeros]);
         }
+    }
+}
+
+// A pattern for how often a helper was called, which is more than never, and how often of these it answered 0.
+fn words_of(calls: u64, zeros: u64) -> &'static str {
+    if calls > 1 {
+        ": {} calls, {} of them answered 0\n"
+    } else if zeros > 0 {
+        ": {} call, answered 0\n"
+    } else {
+        ": {} call, not answered 0\n"
     }
 }
 

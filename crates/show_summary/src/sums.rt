@@ -1,9 +1,7 @@
-// All that a summary has: the counts of the records, and what the events say. It relies on `show_counts`, and on `frozen`, `openings` and
-// `programs` for what only events say.
+// All that a summary has: the counts of the records, and what the events say. It relies on `show_counts`, and on `seen` for what only events
+// say.
 
-use crate::frozen::FrozenPlaces;
-use crate::openings::AllOpenings;
-use crate::programs::AllInstructions;
+use crate::seen::Seen;
 use engine_config::Config;
 use show_counts::{Counts, count_records};
 use show_events::{Event, NamedAccepted, Programs, Walk};
@@ -16,9 +14,7 @@ pub(crate) struct Sums<'a> {
     pub(crate) config: &'a Config,
     pub(crate) programs: Programs<'a>,
     pub(crate) counts: Counts,
-    pub(crate) frozen: FrozenPlaces,
-    pub(crate) openings: AllOpenings,
-    pub(crate) instructions: AllInstructions,
+    pub(crate) seen: Seen,
     pub(crate) walk: Walk<'a>,
 }
 
@@ -34,9 +30,7 @@ impl<'a> Sums<'a> {
             config,
             programs: Programs::new(alloc, config, named)?,
             counts: count_records(alloc, config.queues(), &trace.records)?,
-            frozen: FrozenPlaces::new(),
-            openings: AllOpenings::new(config),
-            instructions: AllInstructions::new(),
+            seen: Seen::new(alloc, config)?,
             walk: Walk::open(alloc, config)?,
         };
         sums.see_all(alloc, trace)?;
@@ -49,16 +43,15 @@ impl<'a> Sums<'a> {
         for record in trace.records.iter() {
             events.clear();
             self.walk.step(record, &mut events)?;
-            for event in &events {
-                self.see(event);
-            }
+            self.see(&events)?;
         }
         Ok(())
     }
 
-    fn see(&mut self, event: &Event) {
-        self.frozen.see(event);
-        self.openings.see(event);
-        self.instructions.see(event, &self.programs);
+    fn see(&mut self, events: &[Event]) -> Result<(), AllocError> {
+        for event in events {
+            self.seen.see(event, &self.programs)?;
+        }
+        Ok(())
     }
 }

@@ -1,0 +1,38 @@
+// A trace that is to be shown. It relies on `world_calls` for traces.
+
+use world_calls::Trace;
+
+/// How a trace ends: with its last line; without it; or within a line.
+#[derive(Clone, Copy)]
+pub enum Ending {
+    Whole,
+    Open,
+    Cut,
+}
+
+/// A trace as far as it goes, and how it ends.
+#[derive(Clone, Copy)]
+pub struct Shown<'a> {
+    pub trace: &'a Trace,
+    pub ending: Ending,
+}
+
+impl Shown<'_> {
+    /// What is said of how it ends: a pattern for the number of the line after its records; nothing if it is whole.
+    pub fn words(&self) -> &'static str {
+        match self.ending {
+            Ending::Whole => "",
+            Ending::Open => "the trace is open: it goes up to line {}",
+            Ending::Cut => "the trace is open: line {} is cut",
+        }
+    }
+
+    /// The number of that line: of the last one that is whole, or of the one that is cut. The first line is before the records.
+    pub fn line(&self) -> u64 {
+        let whole = (self.trace.records.len() as u64).saturating_add(1);
+        match self.ending {
+            Ending::Cut => whole.saturating_add(1),
+            Ending::Whole | Ending::Open => whole,
+        }
+    }
+}

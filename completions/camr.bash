@@ -4,9 +4,9 @@
 # _camr_options COMMAND: prints the options of a command.
 _camr_options() {
     case $1 in
-    run) echo '--workers --watch --watch=lines --watch=terminal' ;;
+    run) echo '--workers --strict --watch --watch=lines --watch=terminal' ;;
     live) echo '--clock --step --ack --journal --sync' ;;
-    show) echo '--ccb --queue --run --freeze --from --to --summary --svg' ;;
+    show) echo '--ccb --queue --run --freeze --from --to --status --sense --refused --summary --svg' ;;
     esac
     echo '--help -h'
 }
@@ -39,7 +39,12 @@ _camr() {
         mapfile -t COMPREPLY < <(compgen -W '1 2 3 4 5 6 7 8 9 10 11 12 13 14 15 16' -- "$cur")
         return
         ;;
+    show/--refused | show/--refused=)
+        mapfile -t COMPREPLY < <(compgen -W 'any C1 C2 C3 C5 Q2 Q3 Q4 Q5' -- "$cur")
+        return
+        ;;
     show/--ccb* | show/--queue* | show/--run* | show/--freeze* | show/--from* | show/--to*) return ;;
+    show/--status* | show/--sense*) return ;;
     live/--journal*) kind=-d ;;
     show/--svg*) ;;
     audit/*) kind=-d ;;

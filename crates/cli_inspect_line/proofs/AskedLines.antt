@@ -15,12 +15,13 @@ use Rattle.cli_line.proofs.SpelledOut.{plain_out}
 use Rattle.cli_line.proofs.Traces.{Trace, end_fault, start, trace_both, trace_last, trace_more, traced_fault, traced_rows}
 use Rattle.cli_inspect_line.specs.FoundPlan.{HasFilter, HasFound, IsWithin, PlansFound, Suffices}
 use Rattle.cli_inspect_line.specs.InspectLines.{ArePlain, Asked, IsAsked, everything, line_of}
-use Rattle.cli_inspect_line.specs.InspectLines.Asked.{Explain, Show, Summarise, Draw}
+use Rattle.cli_inspect_line.specs.InspectLines.Asked.{Explain, ExplainFile, Show, Summarise, Draw}
 use Rattle.cli_inspect_line.proofs.AskedRows.{MeetsAsked, asked_in, found_asked}
 
 -- the word that such a line begins with
 abbrev word_of : Asked → Text
 word_of (Explain word) = codes "explain"
+word_of (ExplainFile manifest file) = codes "explain"
 word_of (Show manifest trace) = codes "show"
 word_of (Summarise manifest trace) = codes "show"
 word_of (Draw picture manifest trace) = codes "show"
@@ -31,6 +32,7 @@ shape asked = shape_of (word_of asked)
 is_word : (asked : Asked) → IsWordOf (word_of asked) (shape asked)
 unfolding walked
 is_word (Explain word) = record { stops = refl; faultless = refl; found = refl; named = refl }
+is_word (ExplainFile manifest file) = record { stops = refl; faultless = refl; found = refl; named = refl }
 is_word (Show manifest trace) = record { stops = refl; faultless = refl; found = refl; named = refl }
 is_word (Summarise manifest trace) = record { stops = refl; faultless = refl; found = refl; named = refl }
 is_word (Draw picture manifest trace) = record { stops = refl; faultless = refl; found = refl; named = refl }
@@ -86,21 +88,25 @@ pub asked_clear : (asked : Asked) → ArePlain asked → IsClear PlansFound (lin
 unfolding defaults_fault
 asked_clear (Explain word) plain = clear (Explain word) _ _ _
     (trace_last nothing_held 1 word plain)
-    refl refl (record { ccb = refl; queue = refl; run = refl; freeze = refl; from = refl; to = refl })
+    refl refl (record { ccb = refl; queue = refl; run = refl; freeze = refl; from = refl; to = refl; status = refl; sense = refl; refused = refl })
     ((word, refl), tt) (λ i. codes "explain" ∷ plain_out word plain i ∷ [])
+asked_clear (ExplainFile manifest file) plain = clear (ExplainFile manifest file) _ _ _
+    (trace_both nothing_held manifest file refl plain.0 plain.1)
+    refl refl (record { ccb = refl; queue = refl; run = refl; freeze = refl; from = refl; to = refl; status = refl; sense = refl; refused = refl })
+    ((manifest, refl), tt) (λ i. codes "explain" ∷ plain_out manifest plain.0 i ∷ plain_out file plain.1 i ∷ [])
 asked_clear (Show manifest trace) plain = clear (Show manifest trace) _ _ _
     (trace_both nothing_held manifest trace refl plain.0 plain.1)
-    refl refl (record { ccb = refl; queue = refl; run = refl; freeze = refl; from = refl; to = refl }) (
+    refl refl (record { ccb = refl; queue = refl; run = refl; freeze = refl; from = refl; to = refl; status = refl; sense = refl; refused = refl }) (
       ((manifest, refl), ((trace, refl), tt)),
-      (everything, all_within, record { ccb = refl; queue = refl; run = refl; freeze = refl; from = refl; to = refl }, inr (refl, λ asks. refl)),
+      (everything, all_within, record { ccb = refl; queue = refl; run = refl; freeze = refl; from = refl; to = refl; status = refl; sense = refl; refused = refl }, inr (refl, λ asks. refl)),
     )
     (λ i. codes "show" ∷ plain_out manifest plain.0 i ∷ plain_out trace plain.1 i ∷ [])
 asked_clear (Summarise manifest trace) plain = clear (Summarise manifest trace) _ _ _
     (trace_more start (walk_at counted idle 1) _ (codes "--summary") _ [] _ summary_walked refl
     (trace_both counted manifest trace refl plain.0 plain.1))
-    refl refl (record { ccb = refl; queue = refl; run = refl; freeze = refl; from = refl; to = refl }) (
+    refl refl (record { ccb = refl; queue = refl; run = refl; freeze = refl; from = refl; to = refl; status = refl; sense = refl; refused = refl }) (
       ((manifest, refl), ((trace, refl), tt)),
-      (everything, all_within, record { ccb = refl; queue = refl; run = refl; freeze = refl; from = refl; to = refl }, inr (refl, λ asks. refl)),
+      (everything, all_within, record { ccb = refl; queue = refl; run = refl; freeze = refl; from = refl; to = refl; status = refl; sense = refl; refused = refl }, inr (refl, λ asks. refl)),
     )
     (λ i. codes "show" ∷ codes "--summary" ∷ plain_out manifest plain.0 i ∷ plain_out trace plain.1 i ∷ [])
 asked_clear (Draw picture manifest trace) plain = clear (Draw picture manifest trace) _ _ _
@@ -108,12 +114,12 @@ asked_clear (Draw picture manifest trace) plain = clear (Draw picture manifest t
     (trace_more (walk_at drawn (option (codes "svg")) 1) (walk_at (drawn_into picture) idle 1) _ picture _ [] _
     (walked_value show_shape.rules drawn (codes "svg") 1 picture plain.0) (turn_value show_shape drawn (codes "svg") 1 picture plain.0)
     (trace_both (drawn_into picture) manifest trace refl plain.1 plain.2)))
-    refl refl (record { ccb = refl; queue = refl; run = refl; freeze = refl; from = refl; to = refl }) (
+    refl refl (record { ccb = refl; queue = refl; run = refl; freeze = refl; from = refl; to = refl; status = refl; sense = refl; refused = refl }) (
       ((manifest, refl), ((trace, refl), tt)),
       (
         everything,
         all_within,
-        record { ccb = refl; queue = refl; run = refl; freeze = refl; from = refl; to = refl },
+        record { ccb = refl; queue = refl; run = refl; freeze = refl; from = refl; to = refl; status = refl; sense = refl; refused = refl },
         inr (refl, λ asks. absurd (apart (codes "false") (codes "true") refl (ap (λ (o : Option Text). unwrap_or o []) asks))),
       ),
     )

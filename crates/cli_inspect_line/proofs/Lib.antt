@@ -1,3 +1,6 @@
 pub mod AskedLines
 pub mod AskedRows
+pub mod Explained
 pub mod Planned
+pub mod Unread
+mod Once

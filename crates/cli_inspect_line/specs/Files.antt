@@ -1,12 +1,14 @@
--- The files that a plan reads, and the one that it writes.
+-- The files that a plan reads, and the one that it writes; and how often it reads standard input.
 use Rattle.std.specs.Prelude.{ℕ, Bool, true, false, List, [], ◌∷◌, Option, Some, None, string_bytes}
+use Rattle.cli_line.specs.Files.{stream_count}
 use Rattle.cli_inspect_line.specs.declared.plans.Plan.{Plan}
-use Rattle.cli_inspect_line.specs.declared.plans.Plan.TheVariants.{ExplainCode, Explain, Show, Summarise, Draw}
+use Rattle.cli_inspect_line.specs.declared.plans.Plan.TheVariants.{ExplainCode, Explain, ExplainFile, Show, Summarise, Draw}
 
 -- the paths of those that are read, in the order of the line
 abbrev pub input_paths : Plan → List (List ℕ)
 input_paths (ExplainCode code) = []
 input_paths (Explain manifest) = string_bytes manifest ∷ []
+input_paths (ExplainFile manifest file) = string_bytes manifest ∷ string_bytes file ∷ []
 input_paths (Show filter manifest trace) = string_bytes manifest ∷ string_bytes trace ∷ []
 input_paths (Summarise manifest trace) = string_bytes manifest ∷ string_bytes trace ∷ []
 input_paths (Draw manifest trace picture) = string_bytes manifest ∷ string_bytes trace ∷ []
@@ -15,6 +17,11 @@ input_paths (Draw manifest trace picture) = string_bytes manifest ∷ string_byt
 abbrev pub output_path : Plan → Option (List ℕ)
 output_path (ExplainCode code) = None
 output_path (Explain manifest) = None
+output_path (ExplainFile manifest file) = None
 output_path (Show filter manifest trace) = None
 output_path (Summarise manifest trace) = None
 output_path (Draw manifest trace picture) = Some (string_bytes picture)
+
+-- how often the plan reads standard input: for each file that it stands for
+abbrev pub stdin_reads : Plan → ℕ
+stdin_reads plan = stream_count (input_paths plan)

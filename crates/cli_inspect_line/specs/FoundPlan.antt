@@ -7,9 +7,12 @@ use Rattle.cli_line.specs.FoundPlan.{AreFound}
 use Rattle.cli_line.specs.RunCommand.{camr_command}
 use Rattle.cli_line.specs.UsageFault.{IsValueFault}
 use Rattle.cli_line.specs.RunLine.{Spells}
+use Rattle.base.specs.Hexadecimal.{byte_in}
+use Rattle.cli_inspect_line.specs.Files.{stdin_reads}
 use Rattle.cli_inspect_line.specs.InspectLines.{everything}
+use Rattle.cli_inspect_line.specs.ReportedWords.{refused_in, sense_in}
 use Rattle.cli_inspect_line.specs.declared.plans.Plan.{Plan}
-use Rattle.cli_inspect_line.specs.declared.plans.Plan.TheVariants.{ExplainCode, Explain, Show, Summarise, Draw}
+use Rattle.cli_inspect_line.specs.declared.plans.Plan.TheVariants.{ExplainCode, Explain, ExplainFile, Show, Summarise, Draw}
 use Rattle.cli_inspect_line.specs.declared.showing.TheConstants.{LAST_NUMBER, LAST_QUEUE, LAST_READING}
 use Rattle.explain_codes.specs.Names.{code_named}
 use Rattle.show_events.specs.declared.filter.Filter.{Filter}
@@ -19,7 +22,12 @@ abbrev pub FindsNumber : Text → List Row → Option ℕ → Type 0
 FindsNumber name rows None = first_of name rows ≡ None
 FindsNumber name rows (Some n) = (word : Text) × (first_of name rows ≡ Some word) × Spells word n
 
--- the filter has the numbers that `clap` found
+-- what a word says that `clap` found under that name, as it is read
+abbrev pub Finds : {X : Type 0} → (Text → Option X) → Text → List Row → Option X → Type 0
+Finds read name rows None = first_of name rows ≡ None
+Finds read name rows (Some x) = (word : Text) × (first_of name rows ≡ Some word) × (read word ≡ Some x)
+
+-- the filter has the numbers that `clap` found, and what other words say
 pub record HasFilter (rows : List Row) (filter : Filter) : Type 0 where
   pub ccb : FindsNumber (codes "ccb") rows filter.ccb
   pub queue : FindsNumber (codes "queue") rows filter.queue
@@ -27,6 +35,9 @@ pub record HasFilter (rows : List Row) (filter : Filter) : Type 0 where
   pub freeze : FindsNumber (codes "freeze") rows filter.freeze
   pub from : FindsNumber (codes "from") rows filter.from
   pub to : FindsNumber (codes "to") rows filter.to
+  pub status : Finds byte_in (codes "status") rows filter.status
+  pub sense : Finds sense_in (codes "sense") rows filter.sense
+  pub refused : Finds refused_in (codes "refused") rows filter.refused
 
 -- a number, if there is one, is at most that
 abbrev pub IsUpTo : ℕ → Option ℕ → Type 0
@@ -52,15 +63,28 @@ AsksSummary rows = first_of (codes "summary") rows ≡ Some (codes "true")
 abbrev pub AsksPicture : List Row → Text → Type 0
 AsksPicture rows picture = first_of (codes "svg") rows ≡ Some picture
 
+-- the plan is that of a word alone: a code, or the manifest of that path
+abbrev pub IsOfWord : Text → Plan → Type 0
+IsOfWord word (ExplainCode code) = code_named word ≡ Some code
+IsOfWord word (Explain path) = (string_bytes path ≡ word) × (code_named word ≡ None)
+IsOfWord word plan = ⊥
+
+-- the plan is that of a manifest and of another file
+abbrev pub IsOfFiles : Text → Text → Plan → Type 0
+IsOfFiles manifest file (ExplainFile a b) = (string_bytes a ≡ manifest) × (string_bytes b ≡ file)
+IsOfFiles manifest file plan = ⊥
+
 -- the plan is what was asked for by that word, with what `clap` found behind it
 abbrev pub HasFoundBehind : Text → List Row → Plan → Type 0
 HasFoundBehind name rows (ExplainCode code) =
-    (name ≡ codes "explain") × ((word : Text) × (first_of (codes "WORD") rows ≡ Some word) × (code_named word ≡ Some code))
+    (name ≡ codes "explain") × ((word : Text) × (first_of (codes "WORD") rows ≡ Some word) × (code_named word ≡ Some code)) × (first_of (codes "FILE") rows ≡ None)
 HasFoundBehind name rows (Explain path) =
-    (name ≡ codes "explain") × (first_of (codes "WORD") rows ≡ Some (string_bytes path)) × (code_named (string_bytes path) ≡ None)
+    (name ≡ codes "explain") × (first_of (codes "WORD") rows ≡ Some (string_bytes path)) × (code_named (string_bytes path) ≡ None) × (first_of (codes "FILE") rows ≡ None)
+HasFoundBehind name rows (ExplainFile manifest file) =
+    (name ≡ codes "explain") × (first_of (codes "WORD") rows ≡ Some (string_bytes manifest)) × (first_of (codes "FILE") rows ≡ Some (string_bytes file))
 HasFoundBehind name rows (Show filter manifest trace) =
     (name ≡ codes "show") × HasBoth rows (string_bytes manifest) (string_bytes trace) × HasFilter rows filter
-    × (AsksSummary rows → ⊥) × (first_of (codes "svg") rows ≡ None)
+    × (AsksSummary rows → ⊥) × (first_of (codes "svg") rows ≡ None) × IsWithin filter
 HasFoundBehind name rows (Summarise manifest trace) =
     (name ≡ codes "show") × HasBoth rows (string_bytes manifest) (string_bytes trace) × HasFilter rows everything × AsksSummary rows
     × (first_of (codes "svg") rows ≡ None)
@@ -98,9 +122,14 @@ abbrev pub PlansFound : Option (Text × List Row) → Option Plan → Type 0
 PlansFound found (Some plan) = HasFound found plan
 PlansFound found None = (name : Text) (rows : List Row) → found ≡ Some (name, rows) → Suffices name rows → ⊥
 
--- why words are refused: `clap` refuses them so, or memory was refused; or `clap` finds no fault, but what it found is no plan, which is
--- the fault of a value
-abbrev pub IsRefused : List Text → Error → Type 0
-IsRefused words e =
+-- why words ask for nothing: `clap` refuses them so, or memory was refused; or `clap` finds no fault, but what it found is no plan, which
+-- is the fault of a value
+abbrev pub IsUnplanned : List Text → Error → Type 0
+IsUnplanned words e =
     HasKind (fault_of camr_command words) e
     ⊎ ((fault_of camr_command words ≡ []) × IsValueFault e × PlansFound (subcommand_of camr_command words) None)
+
+-- why words are refused: they ask for nothing, or, where `clap` finds no fault, for a plan that reads standard input more than once, which
+-- is the fault of a value too
+abbrev pub IsRefused : List Text → Error → Type 0
+IsRefused words e = IsUnplanned words e ⊎ ((fault_of camr_command words ≡ []) × IsValueFault e × (plan : Plan) × HasFound (subcommand_of camr_command words) plan × (2 ≤ stdin_reads plan))

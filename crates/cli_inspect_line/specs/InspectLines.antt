@@ -10,12 +10,14 @@ use Rattle.show_events.specs.declared.filter.Filter.{Filter}
 -- what such a line asks for, in its own words: the paths as they stand there
 pub data Asked : Type 0 where
   Explain : (word : Text) → Asked
+  ExplainFile : (manifest file : Text) → Asked
   Show : (manifest trace : Text) → Asked
   Summarise : (manifest trace : Text) → Asked
   Draw : (picture manifest trace : Text) → Asked
 
 abbrev pub line_of : Asked → List Text
 line_of (Explain word) = codes "explain" ∷ word ∷ []
+line_of (ExplainFile manifest file) = codes "explain" ∷ manifest ∷ file ∷ []
 line_of (Show manifest trace) = codes "show" ∷ manifest ∷ trace ∷ []
 line_of (Summarise manifest trace) = codes "show" ∷ codes "--summary" ∷ manifest ∷ trace ∷ []
 line_of (Draw picture manifest trace) = codes "show" ∷ codes "--svg" ∷ picture ∷ manifest ∷ trace ∷ []
@@ -23,18 +25,21 @@ line_of (Draw picture manifest trace) = codes "show" ∷ codes "--svg" ∷ pictu
 -- none of its paths begins with a hyphen
 abbrev pub ArePlain : Asked → Type 0
 ArePlain (Explain word) = IsPlain word
+ArePlain (ExplainFile manifest file) = IsPlain manifest × IsPlain file
 ArePlain (Show manifest trace) = IsPlain manifest × IsPlain trace
 ArePlain (Summarise manifest trace) = IsPlain manifest × IsPlain trace
 ArePlain (Draw picture manifest trace) = IsPlain picture × IsPlain manifest × IsPlain trace
 
 -- all events are wanted
 abbrev pub everything : Filter
-everything = record { ccb = None; queue = None; run = None; freeze = None; from = None; to = None }
+everything = record { ccb = None; queue = None; run = None; freeze = None; from = None; to = None; status = None; sense = None; refused = None }
 
--- the plan is that, of the files at these paths; `explain` explains the code that its word is, and where it is none, the manifest of that path
+-- the plan is that, of the files at these paths; `explain` explains the code that its word is if that stands alone, and if it is none, the
+-- manifest of that path
 abbrev pub IsAsked : Asked → Plan → Type 0
 IsAsked (Explain word) (plans.ExplainCode code) = code_named word ≡ Some code
 IsAsked (Explain word) (plans.Explain a) = (code_named word ≡ None) × (string_bytes a ≡ word)
+IsAsked (ExplainFile manifest file) (plans.ExplainFile a b) = (string_bytes a ≡ manifest) × (string_bytes b ≡ file)
 IsAsked (Show manifest trace) (plans.Show filter a b) = (filter ≡ everything) × (string_bytes a ≡ manifest) × (string_bytes b ≡ trace)
 IsAsked (Summarise manifest trace) (plans.Summarise a b) = (string_bytes a ≡ manifest) × (string_bytes b ≡ trace)
 IsAsked (Draw picture manifest trace) (plans.Draw a b c) = (string_bytes a ≡ manifest) × (string_bytes b ≡ trace) × (string_bytes c ≡ picture)

@@ -1,3 +1,4 @@
 pub mod Files
 pub mod FoundPlan
 pub mod InspectLines
+pub mod ReportedWords

@@ -3,6 +3,7 @@
 #![tactic(auto)]
 
 mod plans;
+mod reported;
 mod showing;
 mod words;
 

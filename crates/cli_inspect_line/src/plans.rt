@@ -1,9 +1,10 @@
 // What the program `camr_inspect` can be asked to do. It relies on `explain_codes` and on `show_events` for what may be asked of
-// codes and of traces.
+// codes and of traces, and on `cli_line` for what stands for standard input.
 
-ghost use Rattle.std.specs.Prelude.{◌≡◌, ◌<◌, [], Some, None, MatchOption, length, slice_index_or};
-ghost use Rattle.cli_inspect_line.specs.Files.{input_paths, output_path};
+ghost use Rattle.std.specs.Prelude.{◌≡◌, ◌<◌, ◌≤◌, [], Some, None, MatchOption, length, slice_index_or};
+ghost use Rattle.cli_inspect_line.specs.Files.{input_paths, output_path, stdin_reads};
 
+use cli_line::reads_of;
 use explain_codes::Code;
 use show_events::Filter;
 
@@ -14,6 +15,8 @@ pub enum Plan {
     ExplainCode(Code),
     /// Says why a manifest is refused, or what is known of its programs.
     Explain(String),
+    /// Says why a scenario or a trace is refused over a manifest: the manifest, and the other file.
+    ExplainFile(String, String),
     /// Says in words what happened in a trace: of which events, the manifest, the trace.
     Show(Filter, String, String),
     /// Counts what happened in a trace: the manifest, the trace.
@@ -30,7 +33,7 @@ impl Plan {
         match self {
             Plan::ExplainCode(_) => 0,
             Plan::Explain(_) => 1,
-            Plan::Show(..) | Plan::Summarise(..) | Plan::Draw(..) => 2,
+            Plan::ExplainFile(..) | Plan::Show(..) | Plan::Summarise(..) | Plan::Draw(..) => 2,
         }
     }
 
@@ -42,13 +45,19 @@ impl Plan {
         match (self, place) {
             (
                 Plan::Explain(first)
+                | Plan::ExplainFile(first, _)
                 | Plan::Show(_, first, _)
                 | Plan::Summarise(first, _)
                 | Plan::Draw(first, _, _),
                 0,
             ) => { first.as_str() }
-            (Plan::Show(_, _, second) | Plan::Summarise(_, second) | Plan::Draw(_, second, _), 1) =>
-                { second.as_str() }
+            (
+                Plan::ExplainFile(_, second)
+                | Plan::Show(_, _, second)
+                | Plan::Summarise(_, second)
+                | Plan::Draw(_, second, _),
+                1,
+            ) => { second.as_str() }
             _ => "",
         }
     }
@@ -59,7 +68,25 @@ impl Plan {
     {
         match self {
             Plan::Draw(_, _, output) => Some(output.as_str()),
-            Plan::ExplainCode(_) | Plan::Explain(_) | Plan::Show(..) | Plan::Summarise(..) => None,
+            Plan::ExplainCode(_)
+            | Plan::Explain(_)
+            | Plan::ExplainFile(..)
+            | Plan::Show(..)
+            | Plan::Summarise(..) => None,
+        }
+    }
+
+    /// How often it reads standard input: for each file that it stands for.
+    pub(crate) fn stdin_reads(&self) -> usize
+        ensures { result ≡ stdin_reads self.now }
+    {
+        match self {
+            Plan::ExplainCode(_) => 0,
+            Plan::Explain(file) => reads_of(file),
+            Plan::ExplainFile(manifest, file) => reads_of(manifest) + reads_of(file),
+            Plan::Show(_, manifest, trace) => reads_of(manifest) + reads_of(trace),
+            Plan::Summarise(manifest, trace) => reads_of(manifest) + reads_of(trace),
+            Plan::Draw(manifest, trace, _) => reads_of(manifest) + reads_of(trace),
         }
     }
 }

@@ -4,15 +4,19 @@
 ghost use Rattle.std.specs.Prelude.{◌≡◌, ◌≤◌, ◌↔◌, ℕ, IsTrue, Option, MatchBool, MatchOption, None, IfOk, IfSome, codes};
 ghost use Rattle.clap.specs.Words.{first_of, found_of, kind_of, rows_of};
 ghost use Rattle.cli_line.specs.RunLine.{Spells};
-ghost use Rattle.cli_inspect_line.specs.FoundPlan.{AsksSummary, FindsNumber, HasFilter, IsUpTo, IsWithin, PlansBehind};
+ghost use Rattle.base.specs.Hexadecimal.{byte_in};
+ghost use Rattle.cli_inspect_line.specs.ReportedWords.{refused_in, sense_in};
+ghost use Rattle.cli_inspect_line.specs.FoundPlan.{AsksSummary, Finds, FindsNumber, HasFilter, IsUpTo, IsWithin, PlansBehind};
 ghost use Rattle.cli_inspect_line.specs.InspectLines.{everything};
 
 use crate::plans::Plan;
+use crate::reported::{refused_in, sense_in};
+use base::hexadecimal::byte_of;
 use clap::error::ErrorKind;
 use clap::{ArgMatches, Error};
 use cli_line::{is_true, show_command};
 use cli_text_page::ForeignText;
-use show_events::Filter;
+use show_events::{Filter, RefusedFilter, SenseFilter};
 use std::alloc::{AllocError, Global};
 
 /// The greatest number of a queue.
@@ -24,7 +28,7 @@ const LAST_NUMBER: u64 = 4_294_967_295;
 /// The greatest clock reading, in milliseconds.
 const LAST_READING: u64 = 18_446_744_073_709_551_615;
 
-/// The plan of what clap found behind `show`, and none where a number is none, or two things are asked that exclude each other.
+/// The plan of what clap found after `show`, and none if a number or another word is none, or if two things are asked that exclude each other.
 pub(crate) fn show_plan(alloc: Global, show: &ArgMatches) -> Result<Option<Plan>, AllocError>
     ensures { IfOk result (PlansBehind (codes "show") (rows_of (found_of show.now))) }
 {
@@ -72,12 +76,16 @@ fn is_everything(filter: &Filter) -> bool
         && filter.freeze.is_none()
         && filter.from.is_none()
         && filter.to.is_none()
+        && filter.status.is_none()
+        && filter.sense.is_none()
+        && filter.refused.is_none()
 }
 
-// Which events are asked for, and none where a number is none.
+// Which events are asked for, and none if a number or another word is none.
 fn filter_given(show: &ArgMatches) -> Option<Filter>
-    ensures { MatchOption result ((filter : Filter) → IsWithin filter → HasFilter (rows_of (found_of show.now)) filter → ⊥)
+    ensures found { MatchOption result ((filter : Filter) → IsWithin filter → HasFilter (rows_of (found_of show.now)) filter → ⊥)
         (HasFilter (rows_of (found_of show.now))) }
+    ensures bounded { IfSome result IsWithin }
 {
     let ccb = given(show, "ccb", LAST_NUMBER)?;
     let queue = given(show, "queue", LAST_QUEUE)?;
@@ -85,6 +93,9 @@ fn filter_given(show: &ArgMatches) -> Option<Filter>
     let freeze = given(show, "freeze", LAST_NUMBER)?;
     let from = given(show, "from", LAST_READING)?;
     let to = given(show, "to", LAST_READING)?;
+    let status = status_given(show)?;
+    let sense = sense_given(show)?;
+    let refused = refused_given(show)?;
     Some(Filter {
         ccb: in_word(ccb),
         queue: in_byte(queue),
@@ -92,10 +103,55 @@ fn filter_given(show: &ArgMatches) -> Option<Filter>
         freeze: in_word(freeze),
         from,
         to,
+        status,
+        sense,
+        refused,
     })
 }
 
-// The number under that name, if there is one; none where a word there spells none up to the greatest.
+// The SCSI status that is asked for, if one is; none if its word is none.
+fn status_given(show: &ArgMatches) -> Option<Option<u8>>
+    ensures { MatchOption result ((status : Option ℕ) → Finds byte_in (codes "status") (rows_of (found_of show.now)) status → ⊥)
+        (Finds byte_in (codes "status") (rows_of (found_of show.now))) }
+{
+    match show.get_str("status") {
+        None => Some(None),
+        Some(word) => match byte_of(word) {
+            Some(status) => Some(Some(status)),
+            None => None,
+        },
+    }
+}
+
+// The sense data that is asked for, if any is; none if its word names none.
+fn sense_given(show: &ArgMatches) -> Option<Option<SenseFilter>>
+    ensures { MatchOption result ((sense : Option SenseFilter) → Finds sense_in (codes "sense") (rows_of (found_of show.now)) sense → ⊥)
+        (Finds sense_in (codes "sense") (rows_of (found_of show.now))) }
+{
+    match show.get_str("sense") {
+        None => Some(None),
+        Some(word) => match sense_in(word) {
+            Some(sense) => Some(Some(sense)),
+            None => None,
+        },
+    }
+}
+
+// The refusals that are asked for, if any are; none if the word names none.
+fn refused_given(show: &ArgMatches) -> Option<Option<RefusedFilter>>
+    ensures { MatchOption result ((refused : Option RefusedFilter) → Finds refused_in (codes "refused") (rows_of (found_of show.now)) refused → ⊥)
+        (Finds refused_in (codes "refused") (rows_of (found_of show.now))) }
+{
+    match show.get_str("refused") {
+        None => Some(None),
+        Some(word) => match refused_in(word) {
+            Some(refused) => Some(Some(refused)),
+            None => None,
+        },
+    }
+}
+
+// The number under that name, if there is one; none if a word there spells none up to the greatest.
 fn given(show: &ArgMatches, name: &str, greatest: u64) -> Option<Option<u64>>
     ensures found { MatchOption result ((number : Option ℕ) → IsUpTo greatest number → FindsNumber name.now (rows_of (found_of show.now)) number → ⊥)
         (FindsNumber name.now (rows_of (found_of show.now))) }
@@ -143,7 +199,7 @@ fn in_byte(number: Option<u64>) -> Option<u8>
     }
 }
 
-/// What is wrong behind `show`.
+/// What is wrong after `show`.
 pub(crate) fn show_fault(alloc: Global, show: &ArgMatches) -> Result<Error, AllocError>
     ensures { IfOk result (λ e. kind_of e ≡ ErrorKind.ValueValidation) }
 {
@@ -162,10 +218,37 @@ pub(crate) fn show_fault(alloc: Global, show: &ArgMatches) -> Result<Error, Allo
             return fault(alloc, text.as_str());
         }
     }
-    fault(
-        alloc,
-        "--summary, --svg and the options that say which events are told exclude each other",
-    )
+    let Some((name, form)) = misspelt(show) else {
+        return fault(
+            alloc,
+            "--summary and --svg go neither with each other nor with the options that choose events",
+        );
+    };
+    let word = show.get_str(name).unwrap_or("");
+    let text = format!(in alloc;
+        "invalid value '{}' for '--{name}': it is {form}",
+        ForeignText(word)
+    )?;
+    fault(alloc, text.as_str())
+}
+
+// The first option about what was reported whose word is none, with what it has to be.
+fn misspelt(show: &ArgMatches) -> Option<(&'static str, &'static str)> {
+    if status_given(show).is_none() {
+        Some(("status", "two lower case hexadecimal digits, as 28"))
+    } else if sense_given(show).is_none() {
+        Some((
+            "sense",
+            "6, 6/29 or 6/29/00: a key, ASC and ASCQ in lower case hexadecimal digits",
+        ))
+    } else if refused_given(show).is_none() {
+        Some((
+            "refused",
+            "a code with which calls are refused, as Q2, or any",
+        ))
+    } else {
+        None
+    }
 }
 
 fn fault(alloc: Global, text: &str) -> Result<Error, AllocError>

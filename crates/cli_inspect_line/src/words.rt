@@ -1,31 +1,68 @@
 // The words after the program's name, read as a plan. It relies on `cli_line` for what `clap` makes of them, and on `showing` for
 // those after `show`.
 
-ghost use Rattle.std.specs.Prelude.{◌≡◌, IfErr, IfOk, codes, map, string_bytes};
-ghost use Rattle.clap.specs.Words.{found_of, kind_of, rows_of, subcommand_of, subcommand_rows_of};
+ghost use Rattle.std.specs.Prelude.{◌≡◌, ◌≤◌, [], IfErr, IfOk, codes, map, string_bytes};
+ghost use Rattle.clap.specs.Words.{fault_of, found_of, kind_of, rows_of, subcommand_of, subcommand_rows_of};
 ghost use Rattle.cli_line.specs.RunCommand.{camr_command};
 ghost use Rattle.cli_line.specs.RunLine.{spelled_out};
 ghost use Rattle.cli_line.specs.UsageFault.{Gives, IsValueFault};
-ghost use Rattle.cli_inspect_line.specs.FoundPlan.{HasFound, IsRefused, PlansBehind, PlansFound};
+ghost use Rattle.cli_inspect_line.specs.Files.{stdin_reads};
+ghost use Rattle.cli_inspect_line.specs.FoundPlan.{HasFound, IsOfFiles, IsOfWord, IsRefused, IsUnplanned, PlansBehind, PlansFound};
 ghost use Rattle.cli_inspect_line.specs.InspectLines.{ArePlain, Asked, IsAsked, line_of};
 
 use crate::plans::Plan;
 use crate::showing::{show_fault, show_plan};
 use clap::error::ErrorKind;
 use clap::{ArgMatches, Error};
-use cli_line::{UsageFault, camr_command, matches, spelled_out};
+use cli_line::{UsageFault, camr_command, matches, read_twice, spelled_out};
 use explain_codes::Code;
 use std::alloc::{AllocError, Global};
 
-/// Reads the words after the program's name. A word after `explain` that is a code is that code. A line is refused only if `clap`
-/// refuses it, if a number that it found is none, if two things are asked for that exclude each other, or if another program carries
-/// it out; and for want of memory.
+/// Reads the words after the program's name. A word after `explain` that stands there alone and is a code is that code. A line is refused
+/// only if `clap` refuses it, if a number or another word that it found is none, if two things are asked for that exclude each other, if it
+/// would read standard input more than once, or if another program carries it out; and for want of memory.
 pub fn plan(alloc: Global, words: &[String]) -> Result<Plan, UsageFault>
     ensures found { IfOk result (HasFound (subcommand_of camr_command (map spelled_out (map string_bytes words.now)))) }
+    ensures once { IfOk result (λ plan. stdin_reads plan ≤ 1) }
     ensures gives { (asked : Asked)
         → map string_bytes words.now ≡ line_of asked → ArePlain asked
         → Gives (IsAsked asked) result }
     ensures refuses { IfErr result (IsRefused (map spelled_out (map string_bytes words.now))) }
+{
+    match asked_for(alloc, words) {
+        Ok(plan) => read_once(alloc, plan),
+        Err(fault) => Err(fault),
+    }
+}
+
+// The plan, unless it reads standard input more than once.
+fn read_once(alloc: Global, plan: Plan) -> Result<Plan, UsageFault>
+    ensures same { IfOk result (λ it. (it ≡ plan) × (stdin_reads plan ≤ 1)) }
+    ensures twice { IfErr result (λ e. IsValueFault e × (2 ≤ stdin_reads plan)) }
+{
+    if plan.stdin_reads() > 1 {
+        Err(read_twice(alloc, word_of(&plan)))
+    } else {
+        Ok(plan)
+    }
+}
+
+// The word of the subcommand whose plan may read standard input more than once.
+fn word_of(plan: &Plan) -> &'static str {
+    match plan {
+        Plan::ExplainFile(..) => "explain",
+        _ => "show",
+    }
+}
+
+// The plan that the words ask for, whatever stands for its files.
+fn asked_for(alloc: Global, words: &[String]) -> Result<Plan, UsageFault>
+    ensures found { IfOk result (HasFound (subcommand_of camr_command (map spelled_out (map string_bytes words.now)))) }
+    ensures gives { (asked : Asked)
+        → map string_bytes words.now ≡ line_of asked → ArePlain asked
+        → Gives (IsAsked asked) result }
+    ensures clear { IfOk result (λ _. fault_of camr_command (map spelled_out (map string_bytes words.now)) ≡ []) }
+    ensures refuses { IfErr result (IsUnplanned (map spelled_out (map string_bytes words.now))) }
 {
     let spelled = spelled_out(alloc, words)?;
     let matches = matches(alloc, &spelled)?;
@@ -63,9 +100,34 @@ fn explain_plan(alloc: Global, explain: &ArgMatches) -> Result<Option<Plan>, All
     let Some(word) = explain.get_str("WORD") else {
         return Ok(None);
     };
+    match explain.get_str("FILE") {
+        Some(file) => {
+            let plan = file_plan(alloc, word, file)?;
+            Ok(Some(plan))
+        }
+        None => {
+            let plan = word_plan(alloc, word)?;
+            Ok(Some(plan))
+        }
+    }
+}
+
+// The plan for a manifest and a scenario or a trace.
+fn file_plan(alloc: Global, manifest: &str, file: &str) -> Result<Plan, AllocError>
+    ensures { IfOk result (λ plan. IsOfFiles manifest.now file.now plan) }
+{
+    let manifest = String::from_str(alloc, manifest)?;
+    let file = String::from_str(alloc, file)?;
+    Ok(Plan::ExplainFile(manifest, file))
+}
+
+// The plan for a word alone.
+fn word_plan(alloc: Global, word: &str) -> Result<Plan, AllocError>
+    ensures { IfOk result (λ plan. IsOfWord word.now plan) }
+{
     match Code::of(word) {
-        Some(code) => Ok(Some(Plan::ExplainCode(code))),
-        None => Ok(Some(Plan::Explain(String::from_str(alloc, word)?))),
+        Some(code) => Ok(Plan::ExplainCode(code)),
+        None => Ok(Plan::Explain(String::from_str(alloc, word)?)),
     }
 }
 

@@ -1,6 +1,6 @@
 -- What `clap` makes of the lines that ask for something other than a run: it refuses nothing of them, and finds what they ask for.
-use Rattle.std.proofs.Common.{◌≡◌, ◌∙◌, Bool, List, [], ◌∷◌, Option, None, Some, true, false, ap, ap₂, codes, map, refl, subst, sym}
-use Rattle.std.specs.Prelude.{MatchBool, unwrap_or}
+use Rattle.std.proofs.Common.{◌≡◌, ◌∙◌, Bool, List, [], ◌∷◌, Option, None, Some, true, false, ap, ap₂, codes, map, refl, subst}
+use Rattle.std.specs.Prelude.{MatchBool}
 use Rattle.std.specs.Str.{bytes_eq}
 use Rattle.clap.specs.Words.{Row, Shape, Text, subcommand_of}
 use Rattle.clap.specs.Walk.{Held, Walk, arg_by_id, finished, idle, nothing_held, option, option_word, settled, value, walked, walked_from}
@@ -15,7 +15,7 @@ use Rattle.cli_line.proofs.AskedRows.{MeetsAsked, asked_in, found_asked}
 use Rattle.cli_line.proofs.Clear.{IsClear}
 use Rattle.cli_line.proofs.CommandWords.{IsWordOf, command_enters, command_fault, shape_of}
 use Rattle.cli_line.proofs.PlainWords.{turn_value, walk_at, walked_value}
-use Rattle.cli_line.proofs.Planned.{apart}
+use Rattle.cli_line.proofs.Planned.{not_given}
 use Rattle.cli_line.proofs.SpelledOut.{plain_out}
 use Rattle.cli_line.proofs.Traces.{Trace, end_fault, path_walk, start, trace_both, trace_last, trace_more, trace_nil, traced_fault, traced_rows}
 
@@ -135,10 +135,6 @@ manner_out is_clocked is_stepped is_told words rest =
     flag_out is_clocked (codes "--clock") (flagged is_stepped (codes "--step") (flagged is_told (codes "--ack") words)) refl
     (flag_out is_stepped (codes "--step") (flagged is_told (codes "--ack") words) refl (flag_out is_told (codes "--ack") words refl rest))
 
--- a flag that is found as another word is not given
-not_synced : {o : Option Text} → o ≡ Some (codes "false") → o ≡ Some (codes "true") → ⊥
-not_synced {o = o} found given = apart (codes "false") (codes "true") refl (ap (λ (x : Option Text). unwrap_or x []) (sym found ∙ given))
-
 -- `--journal` and its folder
 abbrev asks_journal : Held
 asks_journal = record (settled live_shape.rules nothing_held) { pending = Some (codes "journal", []) }
@@ -237,14 +233,14 @@ asked_clear (Check manifest) plain = clear (Check manifest) _ _ _
 asked_clear (Migrate manifest migrated) plain = clear (Migrate manifest migrated) _ _ _
     (trace_both nothing_held manifest migrated refl plain.0 plain.1)
     refl refl ((manifest, refl), ((migrated, refl), tt)) refl (λ i. codes "migrate" ∷ plain_out manifest plain.0 i ∷ plain_out migrated plain.1 i ∷ [])
-asked_clear (Live true true true manifest) plain = live_clear true true true manifest plain refl refl (not_synced refl, ((manifest, refl), tt))
-asked_clear (Live true true false manifest) plain = live_clear true true false manifest plain refl refl (not_synced refl, ((manifest, refl), tt))
-asked_clear (Live true false true manifest) plain = live_clear true false true manifest plain refl refl (not_synced refl, ((manifest, refl), tt))
-asked_clear (Live true false false manifest) plain = live_clear true false false manifest plain refl refl (not_synced refl, ((manifest, refl), tt))
-asked_clear (Live false true true manifest) plain = live_clear false true true manifest plain refl refl (not_synced refl, ((manifest, refl), tt))
-asked_clear (Live false true false manifest) plain = live_clear false true false manifest plain refl refl (not_synced refl, ((manifest, refl), tt))
-asked_clear (Live false false true manifest) plain = live_clear false false true manifest plain refl refl (not_synced refl, ((manifest, refl), tt))
-asked_clear (Live false false false manifest) plain = live_clear false false false manifest plain refl refl (not_synced refl, ((manifest, refl), tt))
+asked_clear (Live true true true manifest) plain = live_clear true true true manifest plain refl refl (not_given refl, ((manifest, refl), tt))
+asked_clear (Live true true false manifest) plain = live_clear true true false manifest plain refl refl (not_given refl, ((manifest, refl), tt))
+asked_clear (Live true false true manifest) plain = live_clear true false true manifest plain refl refl (not_given refl, ((manifest, refl), tt))
+asked_clear (Live true false false manifest) plain = live_clear true false false manifest plain refl refl (not_given refl, ((manifest, refl), tt))
+asked_clear (Live false true true manifest) plain = live_clear false true true manifest plain refl refl (not_given refl, ((manifest, refl), tt))
+asked_clear (Live false true false manifest) plain = live_clear false true false manifest plain refl refl (not_given refl, ((manifest, refl), tt))
+asked_clear (Live false false true manifest) plain = live_clear false false true manifest plain refl refl (not_given refl, ((manifest, refl), tt))
+asked_clear (Live false false false manifest) plain = live_clear false false false manifest plain refl refl (not_given refl, ((manifest, refl), tt))
 asked_clear (Reopen true true true true folder) plain = reopen_clear true true true true folder plain refl refl tt
 asked_clear (Reopen true true true false folder) plain = reopen_clear true true true false folder plain refl refl tt
 asked_clear (Reopen true true false true folder) plain = reopen_clear true true false true folder plain refl refl tt

@@ -77,6 +77,7 @@ module _ (name : Text) (rows : List Row) where
   -- what was found is what is asked for
   pub found_asked : (plan : Plan) → HasFoundBehind name rows plan → MeetsAsked (asked_in name rows) plan
   found_asked (plans.Run workers watch a b) found = by_word (codes "run") (plans.Run workers watch a b) found.0 tt
+  found_asked (plans.Strict workers watch a b) found = by_word (codes "run") (plans.Strict workers watch a b) found.0 tt
   found_asked (plans.Asm a b) found = by_word (codes "asm") (plans.Asm a b) found.0 (found_word (codes "IN") rows _ found.1, found_word (codes "OUT") rows _ found.2)
   found_asked (plans.Migrate a b) found = by_word (codes "migrate") (plans.Migrate a b) found.0 (found_word (codes "IN") rows _ found.1, found_word (codes "OUT") rows _ found.2)
   found_asked (plans.Dis a) found = by_word (codes "dis") (plans.Dis a) found.0 (found_word (codes "FILE") rows _ found.1)

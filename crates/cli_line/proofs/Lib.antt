@@ -11,3 +11,4 @@ pub mod Clear
 pub mod AskedRows
 pub mod AskedLines
 pub mod SpelledOut
+pub mod Once

@@ -10,9 +10,9 @@ use Rattle.cli_line.specs.RunCommand.{camr_command}
 use Rattle.cli_line.specs.RunLine.{IsPlain, IsRun, RunLine, SpellsNoLawfulNumber}
 use Rattle.cli_line.specs.declared.plans.Plan.{Plan}
 use Rattle.cli_line.specs.declared.plans.Watch.TheVariants.{Never}
-use Rattle.cli_line.specs.declared.plans.Plan.TheVariants.{Asm, Migrate, Dis, Check, Run, Live, Journal, Audit, Replay}
+use Rattle.cli_line.specs.declared.plans.Plan.TheVariants.{Asm, Migrate, Dis, Check, Run, Strict, Live, Journal, Audit, Replay}
 use Rattle.cli_line.proofs.Numbers.{refused_number}
-use Rattle.cli_line.proofs.Planned.{apart}
+use Rattle.cli_line.proofs.Planned.{apart, not_given}
 use Rattle.cli_line.proofs.Readings.{line_reading, one_to_sixteen}
 
 module _ (words : List Text) (number manifest scenario : Text) (line : RunLine words number manifest scenario)
@@ -24,20 +24,21 @@ module _ (words : List Text) (number manifest scenario : Text) (line : RunLine w
   line_plan plan found =
       let read = line_reading words number manifest scenario line plain_n plain_m plain_s in
       let here : HasFound (Some (codes "run", read.rows)) plan = subst (λ f. HasFound f plan) read.enters found in
-      go plan read.rows (run_found plan read.rows here) read.says.workers read.says.watch_is read.says.manifest_is read.says.scenario_is
+      go plan read.rows (run_found plan read.rows read.says.strict_is here) read.says.workers read.says.watch_is read.says.manifest_is read.says.scenario_is
     where
-      run_found : (plan : Plan) (rows : List Row) → HasFoundBehind (codes "run") rows plan → HasFoundIn rows plan
-      run_found (Run workers watch a b) rows found = found.1
-      run_found (Asm text program) rows found = absurd (apart (codes "run") (codes "asm") refl found.0)
-      run_found (Migrate manifest migrated) rows found = absurd (apart (codes "run") (codes "migrate") refl found.0)
-      run_found (Dis program) rows found = absurd (apart (codes "run") (codes "dis") refl found.0)
-      run_found (Check path) rows found = absurd (apart (codes "run") (codes "check") refl found.0)
-      run_found (Live manner manifest) rows found = absurd (apart (codes "run") (codes "live") refl found.0)
-      run_found (Journal manner is_synced folder manifest) rows found = absurd (apart (codes "run") (codes "live") refl found.0)
-      run_found (Audit folder) rows found = absurd (apart (codes "run") (codes "audit") refl found.0)
-      run_found (Replay manifest trace) rows found = absurd (apart (codes "run") (codes "replay") refl found.0)
+      run_found : (plan : Plan) (rows : List Row) → first_of (codes "strict") rows ≡ Some (codes "false") → HasFoundBehind (codes "run") rows plan → HasFoundIn IsRun rows plan
+      run_found (Run workers watch a b) rows loose found = found.2
+      run_found (Strict workers watch a b) rows loose found = absurd (not_given loose found.1)
+      run_found (Asm text program) rows loose found = absurd (apart (codes "run") (codes "asm") refl found.0)
+      run_found (Migrate manifest migrated) rows loose found = absurd (apart (codes "run") (codes "migrate") refl found.0)
+      run_found (Dis program) rows loose found = absurd (apart (codes "run") (codes "dis") refl found.0)
+      run_found (Check path) rows loose found = absurd (apart (codes "run") (codes "check") refl found.0)
+      run_found (Live manner manifest) rows loose found = absurd (apart (codes "run") (codes "live") refl found.0)
+      run_found (Journal manner is_synced folder manifest) rows loose found = absurd (apart (codes "run") (codes "live") refl found.0)
+      run_found (Audit folder) rows loose found = absurd (apart (codes "run") (codes "audit") refl found.0)
+      run_found (Replay manifest trace) rows loose found = absurd (apart (codes "run") (codes "replay") refl found.0)
 
-      go : (plan : Plan) (rows : List Row) → HasFoundIn rows plan → first_of (codes "workers") rows ≡ Some number → first_of (codes "watch") rows ≡ Some (codes "never")
+      go : (plan : Plan) (rows : List Row) → HasFoundIn IsRun rows plan → first_of (codes "workers") rows ≡ Some number → first_of (codes "watch") rows ≡ Some (codes "never")
           → first_of (codes "MANIFEST") rows ≡ Some manifest → first_of (codes "SCENARIO") rows ≡ Some scenario → IsRun number (codes "never") manifest scenario plan
       go plan rows found w t m s =
           let some : (a b : Text) (o : Option Text) → o ≡ Some a → o ≡ Some b → a ≡ b = λ a b o p q. ap (λ (x : Option Text). unwrap_or x a) (sym p ∙ q) in

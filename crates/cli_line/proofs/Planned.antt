@@ -1,5 +1,5 @@
 -- From the rows that `clap` found behind a word to the plan.
-use Rattle.std.proofs.Common.{◌≡◌, ◌∙◌, List, [], Option, Some, None, false, sym, subst, ap, ap₂}
+use Rattle.std.proofs.Common.{◌≡◌, ◌∙◌, List, [], Option, Some, None, codes, false, refl, sym, subst, ap, ap₂}
 use Rattle.std.specs.Str.{bytes_eq}
 use Rattle.std.proofs.lemmas.Slice.Eq.{bytes_eq-Decides}
 use Rattle.std.proofs.lemmas.Bool.Decides.{not_from_Decides}
@@ -38,6 +38,10 @@ entered_is m name rows named found = both_in (out-ArgMatches m).subcommand name 
 -- words that differ
 pub apart : (a b : Text) → bytes_eq a b ≡ false → a ≡ b → ⊥
 apart a b differs same = not_from_Decides (bytes_eq a b) (bytes_eq-Decides a b) differs same
+
+-- a flag that is found as another word is not given
+pub not_given : {o : Option Text} → o ≡ Some (codes "false") → o ≡ Some (codes "true") → ⊥
+not_given {o = o} found given = apart (codes "false") (codes "true") refl (ap (λ (x : Option Text). unwrap_or x []) (sym found ∙ given))
 
 -- what a plan is by the rows that were found, it is by the matches
 pub plan_in : (found : Option (Text × List Row)) (name : Text) (rows : List Row) (planned : Option Plan) → found ≡ Some (name, rows)

@@ -27,6 +27,7 @@ number_kinds number = if accepts false one_to_sixteen number then [] else kind.V
 pub record Says (rows : List Row) (number manifest scenario : Text) : Type 0 where
   pub workers : first_of (codes "workers") rows ≡ Some number
   pub watch_is : first_of (codes "watch") rows ≡ Some (codes "never")
+  pub strict_is : first_of (codes "strict") rows ≡ Some (codes "false")
   pub manifest_is : first_of (codes "MANIFEST") rows ≡ Some manifest
   pub scenario_is : first_of (codes "SCENARIO") rows ≡ Some scenario
 
@@ -107,7 +108,7 @@ module _ (n m s : Text) (plain_m : IsPlain m) (plain_s : IsPlain s) where
       reading _ (codes "1") m s _ w2
       (trace_path start.held 1 m _ _ w2 plain_m (trace_path w1.held 2 s [] [] w2 plain_s (trace_nil w2)))
       refl
-      (record { workers = refl; watch_is = refl; manifest_is = refl; scenario_is = refl })
+      (record { workers = refl; watch_is = refl; strict_is = refl; manifest_is = refl; scenario_is = refl })
 
   read_joined_before : Reading (codes "run" ∷ (codes "--workers=" ++ n) ∷ m ∷ s ∷ []) n m s
   unfolding defaults_fault
@@ -118,7 +119,7 @@ module _ (n m s : Text) (plain_m : IsPlain m) (plain_s : IsPlain s) where
       reading _ n m s _ w3
       (trace_joined start.held 1 n _ _ w3 (trace_path w1.held 1 m _ _ w3 plain_m (trace_path w2.held 2 s [] [] w3 plain_s (trace_nil w3))))
       (by_number n (λ k. end_fault (or_else k (or_else (step_fault run_shape 1 w1.held value) (or_else (step_fault run_shape 2 w2.held value) []))) w3) _ (joined_first n) refl refl)
-      (record { workers = refl; watch_is = refl; manifest_is = refl; scenario_is = refl })
+      (record { workers = refl; watch_is = refl; strict_is = refl; manifest_is = refl; scenario_is = refl })
 
   read_joined_between : Reading (codes "run" ∷ m ∷ (codes "--workers=" ++ n) ∷ s ∷ []) n m s
   unfolding defaults_fault
@@ -129,7 +130,7 @@ module _ (n m s : Text) (plain_m : IsPlain m) (plain_s : IsPlain s) where
       reading _ n m s _ w3
       (trace_path start.held 1 m _ _ w3 plain_m (trace_joined w1.held 2 n _ _ w3 (trace_path w2.held 2 s [] [] w3 plain_s (trace_nil w3))))
       (by_number n (λ k. end_fault (or_else (step_fault run_shape 1 start.held value) (or_else k (or_else (step_fault run_shape 2 w2.held value) []))) w3) _ (joined_second n m) refl refl)
-      (record { workers = refl; watch_is = refl; manifest_is = refl; scenario_is = refl })
+      (record { workers = refl; watch_is = refl; strict_is = refl; manifest_is = refl; scenario_is = refl })
 
   read_joined_behind : Reading (codes "run" ∷ m ∷ s ∷ (codes "--workers=" ++ n) ∷ []) n m s
   unfolding defaults_fault
@@ -140,7 +141,7 @@ module _ (n m s : Text) (plain_m : IsPlain m) (plain_s : IsPlain s) where
       reading _ n m s _ w3
       (trace_path start.held 1 m _ _ w3 plain_m (trace_path w1.held 2 s _ _ w3 plain_s (trace_joined w2.held 3 n [] [] w3 (trace_nil w3))))
       (by_number n (λ k. end_fault (or_else (step_fault run_shape 1 start.held value) (or_else (step_fault run_shape 2 w1.held value) (or_else k []))) w3) _ (joined_third n m s) refl refl)
-      (record { workers = refl; watch_is = refl; manifest_is = refl; scenario_is = refl })
+      (record { workers = refl; watch_is = refl; strict_is = refl; manifest_is = refl; scenario_is = refl })
 
   module _ (plain_n : IsPlain n) where
     read_before : Reading (codes "run" ∷ codes "--workers" ∷ n ∷ m ∷ s ∷ []) n m s
@@ -152,7 +153,7 @@ module _ (n m s : Text) (plain_m : IsPlain m) (plain_s : IsPlain s) where
         reading _ n m s _ w3
         (trace_workers start.held 1 n _ _ w3 plain_n (trace_path w1.held 1 m _ _ w3 plain_m (trace_path w2.held 2 s [] [] w3 plain_s (trace_nil w3))))
         (by_number n (λ k. end_fault (or_else (settle_fault run_rules false start.held) (or_else k (or_else (step_fault run_shape 2 w2.held value) []))) w3) _ (behind_first n) refl refl)
-        (record { workers = refl; watch_is = refl; manifest_is = refl; scenario_is = refl })
+        (record { workers = refl; watch_is = refl; strict_is = refl; manifest_is = refl; scenario_is = refl })
 
     read_between : Reading (codes "run" ∷ m ∷ codes "--workers" ∷ n ∷ s ∷ []) n m s
     unfolding defaults_fault
@@ -163,7 +164,7 @@ module _ (n m s : Text) (plain_m : IsPlain m) (plain_s : IsPlain s) where
         reading _ n m s _ w3
         (trace_path start.held 1 m _ _ w3 plain_m (trace_workers w1.held 2 n _ _ w3 plain_n (trace_path w2.held 2 s [] [] w3 plain_s (trace_nil w3))))
         (by_number n (λ k. end_fault (or_else (step_fault run_shape 1 start.held value) (or_else (settle_fault run_rules false w1.held) (or_else k []))) w3) _ (behind_second n m) refl refl)
-        (record { workers = refl; watch_is = refl; manifest_is = refl; scenario_is = refl })
+        (record { workers = refl; watch_is = refl; strict_is = refl; manifest_is = refl; scenario_is = refl })
 
     read_behind : Reading (codes "run" ∷ m ∷ s ∷ codes "--workers" ∷ n ∷ []) n m s
     unfolding defaults_fault
@@ -174,7 +175,7 @@ module _ (n m s : Text) (plain_m : IsPlain m) (plain_s : IsPlain s) where
         reading _ n m s _ w3
         (trace_path start.held 1 m _ _ w3 plain_m (trace_path w1.held 2 s _ _ w3 plain_s (trace_workers w2.held 3 n [] [] w3 plain_n (trace_nil w3))))
         (by_number n (λ k. or_else k (or_else (defaults_fault (settled run_rules w3.held).rows run_rules) (check_fault run_shape (finished run_rules w3.held) false))) _ (behind_third n m s) refl refl)
-        (record { workers = refl; watch_is = refl; manifest_is = refl; scenario_is = refl })
+        (record { workers = refl; watch_is = refl; strict_is = refl; manifest_is = refl; scenario_is = refl })
 
 pub line_reading : (words : List Text) (number manifest scenario : Text) → RunLine words number manifest scenario
     → IsPlain number → IsPlain manifest → IsPlain scenario → Reading words number manifest scenario

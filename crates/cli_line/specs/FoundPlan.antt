@@ -1,19 +1,20 @@
 -- The plan of what `clap` found.
-use Rattle.std.specs.Prelude.{◌≡◌, ◌⊎◌, ℕ, Bool, List, [], ◌∷◌, MatchBool, Option, Some, None, codes, if◌then◌else◌, option_map, string_bytes}
+use Rattle.std.specs.Prelude.{◌≡◌, ◌≤◌, ◌⊎◌, ℕ, Bool, List, [], ◌∷◌, MatchBool, Option, Some, None, codes, if◌then◌else◌, option_map, string_bytes}
 use Rattle.std.specs.Str.{bytes_eq}
 use Rattle.clap.specs.Words.{HasKind, Row, Text, fault_of, first_of, subcommand_of}
 use Rattle.clap.specs.declared.error.Error.{Error}
+use Rattle.cli_line.specs.Files.{stdin_reads}
 use Rattle.cli_line.specs.RunCommand.{camr_command}
 use Rattle.cli_line.specs.UsageFault.{IsValueFault}
-use Rattle.cli_line.specs.RunLine.{HasLawfulNumber, IsLawfulNumber, IsRun, Spells, watch_word}
+use Rattle.cli_line.specs.RunLine.{HasLawfulNumber, IsLawfulNumber, IsRun, IsStrictRun, Spells, watch_word}
 use Rattle.cli_line.specs.RunLine.{SpellsNoLawfulNumber}
 use Rattle.cli_line.specs.declared.plans.Manner.{Manner}
 use Rattle.cli_line.specs.declared.plans.Plan.{Plan}
 use Rattle.cli_line.specs.declared.plans.Watch.{Watch}
-use Rattle.cli_line.specs.declared.plans.Plan.TheVariants.{Asm, Migrate, Dis, Check, Run, Live, Journal, Audit, Replay}
+use Rattle.cli_line.specs.declared.plans.Plan.TheVariants.{Asm, Migrate, Dis, Check, Run, Strict, Live, Journal, Audit, Replay}
 
--- the plan has what `clap` found behind `run` under the arguments' names
-pub record HasFoundIn (rows : List Row) (plan : Plan) : Type 0 where
+-- these are what `clap` found behind `run` under the arguments' names, and the plan has them
+pub record HasFoundIn (Has : Text → Text → Text → Text → Plan → Type 0) (rows : List Row) (plan : Plan) : Type 0 where
   pub number : Text
   pub when : Text
   pub manifest : Text
@@ -22,7 +23,7 @@ pub record HasFoundIn (rows : List Row) (plan : Plan) : Type 0 where
   pub watch_found : first_of (codes "watch") rows ≡ Some when
   pub manifest_found : first_of (codes "MANIFEST") rows ≡ Some manifest
   pub scenario_found : first_of (codes "SCENARIO") rows ≡ Some scenario
-  pub same : IsRun number when manifest scenario plan
+  pub same : Has number when manifest scenario plan
 
 -- a flag is given
 abbrev pub IsGiven : Text → List Row → Type 0
@@ -38,7 +39,8 @@ HasManner rows manner = Tells (codes "clock") rows manner.is_clocked × Tells (c
 
 -- the plan is what was asked for by that word, with what `clap` found behind it
 abbrev pub HasFoundBehind : Text → List Row → Plan → Type 0
-HasFoundBehind name rows (Run workers watch a b) = (name ≡ codes "run") × HasFoundIn rows (Run workers watch a b)
+HasFoundBehind name rows (Run workers watch a b) = (name ≡ codes "run") × (IsGiven (codes "strict") rows → ⊥) × HasFoundIn IsRun rows (Run workers watch a b)
+HasFoundBehind name rows (Strict workers watch a b) = (name ≡ codes "run") × IsGiven (codes "strict") rows × HasFoundIn IsStrictRun rows (Strict workers watch a b)
 HasFoundBehind name rows (Asm text program) =
     (name ≡ codes "asm") × (first_of (codes "IN") rows ≡ Some (string_bytes text)) × (first_of (codes "OUT") rows ≡ Some (string_bytes program))
 HasFoundBehind name rows (Migrate manifest migrated) =
@@ -132,9 +134,14 @@ abbrev pub PlansFound : Option (Text × List Row) → Option Plan → Type 0
 PlansFound found (Some plan) = HasFound found plan × HasLawfulNumber plan
 PlansFound found None = (name : Text) (rows : List Row) → found ≡ Some (name, rows) → MakesNone name rows
 
--- why words are refused: `clap` refuses them so, or memory was refused; or `clap` finds no fault, but what it found is no plan, which is
--- the fault of a value
-abbrev pub IsRefused : List Text → Error → Type 0
-IsRefused words e =
+-- why words ask for nothing: `clap` refuses them so, or memory was refused; or `clap` finds no fault, but what it found is no plan, which
+-- is the fault of a value
+abbrev pub IsUnplanned : List Text → Error → Type 0
+IsUnplanned words e =
     HasKind (fault_of camr_command words) e
     ⊎ ((fault_of camr_command words ≡ []) × IsValueFault e × PlansFound (subcommand_of camr_command words) None)
+
+-- why words are refused: they ask for nothing, or, where `clap` finds no fault, for a plan that reads standard input more than once, which
+-- is the fault of a value too
+abbrev pub IsRefused : List Text → Error → Type 0
+IsRefused words e = IsUnplanned words e ⊎ ((fault_of camr_command words ≡ []) × IsValueFault e × (plan : Plan) × HasFound (subcommand_of camr_command words) plan × (2 ≤ stdin_reads plan))

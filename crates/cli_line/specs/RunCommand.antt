@@ -25,14 +25,24 @@ watch_rule = record (new_rule (codes "watch")) {
   defaults = codes "never" ∷ [];
 }
 
+-- an option without a word
+abbrev pub flag_rule : Text → Rule
+flag_rule name = record (new_rule name) {
+  long = Some name;
+  action = Some action.SetTrue;
+}
+
 -- a path that has to be there
 abbrev pub path_rule : Text → Rule
 path_rule name = record (new_rule name) { required = true }
 
+-- `run` with its options
+abbrev pub run_options : App
+run_options = with_rule (with_rule (with_rule (new_app (codes "run")) workers_rule) (flag_rule (codes "strict"))) watch_rule
+
 -- `run`, with its options and its two paths in their order
 abbrev pub run_command : App
-run_command = with_rule (with_rule (with_rule (with_rule (new_app (codes "run")) workers_rule) watch_rule)
-    (path_rule (codes "MANIFEST"))) (path_rule (codes "SCENARIO"))
+run_command = with_rule (with_rule run_options (path_rule (codes "MANIFEST"))) (path_rule (codes "SCENARIO"))
 
 -- `asm` with the text that it reads and the program that it writes
 abbrev pub asm_command : App
@@ -54,22 +64,15 @@ migrate_command = with_rule (with_rule (new_app (codes "migrate")) (path_rule (c
 abbrev pub replay_command : App
 replay_command = with_rule (with_rule (new_app (codes "replay")) (path_rule (codes "MANIFEST"))) (path_rule (codes "TRACE"))
 
--- `explain` with its code or its manifest
+-- `explain` with its code or its manifest, and a scenario or a trace, which may be left out
 abbrev pub explain_command : App
-explain_command = with_rule (new_app (codes "explain")) (path_rule (codes "WORD"))
+explain_command = with_rule (with_rule (new_app (codes "explain")) (path_rule (codes "WORD"))) (new_rule (codes "FILE"))
 
 -- an option of one word, which may be left out
 abbrev pub option_rule : Text → Rule
 option_rule name = record (new_rule name) {
   long = Some name;
   value_names = 1;
-}
-
--- an option without a word
-abbrev pub flag_rule : Text → Rule
-flag_rule name = record (new_rule name) {
-  long = Some name;
-  action = Some action.SetTrue;
 }
 
 -- `show` with the options that are about something with a number
@@ -81,9 +84,14 @@ numbered_command = with_rule (with_rule (with_rule (with_rule (new_app (codes "s
 abbrev pub timed_command : App
 timed_command = with_rule (with_rule numbered_command (option_rule (codes "from"))) (option_rule (codes "to"))
 
+-- with those that are about what was reported
+abbrev pub reported_command : App
+reported_command = with_rule (with_rule (with_rule timed_command (option_rule (codes "status"))) (option_rule (codes "sense")))
+    (option_rule (codes "refused"))
+
 -- with the two that stand in place of the account
 abbrev pub optional_command : App
-optional_command = with_rule (with_rule timed_command (flag_rule (codes "summary"))) (option_rule (codes "svg"))
+optional_command = with_rule (with_rule reported_command (flag_rule (codes "summary"))) (option_rule (codes "svg"))
 
 -- with its two paths in their order
 abbrev pub show_command : App

@@ -7,7 +7,7 @@ use Rattle.clap.specs.Words.{Text, kind_of}
 use Rattle.clap.specs.declared.error.Error.{Error}
 use Rattle.clap.specs.declared.error.kind.ErrorKind.TheVariants as kind
 use Rattle.cli_line.specs.declared.plans.Plan.{Plan}
-use Rattle.cli_line.specs.declared.plans.Plan.TheVariants.{Run}
+use Rattle.cli_line.specs.declared.plans.Plan.TheVariants.{Run, Strict}
 use Rattle.cli_line.specs.declared.plans.Watch.{Watch}
 use Rattle.cli_line.specs.declared.plans.Watch.TheVariants.{Never, Terminal, Lines}
 use Rattle.cli_line.specs.declared.plans.TheConstants.{MAX_WORKERS, MIN_WORKERS}
@@ -60,9 +60,16 @@ IsRun number when manifest scenario (Run workers watch a b) = Spells number work
     × (watch_word watch ≡ when) × (string_bytes a ≡ manifest) × (string_bytes b ≡ scenario)
 IsRun number when manifest scenario plan = ⊥
 
+-- the same of a run that is strict
+abbrev pub IsStrictRun : Text → Text → Text → Text → Plan → Type 0
+IsStrictRun number when manifest scenario (Strict workers watch a b) = Spells number workers
+    × (watch_word watch ≡ when) × (string_bytes a ≡ manifest) × (string_bytes b ≡ scenario)
+IsStrictRun number when manifest scenario plan = ⊥
+
 -- a run has a number of workers that there can be
 abbrev pub HasLawfulNumber : Plan → Type 0
 HasLawfulNumber (Run workers watch a b) = IsLawfulNumber workers
+HasLawfulNumber (Strict workers watch a b) = IsLawfulNumber workers
 HasLawfulNumber plan = Unit {0}
 
 -- no number of workers that there can be is spelled so

@@ -9,7 +9,7 @@ mod usage;
 mod words;
 
 pub use living::is_true;
-pub use plans::{MAX_WORKERS, MIN_WORKERS, Manner, Plan, Watch};
+pub use plans::{MAX_WORKERS, MIN_WORKERS, Manner, Plan, Watch, is_stream, reads_of};
 pub use show_usage::show_command;
 pub use usage::camr_command;
-pub use words::{UsageFault, matches, not_utf8, plan, spelled_out};
+pub use words::{UsageFault, matches, not_utf8, plan, read_twice, spelled_out};

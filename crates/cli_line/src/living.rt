@@ -106,11 +106,11 @@ fn plan_alone(alloc: Global, live: &ArgMatches, manner: Manner) -> Result<Option
     Ok(Some(Plan::Live(manner, String::from_str(alloc, manifest)?)))
 }
 
-// Whether a flag is given: it is found as the word `true`.
-fn is_given(live: &ArgMatches, name: &str) -> bool
-    ensures { MatchBool result (IsGiven name.now (rows_of (found_of live.now))) (IsGiven name.now (rows_of (found_of live.now)) → ⊥) }
+/// Whether a flag is given: it is found as the word `true`.
+pub(crate) fn is_given(found: &ArgMatches, name: &str) -> bool
+    ensures { MatchBool result (IsGiven name.now (rows_of (found_of found.now))) (IsGiven name.now (rows_of (found_of found.now)) → ⊥) }
 {
-    match live.get_str(name) {
+    match found.get_str(name) {
         Some(word) => is_true(word),
         None => false,
     }

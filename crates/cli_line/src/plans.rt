@@ -1,7 +1,7 @@
 // What the program `camr` can be asked to do. It relies on nothing.
 
-ghost use Rattle.std.specs.Prelude.{◌≡◌, ◌<◌, [], Some, None, MatchOption, length, slice_index_or};
-ghost use Rattle.cli_line.specs.Files.{given_paths, input_paths, output_path};
+ghost use Rattle.std.specs.Prelude.{◌≡◌, ◌<◌, ◌≤◌, ◌∷◌, [], Some, None, MatchOption, length, slice_index_or, string_bytes};
+ghost use Rattle.cli_line.specs.Files.{given_paths, input_paths, is_stream, output_path, stdin_reads, stream_count};
 ghost use Rattle.cli_line.specs.Watching.{watch_of};
 
 /// The least number of workers that serve completions, and the greatest.
@@ -43,6 +43,8 @@ pub enum Plan {
     Check(String),
     /// Runs a scenario over a manifest's queues: the number of workers, 1 to 16, when sums are told, the manifest, the scenario.
     Run(u8, Watch, String, String),
+    /// The same, where calls that are refused are counted at the end, and are a failure.
+    Strict(u8, Watch, String, String),
     /// Carries out what standard input asks of a manifest's queues, line by line: how, and the manifest.
     Live(Manner, String),
     /// The same of an engine whose trace is kept in a journal: how, whether the journal is synced before an answer goes out, its folder,
@@ -61,7 +63,7 @@ impl Plan {
     {
         match self {
             Plan::Asm(..) | Plan::Migrate(..) | Plan::Dis(_) | Plan::Check(_) | Plan::Live(..) => 1,
-            Plan::Run(..) | Plan::Replay(..) => 2,
+            Plan::Run(..) | Plan::Strict(..) | Plan::Replay(..) => 2,
             Plan::Journal(_, _, _, manifest) => count_given(manifest),
             Plan::Audit(_) => 0,
         }
@@ -79,11 +81,17 @@ impl Plan {
                 | Plan::Dis(first)
                 | Plan::Check(first)
                 | Plan::Run(_, _, first, _)
+                | Plan::Strict(_, _, first, _)
                 | Plan::Live(_, first)
                 | Plan::Replay(first, _),
                 0,
             ) => { first.as_str() }
-            (Plan::Run(_, _, _, second) | Plan::Replay(_, second), 1) => { second.as_str() }
+            (
+                Plan::Run(_, _, _, second)
+                | Plan::Strict(_, _, _, second)
+                | Plan::Replay(_, second),
+                1,
+            ) => { second.as_str() }
             (Plan::Journal(_, _, _, manifest), 0) => path_given(manifest),
             _ => "",
         }
@@ -98,6 +106,7 @@ impl Plan {
             Plan::Dis(_)
             | Plan::Check(_)
             | Plan::Run(..)
+            | Plan::Strict(..)
             | Plan::Live(..)
             | Plan::Journal(..)
             | Plan::Audit(_)
@@ -110,7 +119,7 @@ impl Plan {
         ensures { result ≡ watch_of self.now }
     {
         match self {
-            Plan::Run(_, watch, _, _) => *watch,
+            Plan::Run(_, watch, _, _) | Plan::Strict(_, watch, _, _) => *watch,
             Plan::Asm(..)
             | Plan::Migrate(..)
             | Plan::Dis(_)
@@ -120,6 +129,50 @@ impl Plan {
             | Plan::Audit(_)
             | Plan::Replay(..) => Watch::Never,
         }
+    }
+
+    /// How often it reads standard input: for the lines of a live engine, and for each file that it stands for.
+    pub(crate) fn stdin_reads(&self) -> usize
+        ensures { result ≡ stdin_reads self.now }
+    {
+        match self {
+            Plan::Run(_, _, manifest, scenario) => reads_of(manifest) + reads_of(scenario),
+            Plan::Strict(_, _, manifest, scenario) => reads_of(manifest) + reads_of(scenario),
+            Plan::Replay(manifest, trace) => reads_of(manifest) + reads_of(trace),
+            Plan::Asm(file, _) => reads_of(file),
+            Plan::Migrate(file, _) => reads_of(file),
+            Plan::Dis(file) => reads_of(file),
+            Plan::Check(file) => reads_of(file),
+            Plan::Live(_, manifest) => 1 + reads_of(manifest),
+            Plan::Journal(_, _, _, manifest) => 1 + reads_of_given(manifest),
+            Plan::Audit(_) => 0,
+        }
+    }
+}
+
+/// Whether the path stands for standard input where a file is read, and for standard output where one is written.
+pub fn is_stream(path: &str) -> bool
+    ensures { result ≡ is_stream path.now }
+{
+    path == "-"
+}
+
+/// How often standard input is read for that file.
+pub fn reads_of(path: &String) -> usize
+    ensures many { result ≡ stream_count (string_bytes path.now ∷ []) }
+    ensures few { result ≤ 1 }
+{
+    if is_stream(path.as_str()) { 1 } else { 0 }
+}
+
+// The same for a file that may be given.
+fn reads_of_given(path: &Option<String>) -> usize
+    ensures many { result ≡ stream_count (given_paths path.now) }
+    ensures few { result ≤ 1 }
+{
+    match path {
+        Some(path) => reads_of(path),
+        None => 0,
     }
 }
 

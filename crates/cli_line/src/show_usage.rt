@@ -1,7 +1,7 @@
 // The subcommand `show` as `clap` is given it. It relies on `usage` for paths.
 
 ghost use Rattle.std.specs.Prelude.{◌≡◌, IfOk};
-ghost use Rattle.cli_line.specs.RunCommand.{IsArgument, IsCommand, flag_rule, numbered_command, option_rule, optional_command, show_command, timed_command};
+ghost use Rattle.cli_line.specs.RunCommand.{IsArgument, IsCommand, flag_rule, numbered_command, option_rule, optional_command, reported_command, show_command, timed_command};
 
 use crate::usage::{manifest, trace};
 use clap::{Arg, ArgAction, Command};
@@ -9,8 +9,8 @@ use std::alloc::{AllocError, Global};
 
 /// What help of it has at its end.
 const TOGETHER: &str = "\
-Of the account an event is told that fits all that is asked. --summary, --svg and these options
-exclude each other.";
+The options from --ccb to --refused choose events: the account shows those that fit all of them.
+None of these goes with --summary or --svg, and --summary does not go with --svg.";
 
 /// The subcommand `show` by itself.
 pub fn show_command<'a>(alloc: Global) -> Result<Command<'a>, AllocError>
@@ -31,12 +31,37 @@ fn optional_command<'a>(alloc: Global) -> Result<Command<'a>, AllocError>
         alloc,
         "svg",
         "OUT",
-        "Draws into that file, in place of the account",
+        "Draws into that file, in place of the account; `-` is standard output",
     );
-    timed_command(alloc)?.arg(summary)?.arg(picture)
+    reported_command(alloc)?.arg(summary)?.arg(picture)
 }
 
-// The subcommand with the options that say which events are told.
+// The subcommand with the options that are about what was reported.
+fn reported_command<'a>(alloc: Global) -> Result<Command<'a>, AllocError>
+    ensures { IfOk result (IsCommand reported_command) }
+{
+    let status = option(
+        alloc,
+        "status",
+        "SS",
+        "Completions with that SCSI status, as `28`",
+    );
+    let sense = option(
+        alloc,
+        "sense",
+        "SENSE",
+        "Completions with that sense data: `6`, `6/29` or `6/29/00`",
+    );
+    let refused = option(
+        alloc,
+        "refused",
+        "CODE",
+        "Calls that are refused so, as `Q2`, or `any`",
+    );
+    timed_command(alloc)?.arg(status)?.arg(sense)?.arg(refused)
+}
+
+// The subcommand with those that are about times.
 fn timed_command<'a>(alloc: Global) -> Result<Command<'a>, AllocError>
     ensures { IfOk result (IsCommand timed_command) }
 {
@@ -59,7 +84,7 @@ fn numbered_command<'a>(alloc: Global) -> Result<Command<'a>, AllocError>
     let run = option(alloc, "run", "N", "Events of the run of that number");
     let freeze = option(alloc, "freeze", "N", "Events of the freeze of that number");
     Command::new(alloc, "show")
-        .about("Tells in words what happened in a trace")
+        .about("Reports in words what happened in a trace")
         .arg(ccb)?
         .arg(queue)?
         .arg(run)?

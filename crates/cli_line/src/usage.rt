@@ -5,11 +5,11 @@ ghost use Rattle.std.specs.Prelude.{◌≡◌, IfOk, codes};
 ghost use Rattle.clap.specs.Words.{new_rule};
 ghost use Rattle.cli_line.specs.RunCommand.{IsArgument, IsCommand, camr_command};
 ghost use Rattle.cli_line.specs.RunCommand.{asm_command, audit_command, bare_command, check_command, dis_command, explain_command, manifests_command, migrate_command};
-ghost use Rattle.cli_line.specs.RunCommand.{path_rule, programs_command, replay_command, run_command, runs_command, show_command, texts_command, traces_command};
+ghost use Rattle.cli_line.specs.RunCommand.{path_rule, programs_command, replay_command, run_command, run_options, runs_command, show_command, texts_command, traces_command};
 ghost use Rattle.cli_line.specs.RunCommand.{watch_rule, workers_rule};
 
 use crate::living::live_command;
-use crate::show_usage::show_command;
+use crate::show_usage::{flag, show_command};
 use clap::{Arg, Command, value_parser};
 use std::alloc::{AllocError, Global};
 
@@ -27,6 +27,28 @@ pub fn camr_command<'a>(alloc: Global) -> Result<Command<'a>, AllocError>
 {
     let show = show_command(alloc)?;
     traces_command(alloc)?.subcommand(show)
+}
+
+/// The command line as it is shown: that `--watch` may stand without its word.
+pub(crate) fn shown_command<'a>(alloc: Global) -> Result<Command<'a>, AllocError> {
+    let run = shown_run_command(alloc)?;
+    let live = live_command(alloc)?;
+    let runs = manifests_command(alloc)?.subcommand(run)?.subcommand(live)?;
+    shown_traces_command(alloc, runs)
+}
+
+fn shown_run_command<'a>(alloc: Global) -> Result<Command<'a>, AllocError> {
+    run_command(alloc)?.mut_arg("watch", |watch| {
+        Ok(watch.num_args(0..=1).require_equals(true))
+    })
+}
+
+// The shown command with those that read a trace too.
+fn shown_traces_command<'a>(alloc: Global, runs: Command<'a>) -> Result<Command<'a>, AllocError> {
+    let replay = replay_command(alloc)?;
+    let audit = audit_command(alloc)?;
+    let show = show_command(alloc)?;
+    runs.subcommand(replay)?.subcommand(audit)?.subcommand(show)
 }
 
 // The command without the one that tells what happened.
@@ -98,7 +120,11 @@ fn bare_command<'a>(alloc: Global) -> Result<Command<'a>, AllocError>
 fn asm_command<'a>(alloc: Global) -> Result<Command<'a>, AllocError>
     ensures { IfOk result (IsCommand asm_command) }
 {
-    let text = path(alloc, "IN", "A program as text, an instruction a line");
+    let text = path(
+        alloc,
+        "IN",
+        "A program as text, an instruction a line; `-` is standard input",
+    );
     let program = path(alloc, "OUT", "The file that gets the program's bytes");
     Command::new(alloc, "asm")
         .about("Assembles the text of a program")
@@ -109,7 +135,11 @@ fn asm_command<'a>(alloc: Global) -> Result<Command<'a>, AllocError>
 fn dis_command<'a>(alloc: Global) -> Result<Command<'a>, AllocError>
     ensures { IfOk result (IsCommand dis_command) }
 {
-    let program = path(alloc, "FILE", "The bytes of a program");
+    let program = path(
+        alloc,
+        "FILE",
+        "The bytes of a program; `-` is standard input",
+    );
     Command::new(alloc, "dis")
         .about("Prints the text of a program")
         .arg(program)
@@ -123,23 +153,30 @@ fn check_command<'a>(alloc: Global) -> Result<Command<'a>, AllocError>
         .arg(manifest(alloc))
 }
 
-fn explain_command<'a>(alloc: Global) -> Result<Command<'a>, AllocError>
+/// The subcommand `explain` by itself.
+pub(crate) fn explain_command<'a>(alloc: Global) -> Result<Command<'a>, AllocError>
     ensures { IfOk result (IsCommand explain_command) }
 {
     let word = path(
         alloc,
         "WORD",
-        "A code, as `V8`, or a manifest; `./V8` is a file of that name",
+        "A code, as `V8`, or a manifest; `./V8` is a file of that name, and `-` is standard input",
     );
+    let file = given_file(alloc);
     Command::new(alloc, "explain")
-        .about("Tells what a code means, or why a manifest is refused")
-        .arg(word)
+        .about("Explains what a code means, or why a manifest, a scenario or a trace is refused")
+        .arg(word)?
+        .arg(file)
 }
 
 fn migrate_command<'a>(alloc: Global) -> Result<Command<'a>, AllocError>
     ensures { IfOk result (IsCommand migrate_command) }
 {
-    let old = path(alloc, "IN", "A manifest of version 1");
+    let old = path(
+        alloc,
+        "IN",
+        "A manifest of version 1; `-` is standard input",
+    );
     let migrated = path(alloc, "OUT", "The file that gets it as one of version 2");
     Command::new(alloc, "migrate")
         .about("Writes a manifest with one controller over its queues")
@@ -151,16 +188,32 @@ fn migrate_command<'a>(alloc: Global) -> Result<Command<'a>, AllocError>
 pub fn run_command<'a>(alloc: Global) -> Result<Command<'a>, AllocError>
     ensures { IfOk result (IsCommand run_command) }
 {
-    let scenario = path(alloc, "SCENARIO", "What happens, a command a line");
+    let scenario = path(
+        alloc,
+        "SCENARIO",
+        "What happens, a command a line; `-` is standard input",
+    );
+    run_options(alloc)?.arg(manifest(alloc))?.arg(scenario)
+}
+
+// The same with its options alone.
+fn run_options<'a>(alloc: Global) -> Result<Command<'a>, AllocError>
+    ensures { IfOk result (IsCommand run_options) }
+{
+    let strict = flag(
+        alloc,
+        "strict",
+        "Counts on standard error the calls that were refused, and fails if any was",
+    );
     Command::new(alloc, "run")
         .about("Runs a scenario and prints its trace")
         .arg(workers(alloc))?
-        .arg(watch(alloc))?
-        .arg(manifest(alloc))?
-        .arg(scenario)
+        .arg(strict)?
+        .arg(watch(alloc))
 }
 
-fn replay_command<'a>(alloc: Global) -> Result<Command<'a>, AllocError>
+/// The subcommand `replay` by itself.
+pub(crate) fn replay_command<'a>(alloc: Global) -> Result<Command<'a>, AllocError>
     ensures { IfOk result (IsCommand replay_command) }
 {
     Command::new(alloc, "replay")
@@ -196,7 +249,9 @@ fn watch<'a>(alloc: Global) -> Arg<'a>
         .long("watch")
         .value_name("WHEN")
         .default_value("never")
-        .help("Tells sums on standard error: `terminal`, where that is one, or `lines`, always")
+        .help(
+            "Reports sums on standard error: with `terminal`, if that is a terminal; with `lines`, always",
+        )
 }
 
 /// The manifest that is read.
@@ -206,7 +261,7 @@ pub(crate) fn manifest<'a>(alloc: Global) -> Arg<'a>
     path(
         alloc,
         "MANIFEST",
-        "The queues, their programs and their tables",
+        "The queues, their programs and their tables; `-` is standard input",
     )
 }
 
@@ -219,11 +274,22 @@ pub(crate) fn given_manifest<'a>(alloc: Global) -> Arg<'a>
     )
 }
 
+// The scenario or the trace that is explained, where it may be left out.
+fn given_file<'a>(alloc: Global) -> Arg<'a>
+    ensures { IsArgument (new_rule (codes "FILE")) result }
+{
+    Arg::new(alloc, "FILE").help("A scenario or a trace, over that manifest; `-` is standard input")
+}
+
 /// The trace that is read.
 pub(crate) fn trace<'a>(alloc: Global) -> Arg<'a>
     ensures { IsArgument (path_rule (codes "TRACE")) result }
 {
-    path(alloc, "TRACE", "What was recorded, a line a record")
+    path(
+        alloc,
+        "TRACE",
+        "What was recorded, a line a record; `-` is standard input",
+    )
 }
 
 // A path that has to be there.

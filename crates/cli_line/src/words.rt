@@ -1,21 +1,23 @@
 // The words after the program's name, read as a plan. It relies on `usage` for what `clap` is given of them, on `clap` for the rest but
 // the form of a number, and on `cli_text_page` for how words are shown.
 
-ghost use Rattle.std.specs.Prelude.{◌≡◌, ◌⊎◌, IfErr, IfOk, MatchOption, codes, map, string_bytes};
+ghost use Rattle.std.specs.Prelude.{◌≡◌, ◌≤◌, ◌⊎◌, [], IfErr, IfOk, MatchOption, codes, map, string_bytes};
 ghost use Rattle.clap.specs.Words.{FailsBy, Text, fault_of, found_of, kind_of, rows_of};
 ghost use Rattle.clap.specs.Words.{subcommand_of, subcommand_rows_of};
-ghost use Rattle.cli_line.specs.FoundPlan.{HasFound, IsRefused, PlansBehind, PlansFound, ReadsWatch, ReadsWorkers};
+ghost use Rattle.cli_line.specs.Files.{stdin_reads};
+ghost use Rattle.cli_line.specs.FoundPlan.{HasFound, IsRefused, IsUnplanned, PlansBehind, PlansFound, ReadsWatch, ReadsWorkers};
 ghost use Rattle.cli_line.specs.FileLines.{ArePlain, Asked, IsAsked, line_of};
 ghost use Rattle.cli_line.specs.RunCommand.{camr_command};
 ghost use Rattle.cli_line.specs.RunLine.{GivesRun, HasLawfulNumber, IsLawfulNumber, IsPlain};
 ghost use Rattle.cli_line.specs.RunLine.{RunLine, Spells, SpellsNoLawfulNumber, spelled_out, watch_word};
 ghost use Rattle.cli_line.specs.UsageFault.{Gives, IsValueFault};
 
-use crate::living::{live_command, live_plan};
+use crate::living::{is_given, live_command, live_plan};
 use crate::plans::{MAX_WORKERS, MIN_WORKERS, Plan, Watch};
-use crate::usage::{camr_command, run_command};
+use crate::show_usage::show_command;
+use crate::usage::{camr_command, explain_command, replay_command, run_command, shown_command};
 use clap::error::ErrorKind;
-use clap::{ArgMatches, Error};
+use clap::{ArgMatches, Command, Error};
 use cli_text_page::{ForeignText, escaped};
 use std::alloc::{AllocError, Global};
 
@@ -26,11 +28,14 @@ pub type UsageFault = Error;
 /// Reads the words after the program's name. A line that asks for a run gives that run, or an error where its number is none from
 /// 1 to 16 in decimal digits alone or memory is refused; one that asks for anything else gives that, or an error where memory is
 /// refused. `--watch` by itself stands for `--watch=terminal`. Whatever the words are, a run has 1 to 16 workers, reports its sums when
-/// the word that `clap` found says, and has the paths that it found in their places. A line is refused only if `clap` refuses it,
-/// if a number or a word that it found is none, or if another program carries it out; and for want of memory.
+/// the word that `clap` found says, is strict exactly if the flag is given, and has the paths that it found in their places. `-` is
+/// standard input in place of one file: no plan reads it more than once. A line is refused only if `clap` refuses it,
+/// if a number or a word that it found is none, if it would read standard input more than once, or if another program carries it out;
+/// and for want of memory.
 pub fn plan(alloc: Global, words: &[String]) -> Result<Plan, UsageFault>
     ensures found { IfOk result (HasFound (subcommand_of camr_command (map spelled_out (map string_bytes words.now)))) }
     ensures bounded { IfOk result HasLawfulNumber }
+    ensures once { IfOk result (λ plan. stdin_reads plan ≤ 1) }
     ensures lines { (number manifest scenario : Text)
         → RunLine (map string_bytes words.now) number manifest scenario
         → IsPlain number → IsPlain manifest → IsPlain scenario
@@ -40,11 +45,52 @@ pub fn plan(alloc: Global, words: &[String]) -> Result<Plan, UsageFault>
         → Gives (IsAsked asked) result }
     ensures refuses { IfErr result (IsRefused (map spelled_out (map string_bytes words.now))) }
 {
+    match asked_for(alloc, words) {
+        Ok(plan) => read_once(alloc, plan),
+        Err(fault) => Err(fault),
+    }
+}
+
+// The plan, unless it reads standard input more than once.
+fn read_once(alloc: Global, plan: Plan) -> Result<Plan, UsageFault>
+    ensures same { IfOk result (λ it. (it ≡ plan) × (stdin_reads plan ≤ 1)) }
+    ensures twice { IfErr result (λ e. IsValueFault e × (2 ≤ stdin_reads plan)) }
+{
+    if plan.stdin_reads() > 1 {
+        Err(read_twice(alloc, word_of(&plan)))
+    } else {
+        Ok(plan)
+    }
+}
+
+// The plan that the words ask for, whatever stands for its files.
+fn asked_for(alloc: Global, words: &[String]) -> Result<Plan, UsageFault>
+    ensures found { IfOk result (HasFound (subcommand_of camr_command (map spelled_out (map string_bytes words.now)))) }
+    ensures bounded { IfOk result HasLawfulNumber }
+    ensures lines { (number manifest scenario : Text)
+        → RunLine (map string_bytes words.now) number manifest scenario
+        → IsPlain number → IsPlain manifest → IsPlain scenario
+        → GivesRun number manifest scenario result }
+    ensures gives { (asked : Asked)
+        → map string_bytes words.now ≡ line_of asked → ArePlain asked
+        → Gives (IsAsked asked) result }
+    ensures clear { IfOk result (λ _. fault_of camr_command (map spelled_out (map string_bytes words.now)) ≡ []) }
+    ensures refuses { IfErr result (IsUnplanned (map spelled_out (map string_bytes words.now))) }
+{
     let spelled = spelled_out(alloc, words)?;
     let matches = matches(alloc, &spelled)?;
     match planned(alloc, &matches)? {
         Some(plan) => Ok(plan),
         None => Err(no_plan(alloc, &matches)),
+    }
+}
+
+// The word of the subcommand whose plan may read standard input more than once.
+fn word_of(plan: &Plan) -> &'static str {
+    match plan {
+        Plan::Live(..) | Plan::Journal(..) => "live",
+        Plan::Replay(..) => "replay",
+        _ => "run",
     }
 }
 
@@ -86,6 +132,41 @@ fn utf8_fault(alloc: Global) -> Result<Error, AllocError>
         ErrorKind::ValueValidation,
         "a word of the command line is not UTF-8",
     )
+}
+
+/// The fault of a line of that subcommand in which `-` stands for two files, or for one of `live`, which reads its lines there; or want
+/// of memory.
+pub fn read_twice(alloc: Global, subcommand: &str) -> UsageFault
+    ensures { IsValueFault result }
+{
+    match twice_fault(alloc, subcommand) {
+        Ok(fault) => fault,
+        Err(error) => Error::from(error),
+    }
+}
+
+fn twice_fault(alloc: Global, subcommand: &str) -> Result<Error, AllocError>
+    ensures { IfOk result (λ e. kind_of e ≡ ErrorKind.ValueValidation) }
+{
+    let text = match subcommand {
+        "live" => "'-' stands for standard input, where live reads its lines",
+        _ => "'-' stands for standard input, which only one file can be read from",
+    };
+    let name = format!(in alloc; "camr {subcommand}")?;
+    command_of(alloc, subcommand)?
+        .bin_name(name.as_str())?
+        .error(ErrorKind::ValueValidation, text)
+}
+
+// That subcommand, of those that may read standard input more than once.
+fn command_of<'a>(alloc: Global, subcommand: &str) -> Result<Command<'a>, AllocError> {
+    match subcommand {
+        "run" => run_command(alloc),
+        "live" => live_command(alloc),
+        "replay" => replay_command(alloc),
+        "explain" => explain_command(alloc),
+        _ => show_command(alloc),
+    }
 }
 
 /// What clap makes of the words. If it refuses them, what it says of them is said of the words as they are shown.
@@ -140,7 +221,7 @@ fn shown_words(alloc: Global, words: &[&str]) -> Result<Vec<String>, AllocError>
 
 // What `clap` finds wrong with the words.
 fn fault_in(alloc: Global, words: &[String]) -> Result<Option<Error>, AllocError> {
-    match camr_command(alloc)?.try_get_matches_from(words) {
+    match shown_command(alloc)?.try_get_matches_from(words) {
         Ok(_matches) => Ok(None),
         Err(fault) => Ok(Some(fault)),
     }
@@ -284,6 +365,9 @@ fn run_plan(alloc: Global, run: &ArgMatches) -> Result<Option<Plan>, AllocError>
     };
     let manifest = String::from_str(alloc, manifest)?;
     let scenario = String::from_str(alloc, scenario)?;
+    if is_given(run, "strict") {
+        return Ok(Some(Plan::Strict(workers, watch, manifest, scenario)));
+    }
     Ok(Some(Plan::Run(workers, watch, manifest, scenario)))
 }
 
@@ -398,7 +482,7 @@ fn watch_fault(alloc: Global, word: &str) -> Result<Error, AllocError>
     ensures { IfOk result (λ e. kind_of e ≡ ErrorKind.ValueValidation) }
 {
     let text = format!(in alloc;
-        "invalid value '{}' for '--watch <WHEN>': it is `terminal` or `lines`",
+        "invalid value '{}' for '--watch[=<WHEN>]': it is `terminal` or `lines`",
         ForeignText(word)
     )?;
     run_fault(alloc, text.as_str())

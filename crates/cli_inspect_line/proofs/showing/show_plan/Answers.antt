@@ -22,7 +22,7 @@ returns-in-None-false-default c =
     let flag : c.asks_summary.result ≡ false = search rules in
     let asked : AsksSummary (rows_of f) → ⊥ = subst (λ (b : Bool). MatchBool b (AsksSummary (rows_of f)) (AsksSummary (rows_of f) → ⊥)) flag c.asks_summary.ensures in
     let picture = nothing_given f (codes "svg") c.get_str-3.result c.get_str-3.ensures (search rules) in
-    (refl, (manifest, trace), c.in-Some-filter_given.ensures, asked, picture)
+    (refl, (manifest, trace), c.in-Some-filter_given.ensures.found, asked, picture, c.in-Some-filter_given.ensures.bounded)
 
 pub returns-in-None-true-true : goal.returns-in-None-true-true
 returns-in-None-true-true c =
@@ -32,7 +32,7 @@ returns-in-None-true-true c =
     let flag : c.asks_summary.result ≡ true = search rules in
     let asked : AsksSummary (rows_of f) = subst (λ (b : Bool). MatchBool b (AsksSummary (rows_of f)) (AsksSummary (rows_of f) → ⊥)) flag c.asks_summary.ensures in
     let all : c.is_everything.result ≡ true = search rules in
-    let filter = subst (λ (x : Filter). HasFilter (rows_of f) x) (c.is_everything.ensures.0 (is_true all)) c.in-Some-filter_given.ensures in
+    let filter = subst (λ (x : Filter). HasFilter (rows_of f) x) (c.is_everything.ensures.0 (is_true all)) c.in-Some-filter_given.ensures.found in
     let picture = nothing_given f (codes "svg") c.get_str-3.result c.get_str-3.ensures (search rules) in
     (refl, (manifest, trace), filter, asked, picture)
 
@@ -44,7 +44,7 @@ returns-in_ok-picture-in-Some-false-true c =
     let flag : c.asks_summary.result ≡ false = search rules in
     let asked : AsksSummary (rows_of f) → ⊥ = subst (λ (b : Bool). MatchBool b (AsksSummary (rows_of f)) (AsksSummary (rows_of f) → ⊥)) flag c.asks_summary.ensures in
     let all : c.is_everything.result ≡ true = search rules in
-    let filter = subst (λ (x : Filter). HasFilter (rows_of f) x) (c.is_everything.ensures.0 (is_true all)) c.in-Some-filter_given.ensures in
+    let filter = subst (λ (x : Filter). HasFilter (rows_of f) x) (c.is_everything.ensures.0 (is_true all)) c.in-Some-filter_given.ensures.found in
     let given : c.get_str-3.result ≡ Some c.in-Some-false-true.picture = search rules in
     let picture = text_given f (codes "svg") c.get_str-3.result _ c.get_str-3.ensures given ∙ ap (λ (t : Text). Some t) (sym c.in_ok-picture-in-Some-false-true.ensures.ok) in
     (refl, (manifest, trace), filter, asked, picture)
@@ -56,13 +56,13 @@ pub returns-in_default-get_str : goal.returns-in_default-get_str
 returns-in_default-get_str c = λ makes. no_text (found_of c.args.show.now) (codes "TRACE") c.get_str-2.result makes.0.1.0.0 c.get_str-2.ensures c.in_default-get_str.is makes.0.1.0.1
 
 pub returns-in_default-filter_given : goal.returns-in_default-filter_given
-returns-in_default-filter_given c = λ makes. c.in_default-filter_given.ensures makes.1.0 makes.1.1 makes.1.2
+returns-in_default-filter_given c = λ makes. c.in_default-filter_given.ensures.found makes.1.0 makes.1.1 makes.1.2
 
 -- two things are asked for that exclude each other
 pub returns-in_default-2 : goal.returns-in_default-2
 returns-in_default-2 c = λ makes.
     let rows = rows_of (found_of c.args.show.now) in
-    let same = same_filter rows c.in-Some-filter_given.filter makes.1.0 c.in-Some-filter_given.ensures makes.1.2 in
+    let same = same_filter rows c.in-Some-filter_given.filter makes.1.0 c.in-Some-filter_given.ensures.found makes.1.2 in
     let asks : AsksOne rows c.in-Some-filter_given.filter = subst (λ (f : Filter). AsksOne rows f) (sym same) makes.1.3 in
     elim c.in_default-2.branch [
       | in_default-2-via-in-None+then-asks_summary+else-is_everything w ↦

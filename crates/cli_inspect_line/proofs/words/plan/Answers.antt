@@ -1,73 +1,22 @@
-use Rattle.std.proofs.Common.{◌≡◌, ◌⊎◌, ◌∙◌, [], Bor, List, None, Option, Some, ap, inl, inr, map, string_bytes, subst, sym}
-use Rattle.std.specs.Prelude.{Result, Ok, Err, IfErr, IsErrAnd}
-use Rattle.clap.specs.Words.{HasKind, Row, Text, fault_of, kind_of, subcommand_of, subcommand_rows_of}
-use Rattle.clap.specs.declared.error.Error.{Error}
-use Rattle.clap.specs.declared.error.kind.ErrorKind.TheVariants as kind
+use Rattle.std.proofs.Common.{inl, map, string_bytes}
+use Rattle.clap.specs.Words.{subcommand_of}
 use Rattle.cli_line.specs.RunCommand.{camr_command}
-use Rattle.cli_line.proofs.Clear.{clear_fault, clear_none, clear_plan, no_memory as only_memory}
-use Rattle.cli_inspect_line.specs.FoundPlan.{IsRefused, PlansFound}
-use Rattle.cli_inspect_line.specs.InspectLines.{IsAsked}
-use Rattle.cli_inspect_line.specs.declared.plans.Plan.{Plan}
-use Rattle.cli_inspect_line.proofs.AskedLines.{asked_clear}
+use Rattle.cli_line.specs.RunLine.{spelled_out}
+use Rattle.cli_inspect_line.specs.FoundPlan.{HasFound}
+use Rattle.cli_inspect_line.proofs.Once.{handed, once_gives, read_so, refused_twice}
 use Rattle.cli_inspect_line.proofs.words.plan.Goals as goal
 
--- the words that were lent are those that are spelled out
-lent : (items read : List (Bor Text)) (out : List Text) → read ≡ items → map (λ word. word.now) items ≡ out → map (λ word. word.now) read ≡ out
-lent items read out same is = ap (map (λ (word : Bor Text). word.now)) same ∙ is
+pub returns-in-Ok-clause-found : goal.returns-in-Ok-clause-found
+returns-in-Ok-clause-found c = handed c.in-Ok.plan (HasFound (subcommand_of camr_command (map spelled_out (map string_bytes c.args.words.now)))) c.read_once.result c.read_once.ensures.same c.in-Ok.ensures.found
 
--- what was found is what is behind the line
-found_so : (read line : List Text) (rows : Option (Text × List Row)) (planned : Option Plan) → read ≡ line → rows ≡ subcommand_of camr_command read → PlansFound rows planned → PlansFound (subcommand_of camr_command line) planned
-found_so read line rows planned same is found = subst (λ f. PlansFound f planned) (is ∙ ap (subcommand_of camr_command) same) found
+pub returns-in-Ok-clause-once : goal.returns-in-Ok-clause-once
+returns-in-Ok-clause-once c = read_so c.in-Ok.plan c.read_once.result c.read_once.ensures.same
 
--- memory was refused
-memory_only : (words : List Text) (r : Result Plan Error) → IsErrAnd r (λ e. kind_of e ≡ kind.OutOfMemory) → IfErr r (IsRefused words)
-memory_only words (Ok plan) is = tt
-memory_only words (Err e) is = inl (inl is)
+pub returns-in-Ok-clause-gives : goal.returns-in-Ok-clause-gives
+returns-in-Ok-clause-gives c asked line plain = once_gives c.in-Ok.plan asked c.read_once.result c.read_once.ensures.same c.read_once.ensures.twice (c.in-Ok.ensures.gives asked line plain) plain
 
--- the error was handed on
-refused_so : (words : List Text) (r : Result Plan Error) (e : Error) → IsErrAnd r (λ x. x ≡ e) → IsRefused words e → IfErr r (IsRefused words)
-refused_so words (Ok plan) e is has = tt
-refused_so words (Err x) e is has = subst (IsRefused words) (sym is) has
+pub returns-in-Ok-clause-refuses : goal.returns-in-Ok-clause-refuses
+returns-in-Ok-clause-refuses c = refused_twice c.in-Ok.plan (map spelled_out (map string_bytes c.args.words.now)) c.read_once.result c.read_once.ensures.twice c.in-Ok.ensures.clear c.in-Ok.ensures.found
 
-pub returns-in_err-spelled-clause-gives : goal.returns-in_err-spelled-clause-gives
-returns-in_err-spelled-clause-gives c asked line plain = only_memory (IsAsked asked) c.from_residual.result c.from_residual.ensures.1
-
-pub returns-in_err-matches-clause-gives : goal.returns-in_err-matches-clause-gives
-returns-in_err-matches-clause-gives c asked line plain =
-    clear_fault PlansFound _ (map string_bytes c.args.words.now) _ _ (asked_clear asked plain) (lent _ c.deref.result.now _ c.deref.ensures.value c.in_ok-spelled.ensures) line
-    c.from_residual-in_err-matches.result c.in_err-matches.field-0.0 c.from_residual-in_err-matches.ensures.1 c.in_err-matches.ensures.faults
-
-pub returns-in_err-plan-clause-gives : goal.returns-in_err-plan-clause-gives
-returns-in_err-plan-clause-gives c asked line plain = only_memory (IsAsked asked) c.from_residual-in_err-plan.result c.from_residual-in_err-plan.ensures.1
-
-pub returns-in-Some-clause-gives : goal.returns-in-Some-clause-gives
-returns-in-Some-clause-gives c asked line plain =
-    clear_plan PlansFound _ (map string_bytes c.args.words.now) _ _ (asked_clear asked plain) (lent _ c.deref.result.now _ c.deref.ensures.value c.in_ok-spelled.ensures) line
-    _ c.in-Some.plan c.in_ok-matches.ensures.rows (subst (λ o. PlansFound (subcommand_rows_of c.in_ok-matches.matches) o) c.in-Some.is c.in_ok-plan.ensures)
-
-pub returns-clause-gives : goal.returns-clause-gives
-returns-clause-gives c asked line plain = absurd
-    (clear_none PlansFound _ (map string_bytes c.args.words.now) _ _ (asked_clear asked plain) (lent _ c.deref.result.now _ c.deref.ensures.value c.in_ok-spelled.ensures) line
-    _ c.in_ok-matches.ensures.rows (subst (λ o. PlansFound (subcommand_rows_of c.in_ok-matches.matches) o) c.in-None.is c.in_ok-plan.ensures))
-
-pub returns-in_err-spelled-clause-refuses : goal.returns-in_err-spelled-clause-refuses
-returns-in_err-spelled-clause-refuses c = memory_only _ c.from_residual.result c.from_residual.ensures.1
-
-pub returns-in_err-matches-clause-refuses : goal.returns-in_err-matches-clause-refuses
-returns-in_err-matches-clause-refuses c =
-    let same = lent _ c.deref.result.now _ c.deref.ensures.value c.in_ok-spelled.ensures in
-    let e = c.in_err-matches.field-0.0 in
-    refused_so _ c.from_residual-in_err-matches.result e c.from_residual-in_err-matches.ensures.1
-    (inl (subst (λ ws. HasKind (fault_of camr_command ws) e) same c.in_err-matches.ensures.faults))
-
-pub returns-in_err-plan-clause-refuses : goal.returns-in_err-plan-clause-refuses
-returns-in_err-plan-clause-refuses c = memory_only _ c.from_residual-in_err-plan.result c.from_residual-in_err-plan.ensures.1
-
-pub returns-clause-refuses : goal.returns-clause-refuses
-returns-clause-refuses c =
-    let same = lent _ c.deref.result.now _ c.deref.ensures.value c.in_ok-spelled.ensures in
-    inr (
-      subst (λ ws. fault_of camr_command ws ≡ []) same c.in_ok-matches.ensures.faults,
-      c.no_plan.ensures,
-      found_so _ _ _ None same c.in_ok-matches.ensures.rows (subst (λ o. PlansFound (subcommand_rows_of c.in_ok-matches.matches) o) c.in-None.is c.in_ok-plan.ensures),
-    )
+pub returns-in-Err-clause-refuses : goal.returns-in-Err-clause-refuses
+returns-in-Err-clause-refuses c = inl c.in-Err.ensures.refuses

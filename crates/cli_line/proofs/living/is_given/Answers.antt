@@ -4,8 +4,8 @@ use Rattle.std.proofs.Common.{codes}
 use Rattle.cli_line.proofs.living.is_given.Goals as goal
 
 pub returns-in-Some : goal.returns-in-Some
-returns-in-Some c = flag_told (rows_of (found_of c.args.live.now)) c.args.name.now c.in-Some.word.now c.is_true.result
-    (text_given (found_of c.args.live.now) c.args.name.now c.get_str.result _ c.get_str.ensures c.in-Some.is) c.is_true.ensures
+returns-in-Some c = flag_told (rows_of (found_of c.args.found.now)) c.args.name.now c.in-Some.word.now c.is_true.result
+    (text_given (found_of c.args.found.now) c.args.name.now c.get_str.result _ c.get_str.ensures c.in-Some.is) c.is_true.ensures
 
 pub returns-in-None : goal.returns-in-None
-returns-in-None c = λ asked. no_text (found_of c.args.live.now) c.args.name.now c.get_str.result (codes "true") c.get_str.ensures c.in-None.is asked
+returns-in-None c = λ asked. no_text (found_of c.args.found.now) c.args.name.now c.get_str.result (codes "true") c.get_str.ensures c.in-None.is asked

@@ -10,9 +10,9 @@ use cli_commands::{
 };
 use cli_io::{
     Clocked, Disk, Feeder, JournalDisk, MOST_MANIFEST, MOST_PROGRAM, MOST_SCENARIO, MOST_TEXT,
-    MOST_TRACE, Patient, Reading, Relay, Relayer, Telling, read_file, replace, words,
+    MOST_TRACE, Patient, Reading, Relay, Relayer, Telling, read_all, read_file, replace, words,
 };
-use cli_line::{Manner, Plan, Watch, not_utf8, plan};
+use cli_line::{Manner, Plan, Watch, is_stream, not_utf8, plan};
 use host_live::Input;
 use std::alloc::Global;
 use std::fs::File;
@@ -190,6 +190,7 @@ fn serve_input<R: Runtime + Files<File = File> + AllocGlobal, I: Input, E: Write
     let served = host_live::Manner {
         is_stepped: manner.is_stepped,
         is_told: manner.is_told,
+        is_clocked: manner.is_clocked,
     };
     match service {
         Service::Alone(manifest) if manner.is_told => {
@@ -229,10 +230,13 @@ fn serve_answering<I: Input, W: Write + Drop, E: Write>(
 // Whether somebody is told how far the work is: of a run when its line says so, of a replay if standard error is a terminal.
 fn tells(plan: &Plan, err: &Stderr) -> bool {
     match plan {
-        Plan::Run(_, Watch::Lines, _, _) => true,
-        Plan::Run(_, Watch::Terminal, _, _) | Plan::Replay(..) => err.is_terminal(),
-        Plan::Run(_, Watch::Never, _, _)
-        | Plan::Asm(..)
+        Plan::Run(_, watch, _, _) | Plan::Strict(_, watch, _, _) => match watch {
+            Watch::Lines => true,
+            Watch::Terminal => err.is_terminal(),
+            Watch::Never => false,
+        },
+        Plan::Replay(..) => err.is_terminal(),
+        Plan::Asm(..)
         | Plan::Migrate(..)
         | Plan::Dis(_)
         | Plan::Check(_)
@@ -243,7 +247,7 @@ fn tells(plan: &Plan, err: &Stderr) -> bool {
 }
 
 // The bytes of the plan's files, in the order of the line.
-fn read_inputs<'a, R: Files + AllocGlobal>(
+fn read_inputs<'a, R: Runtime + Files + AllocGlobal + Wait>(
     rt: &R,
     plan: &'a Plan,
 ) -> Result<Vec<Vec<u8>>, Fault<'a>>
@@ -252,12 +256,27 @@ fn read_inputs<'a, R: Files + AllocGlobal>(
     let mut inputs = Vec::new(rt.alloc());
     for place in 0..plan.input_count() {
         let path = plan.input(place);
-        match read_file(rt, path, most_bytes(plan, place)) {
+        match read_input(rt, path, most_bytes(plan, place)) {
             Ok(input) => inputs.push(input).map_err(|_| Fault::OutOfMemory)?,
             Err(error) => return Err(unread(&error, path)),
         }
     }
     Ok(inputs)
+}
+
+// The bytes of that file, or of standard input.
+fn read_input<R: Runtime + Files + AllocGlobal + Wait>(
+    rt: &R,
+    path: &str,
+    most: u64,
+) -> io::Result<Vec<u8>>
+    requires { most < 2 ^ 63 }
+{
+    if is_stream(path) {
+        read_all(rt.alloc(), Patient::new(rt, rt.reader()), most)
+    } else {
+        read_file(rt, path, most)
+    }
 }
 
 // How many bytes the file at that place of the line may have.
@@ -267,11 +286,12 @@ fn most_bytes(plan: &Plan, place: usize) -> u64
     match plan {
         Plan::Asm(..) => MOST_TEXT,
         Plan::Dis(_) => MOST_PROGRAM,
-        Plan::Run(..) if place > 0 => MOST_SCENARIO,
+        Plan::Run(..) | Plan::Strict(..) if place > 0 => MOST_SCENARIO,
         Plan::Replay(..) if place > 0 => MOST_TRACE,
         Plan::Migrate(..)
         | Plan::Check(_)
         | Plan::Run(..)
+        | Plan::Strict(..)
         | Plan::Live(..)
         | Plan::Journal(..)
         | Plan::Audit(_)

@@ -3,20 +3,24 @@
 // machine.
 #![tactic(auto)]
 
-ghost use Rattle.std.specs.Prelude.{◌≡◌, length, IfOk};
+ghost use Rattle.std.specs.Prelude.{◌≡◌, ◌<◌, ◌^◌, length, IfOk};
 ghost use Rattle.cli_inspect_line.specs.Files.{input_paths};
 
 use cli_commands::{Fault, report_usage};
 use cli_inspect_line::{Plan, plan};
-use cli_inspection::carry;
-use cli_io::{Disk, MOST_MANIFEST, MOST_TRACE, Patient, Telling, read_file, replace, words};
-use cli_line::not_utf8;
+use cli_inspection::{carry, report_unread};
+use cli_io::{
+    Disk, MOST_MANIFEST, MOST_TRACE, Patient, Telling, read_all, read_file, replace, words,
+};
+use cli_line::{is_stream, not_utf8};
 use std::fs::File;
 use std::io;
 use std::io::{BufWriter, IsTerminal, Stderr, Write};
 use std::process::ExitCode;
 use std::random::RandomSource;
 use std::rt::{Files, Runtime};
+use std::sync::Wait;
+use std::thread::Threads;
 use world_calls::Notices;
 
 fn main(rt: HostRuntime) -> ExitCode {
@@ -33,12 +37,11 @@ fn main(rt: HostRuntime) -> ExitCode {
 }
 
 // Does what the words say, and answers the status to end with.
-fn status<R: Runtime + Files<File = File> + RandomSource + AllocGlobal, W: Write, E: Write>(
-    rt: &R,
-    told: Stderr,
-    out: &mut W,
-    err: &mut E,
-) -> u8 {
+fn status<
+    R: Runtime + Files<File = File> + RandomSource + AllocGlobal + Threads + Wait + Sync,
+    W: Write,
+    E: Write,
+>(rt: &R, told: Stderr, out: &mut W, err: &mut E) -> u8 {
     let words = match words(rt) {
         Ok(words) => words,
         Err(error) if error.kind() == io::ErrorKind::OutOfMemory => {
@@ -53,34 +56,37 @@ fn status<R: Runtime + Files<File = File> + RandomSource + AllocGlobal, W: Write
                 let is_on = tells(&plan, &told);
                 carry_out(rt, &plan, &inputs, &Telling::new(rt, told, is_on), out, err)
             }
-            Err(fault) => fault.report(err),
+            Err(fault) => report_unread(rt.alloc(), &plan, &fault, err),
         },
         Err(fault) => report_usage(&fault, out, err),
     }
 }
 
-// Whether somebody is told how far the work is: of what replays a trace, if standard error is a terminal.
+// Whether somebody is told how far the work is: of what replays a trace or runs a scenario, if standard error is a terminal.
 fn tells(plan: &Plan, err: &Stderr) -> bool {
     match plan {
-        Plan::Show(..) | Plan::Summarise(..) | Plan::Draw(..) => err.is_terminal(),
+        Plan::ExplainFile(..) | Plan::Show(..) | Plan::Summarise(..) | Plan::Draw(..) => {
+            err.is_terminal()
+        }
         Plan::ExplainCode(_) | Plan::Explain(_) => false,
     }
 }
 
-// Carries the plan out. What goes out goes into the plan's file, if it has one, where all went well.
+// Carries the plan out. What goes out goes into the plan's file, if it has one that is not standard output, where all went well.
 fn carry_out<
-    R: Runtime + Files<File = File> + RandomSource + AllocGlobal,
-    N: Notices,
+    R: Runtime + Files<File = File> + RandomSource + AllocGlobal + Threads + Wait + Sync,
+    N: Notices + Sync,
     W: Write,
     E: Write,
 >(rt: &R, plan: &Plan, inputs: &[Vec<u8>], notices: &N, out: &mut W, err: &mut E) -> u8
     requires { length inputs.now ≡ length (input_paths plan.now) }
 {
-    let Some(path) = plan.output() else {
-        return carry(rt.alloc(), plan, inputs, notices, out, err);
+    let path = match plan.output() {
+        Some(path) if !is_stream(path) => path,
+        _ => return carry(rt, rt.alloc(), plan, inputs, notices, out, err),
     };
     let mut bytes = Vec::new(rt.alloc());
-    let status = carry(rt.alloc(), plan, inputs, notices, &mut bytes, err);
+    let status = carry(rt, rt.alloc(), plan, inputs, notices, &mut bytes, err);
     if status != 0 {
         return status;
     }
@@ -91,7 +97,7 @@ fn carry_out<
 }
 
 // The bytes of the plan's files, in the order of the line.
-fn read_inputs<'a, R: Files + AllocGlobal>(
+fn read_inputs<'a, R: Runtime + Files + AllocGlobal + Wait>(
     rt: &R,
     plan: &'a Plan,
 ) -> Result<Vec<Vec<u8>>, Fault<'a>>
@@ -100,18 +106,33 @@ fn read_inputs<'a, R: Files + AllocGlobal>(
     let mut inputs = Vec::new(rt.alloc());
     for place in 0..plan.input_count() {
         let path = plan.input(place);
-        // the manifest comes first, and then the trace
+        // the manifest comes first, and then the scenario or the trace
         let most = if place == 0 {
             MOST_MANIFEST
         } else {
             MOST_TRACE
         };
-        match read_file(rt, path, most) {
+        match read_input(rt, path, most) {
             Ok(input) => inputs.push(input).map_err(|_| Fault::OutOfMemory)?,
             Err(error) => return Err(unread(&error, path)),
         }
     }
     Ok(inputs)
+}
+
+// The bytes of that file, or of standard input.
+fn read_input<R: Runtime + Files + AllocGlobal + Wait>(
+    rt: &R,
+    path: &str,
+    most: u64,
+) -> io::Result<Vec<u8>>
+    requires { most < 2 ^ 63 }
+{
+    if is_stream(path) {
+        read_all(rt.alloc(), Patient::new(rt, rt.reader()), most)
+    } else {
+        read_file(rt, path, most)
+    }
 }
 
 // Why that file could not be read or written.

@@ -4,3 +4,4 @@ pub mod Served
 pub mod Rejected
 pub mod Starting
 pub mod Accepted
+mod Counted

@@ -6,7 +6,7 @@ use Rattle.bpf_asm.specs.declared.fault.AsmFault.{AsmFault}
 use Rattle.bpf_decode.specs.declared.fault.DecodeFault.{DecodeFault}
 use Rattle.host_scenario.specs.declared.host.RunFault.{RunFault}
 use Rattle.host_scenario.specs.declared.host.RunFault.TheVariants as run
-use Rattle.manifest.specs.declared.ManifestFault.{ManifestFault}
+use Rattle.manifest.specs.declared.fault.ManifestFault.{ManifestFault}
 use Rattle.base.specs.declared.or_memory.OrMemory.{OrMemory}
 use Rattle.base.specs.declared.or_memory.OrMemory.TheVariants as part
 use Rattle.replay.specs.declared.fault.ReplayFault.{ReplayFault}

@@ -1,5 +1,5 @@
 -- What a start on a journal has done, and what an audit of one reports, with the status of both.
-use Rattle.std.specs.Prelude.{◌≡◌, ◌⊎◌, ◌++◌, ◌∷◌, [], ℕ, Bool, true, false, List, Option, Some, None, Result, Ok, Err, IfErr, codes, decimal, if◌then◌else◌}
+use Rattle.std.specs.Prelude.{◌≡◌, ◌⊎◌, ◌++◌, [], ℕ, Bool, List, Option, Result, Ok, Err, IfErr, codes, decimal, if◌then◌else◌}
 use Rattle.base.specs.declared.or_memory.OrMemory.{OrMemory}
 use Rattle.base.specs.declared.or_memory.OrMemory.TheVariants.{OutOfMemory, Fault}
 use Rattle.host_live.specs.Inputs.{CameState}

@@ -1,4 +1,6 @@
 pub mod Faults
+pub mod FaultText
 pub mod Journaling
+pub mod Refusals
 pub mod Told
 pub mod Writing

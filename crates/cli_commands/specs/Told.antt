@@ -13,7 +13,7 @@ use Rattle.host_live.specs.Inputs.{CameState}
 use Rattle.host_live.specs.Served.{IsServed as HasServed}
 use Rattle.host_live.specs.Telling.{IsBegun}
 use Rattle.host_live.specs.declared.manner.Manner.{Manner}
-use Rattle.manifest.specs.declared.ManifestFault.{ManifestFault}
+use Rattle.manifest.specs.declared.fault.ManifestFault.{ManifestFault}
 use Rattle.manifest.specs.Meaning.{Means, HasFault}
 use Rattle.manifest.specs.Migration.{HasMigrationFault, IsMigrated}
 use Rattle.world_calls.specs.declared.trace.Trace.{Trace}
@@ -26,11 +26,13 @@ use Rattle.host_scenario.specs.Faults.{IsUnheldThen}
 use Rattle.host_scenario.specs.Traces.{IsOfScenario}
 use Rattle.trace.specs.Reading.{Says as SaysTrace}
 use Rattle.trace.specs.TraceText.{trace_text}
-use Rattle.trace.specs.declared.fault.TraceFault.{TraceFault}
 use Rattle.world.specs.World.{Setup, version_of}
 use Rattle.world.specs.TotalsOf.{TotalsOf}
+use Rattle.cli_commands.specs.Refusals.{AreTold, refused_count}
+use Rattle.cli_commands.specs.declared.fault.Fault.{Fault}
+use Rattle.cli_commands.specs.declared.fault.Fault.TheVariants as fault
 use Rattle.cli_line.specs.declared.plans.Plan.{Plan}
-use Rattle.cli_line.specs.declared.plans.Plan.TheVariants.{Asm, Dis, Check, Migrate, Run, Live, Journal, Audit, Replay}
+use Rattle.cli_line.specs.declared.plans.Plan.TheVariants.{Asm, Dis, Check, Migrate, Run, Strict, Live, Journal, Audit, Replay}
 
 -- the bytes are the text of a program, spell one, or are a manifest
 abbrev pub IsText : List ℕ → Type 0
@@ -66,6 +68,7 @@ IsAsAsked (Dis program) bytes = IsProgram bytes
 IsAsAsked (Check manifest) bytes = IsManifest bytes
 IsAsAsked (Migrate manifest migrated) bytes = IsMigratable bytes
 IsAsAsked (Run workers watch manifest scenario) bytes = IsManifest bytes
+IsAsAsked (Strict workers watch manifest scenario) bytes = IsManifest bytes
 IsAsAsked (Live manner manifest) bytes = IsManifest bytes
 IsAsAsked (Journal manner is_synced folder manifest) bytes = ⊥
 IsAsAsked (Audit folder) bytes = ⊥
@@ -84,6 +87,7 @@ IsFaulty (Dis program) bytes = IsFaultyProgram bytes
 IsFaulty (Check manifest) bytes = IsFaultyManifest bytes
 IsFaulty (Migrate manifest migrated) bytes = IsFaultyMigration bytes
 IsFaulty (Run workers watch manifest scenario) bytes = Unit {0}
+IsFaulty (Strict workers watch manifest scenario) bytes = Unit {0}
 IsFaulty (Live manner manifest) bytes = IsFaultyManifest bytes
 IsFaulty (Journal manner is_synced folder manifest) bytes = ⊥
 IsFaulty (Audit folder) bytes = ⊥
@@ -128,6 +132,7 @@ IsScenario text = (steps : List Step) × Say (lines_of text) steps
 -- what a plan's second file is, beside the first, where the plan was carried out
 abbrev pub IsAccepted : Plan → List ℕ → List ℕ → Type 0
 IsAccepted (Run workers watch manifest scenario) first second = IsScenario second
+IsAccepted (Strict workers watch manifest scenario) first second = IsScenario second
 IsAccepted (Replay manifest trace) first second = IsAcceptedTrace first second
 IsAccepted plan first second = Unit {0}
 
@@ -161,43 +166,80 @@ IsOutput (Dis program) input old new = PutsOut (IsDisassembled input) old new
 IsOutput (Check manifest) input old new = Unit {0}
 IsOutput (Migrate manifest migrated) input old new = PutsOut (IsMigrated input) old new
 IsOutput (Run workers watch manifest scenario) input old new = PutsOut (IsTraceUnder input) old new
+IsOutput (Strict workers watch manifest scenario) input old new = PutsOut (IsTraceUnder input) old new
 IsOutput (Live manner manifest) input old new = PutsOut (IsIdleUnder input) old new
 IsOutput (Journal manner is_synced folder manifest) input old new = ⊥
 IsOutput (Audit folder) input old new = ⊥
 IsOutput (Replay manifest trace) input old new = PutsOut (λ output. output ≡ codes "accepted" ++ 10 ∷ []) old new
 
--- of a run: the trace of its scenario on an engine of its manifest
+-- of a run: the trace of its scenario on an engine of its manifest; and of a strict one that no call was refused
 abbrev pub IsPutOut : Plan → List ℕ → List ℕ → Option (List ℕ) → Option (List ℕ) → Type 0
 IsPutOut (Run workers watch manifest scenario) first second old new =
     (trace : Trace) × IsOfManifest first trace × IsOfScenarioText second trace × IsPrinted trace old new
+IsPutOut (Strict workers watch manifest scenario) first second old new =
+    (trace : Trace) × IsOfManifest first trace × IsOfScenarioText second trace × IsPrinted trace old new × (refused_count trace.records.items ≡ 0)
 IsPutOut plan first second old new = Unit {0}
 
--- The text has this fault of a trace, or this faulty line of a scenario.
-abbrev pub IsFaultyTrace : List ℕ → Type 0
-IsFaultyTrace text = (fault : TraceFault) × SaysTrace text (Err (part.Fault fault))
-
-abbrev pub IsFaultyScenario : List ℕ → Type 0
-IsFaultyScenario text = (number : ℕ) × IsFaultyLine text number
-
 -- The one text is a manifest, and the other a trace, this line of which is the first that does not follow over it.
-abbrev pub IsFaultyReplay : List ℕ → List ℕ → Type 0
-IsFaultyReplay manifest text =
-    (setup : _) × (programs : _) × (trace : Trace) × (fault : ReplayFault) × Means manifest setup programs × (trace_text trace ≡ Some text) × IsFaultyAt setup trace fault
+abbrev pub IsFaultyReplay : List ℕ → List ℕ → ReplayFault → Type 0
+IsFaultyReplay manifest text fault =
+    (setup : _) × (programs : _) × (trace : Trace) × Means manifest setup programs × (trace_text trace ≡ Some text) × IsFaultyAt setup trace fault
 
--- The one text is a manifest, and the other a scenario, on a line of which stands a release of a freeze that is not held then.
-abbrev pub IsUnheldRelease : List ℕ → List ℕ → Type 0
-IsUnheldRelease manifest text =
-    (setup : _) × (programs : _) × (steps : List Step) × (line : ℕ) × Means manifest setup programs × Say (lines_of text) steps × IsUnheldThen setup steps line
+-- The one text is a manifest, and the other a scenario, on this line of which stands a release of a freeze that is not held then.
+abbrev pub IsUnheldRelease : List ℕ → List ℕ → ℕ → Type 0
+IsUnheldRelease manifest text line =
+    (setup : _) × (programs : _) × (steps : List Step) × Means manifest setup programs × Say (lines_of text) steps × IsUnheldThen setup steps line
 
--- why a trace is not accepted over a manifest, and why a scenario is not carried out
+-- a line of the text, at least, is none of a scenario
+abbrev pub IsFaultyScenario : List ℕ → Type 0
+IsFaultyScenario text = (line : ℕ) × IsFaultyLine text line
+
+-- what is wrong with a manifest
+abbrev pub IsManifestFault : List ℕ → Fault → Type 0
+IsManifestFault manifest (fault.Manifest f) = HasFault manifest f
+IsManifestFault manifest other = ⊥
+
+-- why a trace is not accepted over a manifest, and why a scenario is not carried out: the first of the two that has a fault is told
+abbrev pub IsTraceFault : List ℕ → List ℕ → Fault → Type 0
+IsTraceFault manifest text (fault.Trace f) = IsManifest manifest × SaysTrace text (Err (part.Fault f))
+IsTraceFault manifest text (fault.Replay f) = IsFaultyReplay manifest text f
+IsTraceFault manifest text other = IsManifestFault manifest other
+
+abbrev pub IsScenarioFault : List ℕ → List ℕ → Fault → Type 0
+IsScenarioFault manifest text (fault.Line line) = IsManifest manifest × IsFaultyLine text line
+IsScenarioFault manifest text (fault.NotHeld line) = IsUnheldRelease manifest text line
+IsScenarioFault manifest text other = IsManifestFault manifest other
+
+-- there is such a fault
 abbrev pub IsRejectedTrace : List ℕ → List ℕ → Type 0
-IsRejectedTrace manifest text = IsFaultyManifest manifest ⊎ (IsFaultyTrace text ⊎ IsFaultyReplay manifest text)
+IsRejectedTrace manifest text = (fault : Fault) × IsTraceFault manifest text fault
 
 abbrev pub IsRejectedScenario : List ℕ → List ℕ → Type 0
-IsRejectedScenario manifest text = IsFaultyManifest manifest ⊎ (IsFaultyScenario text ⊎ IsUnheldRelease manifest text)
+IsRejectedScenario manifest text = (fault : Fault) × IsScenarioFault manifest text fault
 
 -- what is wrong with a plan's first file, or with its second beside the first, where the plan was refused
 abbrev pub IsRejected : Plan → List ℕ → List ℕ → Type 0
 IsRejected (Run workers watch manifest scenario) first second = IsRejectedScenario first second
 IsRejected (Replay manifest trace) first second = IsRejectedTrace first second
 IsRejected plan first second = Unit {0}
+
+-- the run is strict
+abbrev pub is_strict : Plan → Bool
+is_strict (Strict workers watch manifest scenario) = true
+is_strict plan = false
+
+-- The one text is a manifest, and the other a scenario, of which the trace went out. Calls were refused, and what was written of them says
+-- how many there are, and where the first stands.
+abbrev pub AreCounted : (manifest scenario : List ℕ) → (old new told-old told-new : Option (List ℕ)) → Type 0
+AreCounted manifest scenario old new told-old told-new =
+    (trace : Trace) × (steps : List Step) × IsOfManifest manifest trace × Say (lines_of scenario) steps × IsOfScenario steps trace.records.items
+    × IsPrinted trace old new × AreTold steps trace.records.items told-old told-new
+
+-- why a strict run ended with 1: it was not carried out, and nothing went out; or calls were refused
+abbrev pub IsFailed : (manifest scenario : List ℕ) → (old new told-old told-new : Option (List ℕ)) → Type 0
+IsFailed manifest scenario old new told-old told-new =
+    (Keeps old new × IsRejectedScenario manifest scenario) ⊎ AreCounted manifest scenario old new told-old told-new
+
+abbrev pub IsFailedRun : Plan → (first second : List ℕ) → (old new told-old told-new : Option (List ℕ)) → Type 0
+IsFailedRun (Strict workers watch manifest scenario) first second old new told-old told-new = IsFailed first second old new told-old told-new
+IsFailedRun plan first second old new told-old told-new = Unit {0}

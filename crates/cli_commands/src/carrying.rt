@@ -1,19 +1,23 @@
 // A plan, carried out over the bytes of its files. It relies on the crates that read programs, a manifest and a scenario, on
 // `replaying` for the verdict on a trace, on `host_scenario`, and on `trace` and `verdicts` for what goes out.
 
-ghost use Rattle.std.specs.Prelude.{◌≡◌, ◌≢◌, ◌≤◌, true, Contains, Some, IfOk, IfErr, IsErrAnd, IsUtf8, [], length, slice_get, string_bytes};
+ghost use Rattle.std.specs.Prelude.{◌≡◌, ◌≢◌, ◌≤◌, false, true, Contains, Some, IfOk, IfErr, IsErrAnd, IsUtf8, [], length, slice_get, string_bytes};
 ghost use Rattle.std.specs.Io.KnownBytes.{Keeps};
 ghost use Rattle.cli_line.specs.Files.{input_paths, reads_text};
 ghost use Rattle.manifest.specs.Migration.{IsMigrated};
 ghost use Rattle.trace.specs.HasText.{AllHaveText};
+ghost use Rattle.scenario.specs.Said.{Say, lines_of};
+ghost use Rattle.host_scenario.specs.Traces.{IsOfScenario};
 ghost use Rattle.workers.specs.declared.serving.TheConstants.{MAX_WORKERS};
 ghost use Rattle.cli_commands.specs.Faults.{status_of};
 ghost use Rattle.cli_commands.specs.Told.{IsText, IsProgram, IsManifest, IsMigratable, needs_disk, IsFaultyText, IsFaultyProgram, IsFaultyManifest, IsFaultyMigration};
-ghost use Rattle.cli_commands.specs.Told.{IsAccepted, IsAsAsked, IsAssembled, IsDisassembled, IsFaulty, IsIdleUnder, IsOfManifest, IsOfScenarioText, IsOutput, IsPrinted, IsPutOut, IsRejected, IsRejectedScenario, IsScenario, IsServing, IsTraceUnder, PutsOut};
+ghost use Rattle.cli_commands.specs.Refusals.{AreTold, refused_count};
+ghost use Rattle.cli_commands.specs.Told.{IsAccepted, IsAsAsked, IsAssembled, IsDisassembled, IsFailed, IsFailedRun, IsFaulty, IsIdleUnder, IsOfManifest, IsOfScenarioText, IsOutput, IsPrinted, IsPutOut, IsRejected, IsRejectedScenario, IsScenario, IsScenarioFault, IsServing, IsTraceUnder, PutsOut, is_strict};
 
 use crate::fault::Fault;
 use crate::files::{text, unwritten, write};
 use crate::handing::WriterSink;
+use crate::refusals::report_refusals;
 use crate::replaying::print_verdict;
 use crate::verdicts;
 use bpf_asm::{assemble, disassemble};
@@ -21,6 +25,7 @@ use bpf_decode::{decode, encode};
 use cli_line::Plan;
 use engine_core::Engine;
 use manifest::{Manifest, NamedProgram};
+use scenario::Scenario;
 use std::alloc::Global;
 use std::io;
 use std::io::Write;
@@ -31,9 +36,10 @@ use world_calls::{Notices, Trace};
 
 /// Carries a plan out over the bytes of its input files, in the order of the line, and answers the status:
 /// 0 done; 1 refused; 2 for a file that is to be text and is not UTF-8, for want of memory, or where a writer fails. What is to
-/// go out is written on `out`, and one line for a fault on `err`; if a file is refused, nothing goes out. Where `out` fails for want
-/// of memory that line is written too; some may be out then. How far a run or a replay is, is told where that is wanted. The plans of a
-/// journal are not carried out here: `serve_journal` and `audit_journal` do that.
+/// go out is written on `out`, and one line for a fault on `err`; if a file is refused, nothing goes out. If calls of a strict run are
+/// refused, its trace goes out, one line on `err` says how many there are and where the first of them stands, and the status is 1. Where
+/// `out` fails for want of memory that line is written too; some may be out then. How far a run or a replay is, is told where that is
+/// wanted. The plans of a journal are not carried out here: `serve_journal` and `audit_journal` do that.
 pub fn carry<N: Notices + Sync, R: Threads + Wait + Sync, W: Write, E: Write>(
     rt: &R,
     alloc: Global,
@@ -61,8 +67,12 @@ pub fn carry<N: Notices + Sync, R: Threads + Wait + Sync, W: Write, E: Write>(
     ensures refused { result ≡ 1 → (input : _) → slice_get inputs.now 0 ≡ Some input → IsFaulty plan.now input.items }
     // Of two files, refused only where one has a fault, a line of the trace does not follow, or the scenario has a release.
     ensures rejected { result ≡ 1 → (first second : _) → slice_get inputs.now 0 ≡ Some first → slice_get inputs.now 1 ≡ Some second → IsRejected plan.now first.items second.items }
-    // What is refused puts nothing out.
-    ensures nothing { result ≡ 1 → Keeps (W.contents out.old) (W.contents out.new) }
+    // What is refused puts nothing out, but for a strict run.
+    ensures nothing { result ≡ 1 → is_strict plan.now ≡ false → Keeps (W.contents out.old) (W.contents out.new) }
+    // What is done writes nothing on `err`.
+    ensures quiet { result ≡ 0 → Keeps (E.contents err.old) (E.contents err.new) }
+    // A strict run ends with 1 only where a run would, or where calls were refused: then they are counted.
+    ensures failed { result ≡ 1 → (first second : _) → slice_get inputs.now 0 ≡ Some first → slice_get inputs.now 1 ≡ Some second → IsFailedRun plan.now first.items second.items (W.contents out.old) (W.contents out.new) (E.contents err.old) (E.contents err.new) }
 {
     match plan {
         Plan::Asm(text, _) => {
@@ -78,6 +88,12 @@ pub fn carry<N: Notices + Sync, R: Threads + Wait + Sync, W: Write, E: Write>(
             let scenario = (scenario.as_str(), inputs[1].as_slice());
             let workers = usize::from(*workers).clamp(1, MAX_WORKERS);
             print_run(rt, alloc, workers, manifest, scenario, notices, out, err)
+        }
+        Plan::Strict(workers, _, manifest, scenario) => {
+            let manifest = (manifest.as_str(), inputs[0].as_slice());
+            let scenario = (scenario.as_str(), inputs[1].as_slice());
+            let workers = usize::from(*workers).clamp(1, MAX_WORKERS);
+            print_strict(rt, alloc, workers, manifest, scenario, notices, out, err)
         }
         // of a live engine, what it does where nothing is asked
         Plan::Live(_, manifest) => {
@@ -118,6 +134,7 @@ fn print_assembled<W: Write, E: Write>(
     ensures output { result ≡ 0 → PutsOut (IsAssembled text.entry.1.now) (W.contents out.old) (W.contents out.new) }
     ensures refused { result ≡ 1 → IsFaultyText text.entry.1.now }
     ensures nothing { result ≡ 1 → Keeps (W.contents out.old) (W.contents out.new) }
+    ensures quiet { result ≡ 0 → Keeps (E.contents err.old) (E.contents err.new) }
 {
     match assembled(alloc, text) {
         Ok(bytes) => write(&bytes, out, err),
@@ -137,6 +154,7 @@ fn print_disassembled<W: Write, E: Write>(
     ensures output { result ≡ 0 → PutsOut (IsDisassembled bytes.now) (W.contents out.old) (W.contents out.new) }
     ensures refused { result ≡ 1 → IsFaultyProgram bytes.now }
     ensures nothing { result ≡ 1 → Keeps (W.contents out.old) (W.contents out.new) }
+    ensures quiet { result ≡ 0 → Keeps (E.contents err.old) (E.contents err.new) }
 {
     match disassembled(alloc, bytes) {
         Ok(text) => write(text.as_bytes(), out, err),
@@ -156,6 +174,7 @@ fn print_checked<W: Write, E: Write>(
     ensures done { result ≡ 0 → IsManifest manifest.entry.1.now }
     ensures refused { result ≡ 1 → IsFaultyManifest manifest.entry.1.now }
     ensures nothing { result ≡ 1 → Keeps (W.contents out.old) (W.contents out.new) }
+    ensures quiet { result ≡ 0 → Keeps (E.contents err.old) (E.contents err.new) }
 {
     match check(alloc, manifest) {
         Ok(manifest) => write_verdicts(&manifest.programs, out, err),
@@ -165,7 +184,8 @@ fn print_checked<W: Write, E: Write>(
 
 // Writes the verdicts on these programs, and answers the status.
 fn write_verdicts<W: Write, E: Write>(programs: &[NamedProgram], out: &mut W, err: &mut E) -> u8
-    ensures { (result ≢ 1) × (result ≤ 2) }
+    ensures status { (result ≢ 1) × (result ≤ 2) }
+    ensures quiet { result ≡ 0 → Keeps (E.contents err.old) (E.contents err.new) }
 {
     match verdicts::print(programs, out) {
         Ok(()) => 0,
@@ -214,6 +234,7 @@ fn print_migrated<W: Write, E: Write>(
     ensures output { result ≡ 0 → PutsOut (IsMigrated manifest.entry.1.now) (W.contents out.old) (W.contents out.new) }
     ensures refused { result ≡ 1 → IsFaultyMigration manifest.entry.1.now }
     ensures nothing { result ≡ 1 → Keeps (W.contents out.old) (W.contents out.new) }
+    ensures quiet { result ≡ 0 → Keeps (E.contents err.old) (E.contents err.new) }
 {
     match migrated(alloc, manifest) {
         Ok(text) => write(text.as_bytes(), out, err),
@@ -251,10 +272,71 @@ fn print_run<N: Notices + Sync, R: Threads + Wait + Sync, W: Write, E: Write>(
     ensures output { result ≡ 0 → PutsOut (IsTraceUnder manifest.entry.1.now) (W.contents out.old) (W.contents out.new) }
     ensures rejected { result ≡ 1 → IsRejectedScenario manifest.entry.1.now scenario.entry.1.now }
     ensures nothing { result ≡ 1 → Keeps (W.contents out.old) (W.contents out.new) }
+    ensures quiet { result ≡ 0 → Keeps (E.contents err.old) (E.contents err.new) }
 {
     match run(rt, alloc, workers, manifest, scenario, notices) {
         Ok(trace) => write_trace(&trace, out, err),
         Err(fault) => fault.report(err),
+    }
+}
+
+// The same, and the calls that were refused are counted on `err`: if there are any, the status is 1.
+fn print_strict<N: Notices + Sync, R: Threads + Wait + Sync, W: Write, E: Write>(
+    rt: &R,
+    alloc: Global,
+    workers: usize,
+    manifest: (&str, &[u8]),
+    scenario: (&str, &[u8]),
+    notices: &N,
+    out: &mut W,
+    err: &mut E,
+) -> u8
+    requires { (1 ≤ workers) × (workers ≤ MAX_WORKERS) }
+    ensures status { result ≤ 2 }
+    ensures manifest { ¬ (IsUtf8 manifest.entry.1.now) → result ≡ 2 }
+    ensures scenario { ¬ (IsUtf8 scenario.entry.1.now) → result ≡ 2 }
+    ensures done { result ≡ 0 → IsManifest manifest.entry.1.now }
+    ensures accepted { result ≡ 0 → IsScenario scenario.entry.1.now }
+    ensures out { result ≡ 0 → (trace : _) × IsOfManifest manifest.entry.1.now trace × IsOfScenarioText scenario.entry.1.now trace × IsPrinted trace (W.contents out.old) (W.contents out.new) × (refused_count trace.records.items ≡ 0) }
+    ensures output { result ≡ 0 → PutsOut (IsTraceUnder manifest.entry.1.now) (W.contents out.old) (W.contents out.new) }
+    ensures quiet { result ≡ 0 → Keeps (E.contents err.old) (E.contents err.new) }
+    ensures failed { result ≡ 1 → IsFailed manifest.entry.1.now scenario.entry.1.now (W.contents out.old) (W.contents out.new) (E.contents err.old) (E.contents err.new) }
+{
+    match carried_out(rt, alloc, workers, manifest, scenario, notices) {
+        Ok((steps, trace)) => print_counted(&steps, &trace, out, err),
+        Err(fault) => fault.report(err),
+    }
+}
+
+// Writes the whole trace of a scenario, counts on `err` the calls that were refused, and answers the status. The trace is out before they
+// are counted.
+fn print_counted<W: Write, E: Write>(
+    scenario: &Scenario<'_>,
+    trace: &Trace,
+    out: &mut W,
+    err: &mut E,
+) -> u8
+    requires { AllHaveText trace.now.version trace.now.records.items }
+    ensures status { result ≤ 2 }
+    ensures written { result ≢ 2 → IsPrinted trace.now (W.contents out.old) (W.contents out.new) }
+    ensures none { result ≡ 0 → refused_count trace.now.records.items ≡ 0 }
+    ensures quiet { result ≡ 0 → Keeps (E.contents err.old) (E.contents err.new) }
+    ensures told { result ≡ 1 → AreTold scenario.now trace.now.records.items (E.contents err.old) (E.contents err.new) }
+{
+    match print_flushed(trace, out) {
+        Ok(()) => report_refusals(scenario, &trace.records, err),
+        Err(error) => unwritten(error, err),
+    }
+}
+
+// The whole trace goes out, and nothing of it waits in a buffer.
+fn print_flushed<W: Write>(trace: &Trace, out: &mut W) -> io::Result<()>
+    requires { AllHaveText trace.now.version trace.now.records.items }
+    ensures { IfOk result (λ _. IsPrinted trace.now (W.contents out.old) (W.contents out.new)) }
+{
+    match print_trace(trace, out) {
+        Ok(()) => out.flush(),
+        Err(error) => Err(error),
     }
 }
 
@@ -271,6 +353,7 @@ fn print_idle<W: Write, E: Write>(
     ensures output { result ≡ 0 → PutsOut (IsIdleUnder manifest.entry.1.now) (W.contents out.old) (W.contents out.new) }
     ensures refused { result ≡ 1 → IsFaultyManifest manifest.entry.1.now }
     ensures nothing { result ≡ 1 → Keeps (W.contents out.old) (W.contents out.new) }
+    ensures quiet { result ≡ 0 → Keeps (E.contents err.old) (E.contents err.new) }
 {
     match idle(alloc, manifest) {
         Ok(trace) => write_trace(&trace, out, err),
@@ -298,6 +381,7 @@ fn write_trace<W: Write, E: Write>(trace: &Trace, out: &mut W, err: &mut E) -> u
     requires { AllHaveText trace.now.version trace.now.records.items }
     ensures status { (result ≢ 1) × (result ≤ 2) }
     ensures written { result ≡ 0 → IsPrinted trace.now (W.contents out.old) (W.contents out.new) }
+    ensures quiet { result ≡ 0 → Keeps (E.contents err.old) (E.contents err.new) }
 {
     match print_trace(trace, out) {
         Ok(()) => 0,
@@ -317,9 +401,9 @@ fn print_trace<W: Write>(trace: &Trace, out: &mut W) -> io::Result<()>
     }
 }
 
-// The trace of a manifest and a scenario, each a path and its bytes, run by so many workers.
-#[tactic(auto, using(trace_of_history::proofs::Each::each_record_has_text))]
-fn run<'a, N: Notices + Sync, R: Threads + Wait + Sync>(
+/// The trace of a manifest and a scenario, each a path and its bytes, run by so many workers; else what is wrong with the first of them
+/// that has a fault, or with the run.
+pub fn run<'a, N: Notices + Sync, R: Threads + Wait + Sync>(
     rt: &R,
     alloc: Global,
     workers: usize,
@@ -335,11 +419,38 @@ fn run<'a, N: Notices + Sync, R: Threads + Wait + Sync>(
     ensures spelled { IfOk result (λ trace. AllHaveText trace.version trace.records.items) }
     ensures trace { IfOk result (λ trace. IsOfManifest manifest.entry.1.now trace) }
     ensures asked { IfOk result (λ trace. IsOfScenarioText scenario.entry.1.now trace) }
-    ensures fault { IfErr result (λ e. status_of e ≡ 1 → IsRejectedScenario manifest.entry.1.now scenario.entry.1.now) }
+    ensures fault { IfErr result (λ e. status_of e ≡ 1 → IsScenarioFault manifest.entry.1.now scenario.entry.1.now e) }
+{
+    match carried_out(rt, alloc, workers, manifest, scenario, notices) {
+        Ok((_, trace)) => Ok(trace),
+        Err(fault) => Err(fault),
+    }
+}
+
+// The same, with the scenario.
+#[tactic(auto, using(trace_of_history::proofs::Each::each_record_has_text))]
+fn carried_out<'a, 'b, N: Notices + Sync, R: Threads + Wait + Sync>(
+    rt: &R,
+    alloc: Global,
+    workers: usize,
+    manifest: (&'a str, &[u8]),
+    scenario: (&'a str, &'b [u8]),
+    notices: &N,
+) -> Result<(Scenario<'b>, Trace), Fault<'a>>
+    requires { (1 ≤ workers) × (workers ≤ MAX_WORKERS) }
+    ensures manifest { ¬ (IsUtf8 manifest.entry.1.now) → IsErrAnd result (λ e. status_of e ≡ 2) }
+    ensures scenario { ¬ (IsUtf8 scenario.entry.1.now) → IsErrAnd result (λ e. status_of e ≡ 2) }
+    ensures done { IfOk result (λ _. IsManifest manifest.entry.1.now) }
+    ensures said { IfOk result (λ its. Say (lines_of scenario.entry.1.now) its.0) }
+    ensures spelled { IfOk result (λ its. AllHaveText its.1.version its.1.records.items) }
+    ensures trace { IfOk result (λ its. IsOfManifest manifest.entry.1.now its.1) }
+    ensures asked { IfOk result (λ its. IsOfScenario its.0 its.1.records.items) }
+    ensures fault { IfErr result (λ e. status_of e ≡ 1 → IsScenarioFault manifest.entry.1.now scenario.entry.1.now e) }
 {
     let manifest = text(manifest)?;
     let scenario = text(scenario)?;
     let manifest = manifest::read(alloc, manifest)?;
     let steps = scenario::read(alloc, scenario)?;
-    Ok(host_scenario::run(rt, alloc, manifest.config, &steps, workers, notices)?)
+    let trace = host_scenario::run(rt, alloc, manifest.config, &steps, workers, notices)?;
+    Ok((steps, trace))
 }

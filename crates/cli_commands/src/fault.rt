@@ -2,6 +2,8 @@
 // how a path is shown.
 
 ghost use Rattle.std.specs.Prelude.{◌≡◌, ◌≤◌, ◌⊎◌};
+ghost use Rattle.std.specs.Io.KnownBytes.{Appends};
+ghost use Rattle.cli_commands.specs.FaultText.{report_of};
 ghost use Rattle.cli_commands.specs.Faults.{fault_of_manifest, fault_of_program, fault_of_replay, fault_of_run, fault_of_scenario, fault_of_text, fault_of_trace, status_of};
 
 use base::OrMemory;
@@ -12,46 +14,61 @@ use host_scenario::RunFault;
 use manifest::{ManifestError, ManifestFault};
 use replay::{ReplayError, ReplayFault};
 use scenario::{FaultyLine, ScenarioError};
+use std::error::Error;
+use std::fmt;
 use std::io::Write;
-use thiserror::Error;
 use trace::{TraceError, TraceFault};
 
 /// Why a plan was not carried out.
-#[derive(Debug, Drop, Error)]
+#[derive(Debug, Drop)]
 pub enum Fault<'a> {
-    #[error("out of memory")]
     OutOfMemory,
     /// The file of that path cannot be read or written, or is to be text and is not UTF-8.
-    #[error("file {}", ForeignText(*.0))]
     File(&'a str),
     /// The text says no program.
-    #[error("{0}")]
     Text(AsmFault),
     /// The bytes are no program.
-    #[error("{0}")]
     Program(DecodeFault),
-    #[error("{0}")]
     Manifest(ManifestFault),
     /// That line of the scenario is not of the form.
-    #[error("N1 at {0}")]
     Line(usize),
     /// That line of the scenario gives back a freeze whose token is not held.
-    #[error("N2 at {0}")]
     NotHeld(usize),
     /// The text is no trace.
-    #[error("{0}")]
     Trace(TraceFault),
     /// The trace is no history of an engine of the manifest.
-    #[error("{0}")]
     Replay(ReplayFault),
     /// A scenario was not carried out to its end, which cannot be.
-    #[error("unsettled")]
     InternalError,
 }
 
+impl fmt::Display for Fault<'_> {
+    ghost use Rattle.std.specs.Prelude.{Some};
+    ghost use Rattle.cli_commands.specs.FaultText.{fault_text};
+
+    ghost output = { λ fault. Some (fault_text fault) };
+
+    fn fmt<W: fmt::Write>(&self, f: &mut fmt::Formatter<W>) -> fmt::Result {
+        match self {
+            Fault::OutOfMemory => f.write_str("out of memory"),
+            Fault::File(path) => write!(f, "file {}", ForeignText(path)),
+            Fault::Text(fault) => fault.fmt(f),
+            Fault::Program(fault) => fault.fmt(f),
+            Fault::Manifest(fault) => fault.fmt(f),
+            Fault::Line(number) => write!(f, "N1 at {number}"),
+            Fault::NotHeld(number) => write!(f, "N2 at {number}"),
+            Fault::Trace(fault) => fault.fmt(f),
+            Fault::Replay(fault) => fault.fmt(f),
+            Fault::InternalError => f.write_str("unsettled"),
+        }
+    }
+}
+
+impl Error for Fault<'_> {}
+
 impl Fault<'_> {
-    // 1 for what is refused, and 2 for files, for memory and for what cannot be.
-    fn status(&self) -> u8
+    /// The status: 1 for what is refused, and 2 for files, for memory and for what cannot be.
+    pub fn status(&self) -> u8
         ensures { result ≡ status_of self.now }
     {
         match self {
@@ -71,6 +88,7 @@ impl Fault<'_> {
         ensures reported { (result ≡ status_of self.now) ⊎ (result ≡ 2) }
         ensures status { (1 ≤ result) × (result ≤ 2) }
         ensures refused { result ≡ 1 → status_of self.now ≡ 1 }
+        ensures told { result ≡ 1 → Appends (E.contents err.old) (E.contents err.new) (report_of self.now) }
     {
         match writeln!(err, "camr: {self}") {
             Ok(()) => self.status(),

@@ -1,7 +1,7 @@
 // What is read as text, and what becomes of what goes out. It relies on `fault`.
 
-ghost use Rattle.std.specs.Prelude.{◌≡◌, ◌≢◌, ◌≤◌, IsUtf8, MatchResult};
-ghost use Rattle.std.specs.Io.KnownBytes.{Appends};
+ghost use Rattle.std.specs.Prelude.{◌≡◌, ◌≢◌, ◌≤◌, IfOk, IsUtf8, MatchResult};
+ghost use Rattle.std.specs.Io.KnownBytes.{Appends, Keeps};
 ghost use Rattle.cli_commands.specs.Faults.{status_of};
 
 use crate::fault::Fault;
@@ -10,7 +10,8 @@ use std::io::Write;
 
 /// What is to go out went out, or a writer failed. That it failed for want of memory is told.
 pub fn status<E: Write>(written: io::Result<()>, err: &mut E) -> u8
-    ensures { MatchResult written (λ _. result ≡ 0) (λ _. result ≡ 2) }
+    ensures status { MatchResult written (λ _. result ≡ 0) (λ _. result ≡ 2) }
+    ensures quiet { IfOk written (λ _. Keeps (E.contents err.old) (E.contents err.new)) }
 {
     match written {
         Ok(()) => 0,
@@ -22,6 +23,7 @@ pub fn status<E: Write>(written: io::Result<()>, err: &mut E) -> u8
 pub(crate) fn write<W: Write, E: Write>(bytes: &[u8], out: &mut W, err: &mut E) -> u8
     ensures status { (result ≢ 1) × (result ≤ 2) }
     ensures written { result ≡ 0 → Appends (W.contents out.old) (W.contents out.new) bytes.now }
+    ensures quiet { result ≡ 0 → Keeps (E.contents err.old) (E.contents err.new) }
 {
     match out.write_all(bytes) {
         Ok(()) => 0,

@@ -7,12 +7,13 @@ mod fault;
 mod files;
 mod handing;
 mod journaling;
+mod refusals;
 mod replaying;
 mod serving;
 mod usage;
 mod verdicts;
 
-pub use carrying::carry;
+pub use carrying::{carry, run};
 pub use fault::Fault;
 pub use files::{status, text, unwritten};
 pub use handing::{AnsweringSink, WriterSink};

@@ -1,2 +1,4 @@
 pub mod Explained
 pub mod Inputs
+pub mod Judged
+pub mod OpenTraces

@@ -1,13 +1,21 @@
 -- What the status of a plan says of the files that it reads.
-use Rattle.std.specs.Prelude.{ℕ, Bool, true, false, List}
-use Rattle.cli_commands.specs.Told.{IsAcceptedTrace, IsFaultyManifest, IsManifest, IsRejectedTrace}
+use Rattle.std.specs.Prelude.{◌≡◌, ◌≢◌, ◌++◌, ◌∷◌, ◌⊎◌, [], ℕ, Bool, true, false, Contains, List, Option, codes}
+use Rattle.std.specs.Io.{StartsWith}
+use Rattle.std.specs.Io.KnownBytes.{Appends}
+use Rattle.world_calls.specs.declared.trace.Trace.{Trace}
+use Rattle.cli_commands.specs.FaultText.{report_of}
+use Rattle.cli_commands.specs.Told.{IsAcceptedTrace, IsFaultyManifest, IsManifest, IsManifestFault, IsOfManifest, IsOfScenarioText, IsFaultyScenario, IsRejectedTrace, IsScenarioFault, IsTraceFault, PutsOut}
+use Rattle.cli_commands.specs.declared.fault.Fault.{Fault}
+use Rattle.cli_commands.specs.declared.fault.Fault.TheVariants as faults
+use Rattle.trace.specs.declared.fault.TraceFault.TheVariants.{Header}
 use Rattle.cli_inspect_line.specs.declared.plans.Plan.{Plan}
-use Rattle.cli_inspect_line.specs.declared.plans.Plan.TheVariants.{ExplainCode, Explain, Show, Summarise, Draw}
+use Rattle.cli_inspect_line.specs.declared.plans.Plan.TheVariants.{ExplainCode, Explain, ExplainFile, Show, Summarise, Draw}
 
 -- a plan's first file is what the plan asks for; for a code nothing is read
 abbrev pub IsAsAsked : Plan → List ℕ → Type 0
 IsAsAsked (ExplainCode code) bytes = Unit {0}
 IsAsAsked (Explain manifest) bytes = IsManifest bytes
+IsAsAsked (ExplainFile manifest file) bytes = IsManifest bytes
 IsAsAsked (Show filter manifest trace) bytes = IsManifest bytes
 IsAsAsked (Summarise manifest trace) bytes = IsManifest bytes
 IsAsAsked (Draw manifest trace picture) bytes = IsManifest bytes
@@ -16,25 +24,87 @@ IsAsAsked (Draw manifest trace picture) bytes = IsManifest bytes
 abbrev pub IsFaulty : Plan → List ℕ → Type 0
 IsFaulty (ExplainCode code) bytes = Unit {0}
 IsFaulty (Explain manifest) bytes = IsFaultyManifest bytes
+IsFaulty (ExplainFile manifest file) bytes = Unit {0}
 IsFaulty (Show filter manifest trace) bytes = Unit {0}
 IsFaulty (Summarise manifest trace) bytes = Unit {0}
 IsFaulty (Draw manifest trace picture) bytes = Unit {0}
+
+-- the plan explains, so that it is on the output that it says why a file is refused
+abbrev pub explains : Plan → Bool
+explains (ExplainCode code) = true
+explains (Explain manifest) = true
+explains (ExplainFile manifest file) = true
+explains plan = false
+
+-- what went out of a plan that was carried out; of texts that tell people something nothing is said
+abbrev pub IsOutput : Plan → Option (List ℕ) → Option (List ℕ) → Type 0
+IsOutput (ExplainFile manifest file) old new = PutsOut (λ output. output ≡ codes "accepted" ++ 10 ∷ []) old new
+IsOutput plan old new = Unit {0}
 
 -- whether nothing is read
 abbrev pub is_of_code : Plan → Bool
 is_of_code (ExplainCode code) = true
 is_of_code plan = false
 
+-- these stand before the last line feed of a text, and after it
+abbrev pub IsLastFeed : List ℕ → List ℕ → List ℕ → Type 0
+IsLastFeed text lines rest = (text ≡ lines ++ 10 ∷ rest) × (Contains rest 10 → ⊥)
+
+-- the text has the whole lines of a trace, and a last line after them
+abbrev pub Closes : List ℕ → List ℕ → Type 0
+Closes trace text = (lines : List ℕ) × (rest : List ℕ) × (last : List ℕ) × IsLastFeed trace lines rest × (text ≡ lines ++ 10 ∷ last) × (last ≢ [])
+
+-- the trace is open: its whole lines, none of which is the last one, are with a last line an accepted trace
+abbrev pub IsOpenTrace : List ℕ → List ℕ → Type 0
+IsOpenTrace manifest trace = (text : List ℕ) × Closes trace text × IsAcceptedTrace manifest text
+
+abbrev pub IsWholeOrOpen : List ℕ → List ℕ → Type 0
+IsWholeOrOpen manifest trace = IsAcceptedTrace manifest trace ⊎ IsOpenTrace manifest trace
+
+-- The one text is a manifest, and the other a scenario that was carried out to its end on an engine of it.
+abbrev pub IsCarriedOut : List ℕ → List ℕ → Type 0
+IsCarriedOut manifest scenario = IsManifest manifest × ((trace : Trace) × IsOfManifest manifest trace × IsOfScenarioText scenario trace)
+
+-- the one text is a manifest, and the other a trace that is accepted over it, or such a scenario
+abbrev pub IsAcceptedFile : List ℕ → List ℕ → Type 0
+IsAcceptedFile manifest file = IsAcceptedTrace manifest file ⊎ IsCarriedOut manifest file
+
+-- the text begins as that of a trace does
+abbrev pub BeginsTrace : List ℕ → Type 0
+BeginsTrace text = StartsWith text (codes "camr-trace ")
+
+-- Why a file is not accepted over a manifest. What begins as a trace does is judged as one, and all else as a scenario; of what is none
+-- because of a line, it may be told that it does not begin as a trace.
+abbrev pub IsFileFault : List ℕ → List ℕ → Fault → Type 0
+IsFileFault manifest file fault =
+    (BeginsTrace file × IsTraceFault manifest file fault)
+    ⊎ ((BeginsTrace file → ⊥) × (IsScenarioFault manifest file fault ⊎ ((fault ≡ faults.Trace Header) × IsManifest manifest × IsFaultyScenario file)))
+
+-- a text went out that begins with the line of a fault of this kind
+abbrev pub PutsFault : (Fault → Type 0) → Option (List ℕ) → Option (List ℕ) → Type 0
+PutsFault Is old new = (fault : Fault) × (rest : List ℕ) × Is fault × Appends old new (report_of fault ++ rest)
+
 -- what a plan's second file is, beside the first, where the plan was carried out
 abbrev pub IsAccepted : Plan → List ℕ → List ℕ → Type 0
-IsAccepted (Show filter manifest trace) first second = IsAcceptedTrace first second
-IsAccepted (Summarise manifest trace) first second = IsAcceptedTrace first second
-IsAccepted (Draw manifest trace picture) first second = IsAcceptedTrace first second
+IsAccepted (ExplainFile manifest file) first second = IsAcceptedFile first second
+IsAccepted (Show filter manifest trace) first second = IsWholeOrOpen first second
+IsAccepted (Summarise manifest trace) first second = IsWholeOrOpen first second
+IsAccepted (Draw manifest trace picture) first second = IsWholeOrOpen first second
 IsAccepted plan first second = Unit {0}
 
 -- what is wrong with a plan's first file, or with its second beside the first, where the plan was refused
 abbrev pub IsRejected : Plan → List ℕ → List ℕ → Type 0
+IsRejected (ExplainFile manifest file) first second = (fault : Fault) × IsFileFault first second fault
 IsRejected (Show filter manifest trace) first second = IsRejectedTrace first second
 IsRejected (Summarise manifest trace) first second = IsRejectedTrace first second
 IsRejected (Draw manifest trace picture) first second = IsRejectedTrace first second
 IsRejected plan first second = Unit {0}
+
+-- what went out of a plan that explains why its first file is refused, or its second beside the first: it begins with the fault
+abbrev pub IsReported : Plan → List ℕ → Option (List ℕ) → Option (List ℕ) → Type 0
+IsReported (Explain manifest) first old new = PutsFault (IsManifestFault first) old new
+IsReported plan first old new = Unit {0}
+
+abbrev pub AreReported : Plan → List ℕ → List ℕ → Option (List ℕ) → Option (List ℕ) → Type 0
+AreReported (ExplainFile manifest file) first second old new = PutsFault (IsFileFault first second) old new
+AreReported plan first second old new = Unit {0}

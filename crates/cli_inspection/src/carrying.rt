@@ -1,23 +1,29 @@
 // A plan, carried out over the bytes of its files. It relies on `tracing` for what a trace shows, on `explaining` for what is said of a
-// manifest, and on `explain_codes` for what is said of a code.
+// manifest, on `judging` for what is said of a scenario or a trace, and on `explain_codes` for what is said of a code.
 
-ghost use Rattle.std.specs.Prelude.{◌≡◌, ◌≢◌, ◌≤◌, Contains, Some, IsUtf8, length, slice_get, true};
+ghost use Rattle.std.specs.Prelude.{◌≡◌, ◌≢◌, ◌≤◌, Contains, Some, IsUtf8, false, length, slice_get, true};
+ghost use Rattle.std.specs.Io.KnownBytes.{Keeps};
 ghost use Rattle.cli_inspect_line.specs.Files.{input_paths};
-ghost use Rattle.cli_inspection.specs.Shown.{IsAccepted, IsAsAsked, IsFaulty, IsRejected, is_of_code};
+ghost use Rattle.cli_inspection.specs.Shown.{AreReported, IsAccepted, IsAsAsked, IsFaulty, IsOutput, IsRejected, IsReported, explains, is_of_code};
 
 use crate::explaining::print_explanation;
+use crate::judging::print_judged;
 use crate::tracing::{Told, print_traced};
 use cli_commands::status;
 use cli_inspect_line::Plan;
 use std::alloc::Global;
 use std::io::Write;
+use std::sync::Wait;
+use std::thread::Threads;
 use world_calls::Notices;
 
 /// Carries a plan out over the bytes of its input files, in the order of the line, and answers the status: 0 done; 1 refused, or
 /// explained why; 2 for a file that is to be text and is not UTF-8, for want of memory, or if a writer fails. What is to go out is
-/// written on `out`, and one line for a fault on `err`; where there is a fault, nothing goes out. If `out` fails for want of memory
-/// that line is written too; some may be out then. How far a replay is, is told where that is wanted.
-pub fn carry<N: Notices, W: Write, E: Write>(
+/// written on `out`, also why a file is refused that is to be explained. Of any other fault one line is written on `err`, and a second
+/// one of an open trace that does not follow; nothing goes out. If `out` fails for want of memory that line is written too; some may be
+/// out then. How far a replay or a run is, is reported to `notices`.
+pub fn carry<N: Notices + Sync, R: Threads + Wait + Sync, W: Write, E: Write>(
+    rt: &R,
     alloc: Global,
     plan: &Plan,
     inputs: &[Vec<u8>],
@@ -30,14 +36,23 @@ pub fn carry<N: Notices, W: Write, E: Write>(
     // What is said of a code is no refusal.
     ensures code { is_of_code plan.now ≡ true → result ≢ 1 }
     ensures no_text { (input : _) → Contains inputs.now input → ¬ (IsUtf8 input.items) → result ≡ 2 }
-    // Done only where the first file is what the plan asks for.
+    // Done only if the first file is what the plan asks for.
     ensures done { result ≡ 0 → (input : _) → slice_get inputs.now 0 ≡ Some input → IsAsAsked plan.now input.items }
-    // What a trace shows is done only where it is the trace of a history of an engine of the first file.
+    // What a trace shows is done only if it is the trace of a history of an engine of the first file, or is open and begins one.
     ensures accepted { result ≡ 0 → (first second : _) → slice_get inputs.now 0 ≡ Some first → slice_get inputs.now 1 ≡ Some second → IsAccepted plan.now first.items second.items }
-    // Refused only where it has a fault, or a trace behind it has one; a manifest that is to be explained is refused too.
+    // Refused only if it has a fault, or the file after it has one; a manifest that is to be explained is refused too.
     ensures refused { result ≡ 1 → (input : _) → slice_get inputs.now 0 ≡ Some input → IsFaulty plan.now input.items }
-    // Of two files, refused only where one has a fault, or a line of the trace does not follow.
+    // Of two files, refused only if one has a fault, or a line of the trace does not follow.
     ensures rejected { result ≡ 1 → (first second : _) → slice_get inputs.now 0 ≡ Some first → slice_get inputs.now 1 ≡ Some second → IsRejected plan.now first.items second.items }
+    // What is done writes nothing on `err`, and of a file that is accepted one word on `out`.
+    ensures quiet { result ≡ 0 → Keeps (E.contents err.old) (E.contents err.new) }
+    ensures output { result ≡ 0 → IsOutput plan.now (W.contents out.old) (W.contents out.new) }
+    // What is written of a file that is refused and to be explained begins with the line that reports its fault.
+    ensures told { result ≡ 1 → (input : _) → slice_get inputs.now 0 ≡ Some input → IsReported plan.now input.items (W.contents out.old) (W.contents out.new) }
+    ensures reported { result ≡ 1 → (first second : _) → slice_get inputs.now 0 ≡ Some first → slice_get inputs.now 1 ≡ Some second → AreReported plan.now first.items second.items (W.contents out.old) (W.contents out.new) }
+    // Why a file is refused that is to be explained is written on `out` alone, and that of any other on `err` alone.
+    ensures explained { result ≡ 1 → explains plan.now ≡ true → Keeps (E.contents err.old) (E.contents err.new) }
+    ensures nothing { result ≡ 1 → explains plan.now ≡ false → Keeps (W.contents out.old) (W.contents out.new) }
 {
     match plan {
         Plan::ExplainCode(code) => status(explain_codes::print(alloc, *code, out), err),
@@ -45,6 +60,7 @@ pub fn carry<N: Notices, W: Write, E: Write>(
             let manifest = (manifest.as_str(), inputs[0].as_slice());
             print_explanation(alloc, manifest, out, err)
         }
+        Plan::ExplainFile(..) => print_judged(rt, alloc, plan, inputs, notices, out, err),
         Plan::Show(filter, ..) => {
             let told = Told::Account(*filter);
             print_traced(alloc, told, plan, inputs, notices, out, err)

@@ -1,9 +1,14 @@
-// What the program `camr_inspect` does with a plan: it explains a code or a manifest, or shows what happened in a trace, over the bytes of
-// the files and two writers. It relies on `explain_manifest` and on the crates that show traces, and on `cli_commands` for faults and verdicts.
+// What the program `camr_inspect` does with a plan: it explains a code, a manifest, a scenario or a trace, or shows what happened in a
+// trace, over the bytes of the files and two writers. It relies on `explain_manifest`, on `explain_lines` and on the crates that show
+// traces, and on `cli_commands` for faults and verdicts.
 #![tactic(auto)]
 
 mod carrying;
+mod closing;
 mod explaining;
+mod judging;
 mod tracing;
+mod unread;
 
 pub use carrying::carry;
+pub use unread::report_unread;

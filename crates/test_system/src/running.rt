@@ -8,7 +8,7 @@ ghost use Rattle.cli_inspect_line.specs.Files.{input_paths as inspected_paths};
 use crate::pieces::Pieces;
 use cli_commands::{AnsweringSink, Fault, WriterSink, carry, report_usage, serve};
 use cli_inspect_line::Plan as InspectPlan;
-use cli_inspection::carry as inspect;
+use cli_inspection::{carry as inspect, report_unread};
 use cli_line::{Manner, Plan, not_utf8, plan};
 use std::alloc::{AllocError, Global};
 use std::sync::Wait;
@@ -25,7 +25,9 @@ pub fn run<R: Threads + Wait + Sync>(
     let mut out = Vec::new(alloc);
     let mut err = Vec::new(alloc);
     let status = match words_of(alloc, case)? {
-        Some(words) if is_inspected(&words) => inspected(alloc, &words, case, &mut out, &mut err),
+        Some(words) if is_inspected(&words) => inspected(
+            rt, alloc, &words, case, &mut out, &mut err,
+        ),
         Some(words) => carried(rt, alloc, &words, case, &mut out, &mut err),
         None => report_usage(&not_utf8(alloc), &mut out, &mut err),
     };
@@ -59,7 +61,8 @@ fn carried<R: Threads + Wait + Sync>(
 }
 
 // Carries out what they ask of the second.
-fn inspected(
+fn inspected<R: Threads + Wait + Sync>(
+    rt: &R,
     alloc: Global,
     words: &[String],
     case: &Case<'_>,
@@ -68,8 +71,8 @@ fn inspected(
 ) -> u8 {
     match cli_inspect_line::plan(alloc, words) {
         Ok(plan) => match read_inspected(alloc, &plan, case) {
-            Ok(inputs) => inspect(alloc, &plan, &inputs, &Silent, out, err),
-            Err(fault) => fault.report(err),
+            Ok(inputs) => inspect(rt, alloc, &plan, &inputs, &Silent, out, err),
+            Err(fault) => report_unread(alloc, &plan, &fault, err),
         },
         Err(fault) => report_usage(&fault, out, err),
     }
@@ -109,6 +112,7 @@ fn serve_case(
     let served = host_live::Manner {
         is_stepped: manner.is_stepped,
         is_told: manner.is_told,
+        is_clocked: manner.is_clocked,
     };
     if manner.is_told {
         let mut out = AnsweringSink::new(out);

@@ -1,11 +1,12 @@
-use Rattle.std.proofs.Common.{◌≡◌, ◌∙◌, ℕ, List, [], ◌∷◌, ◌++◌, Some, Vec, ap, inl, inr, length, sym, subst}
+use Rattle.std.proofs.Common.{◌≡◌, ◌∙◌, ℕ, List, [], ◌∷◌, ◌++◌, Some, Vec, ap, false, inl, inr, length, sym, subst, true}
 use Rattle.std.specs.Prelude.{IsUtf8, codes, slice_get}
 use Rattle.std.specs.Global.{Global}
 use Rattle.world_calls.specs.declared.trace.Trace.{Trace}
 use Rattle.cli_line.specs.Files.{input_paths}
 use Rattle.cli_line.specs.declared.plans.Plan.{Plan}
 use Rattle.manifest.specs.Migration.{IsMigrated}
-use Rattle.cli_commands.specs.Told.{IsAccepted, IsAcceptedTrace, IsAsAsked, IsAssembled, IsDisassembled, IsFaulty, IsFaultyManifest, IsFaultyMigration, IsFaultyProgram, IsFaultyText, IsIdleUnder, IsManifest, IsMigratable, IsOfManifest, IsOfScenarioText, IsOutput, IsPrinted, IsProgram, IsPutOut, IsRejected, IsRejectedScenario, IsRejectedTrace, IsScenario, IsText, IsTraceUnder, PutsOut}
+use Rattle.cli_commands.specs.Refusals.{refused_count}
+use Rattle.cli_commands.specs.Told.{IsAccepted, IsAcceptedTrace, IsAsAsked, IsAssembled, IsDisassembled, IsFailed, IsFailedRun, IsFaulty, IsFaultyManifest, IsFaultyMigration, IsFaultyProgram, IsFaultyText, IsIdleUnder, IsManifest, IsMigratable, IsOfManifest, IsOfScenarioText, IsOutput, IsPrinted, IsProgram, IsPutOut, IsRejected, IsRejectedScenario, IsRejectedTrace, IsScenario, IsText, IsTraceUnder, PutsOut, is_strict}
 use Rattle.cli_commands.proofs.Telling.{of_both, of_first, one_of_two, over_manifest}
 use Rattle.cli_commands.proofs.carrying.carry.Goals as goal
 
@@ -146,3 +147,50 @@ returns-in-Replay-clause-rejected g c = λ is first second one other.
     subst (λ (plan : Plan). IsRejected plan first.items second.items) (sym c.in-Replay.is)
     (of_both IsRejectedTrace c.args.inputs.now c.index-inputs-0-in-Replay.is c.index-inputs-1-in-Replay.is c.as_slice-in-Replay.ensures.value c.as_slice-in-Replay-2.ensures.value
     (c.print_verdict.ensures.rejected is) first second one other)
+
+pub returns-in-Strict-clause-done : goal.returns-in-Strict-clause-done
+returns-in-Strict-clause-done g c = λ is.
+    subst (λ (plan : Plan). (input : Vec ℕ Global) → slice_get c.args.inputs.now 0 ≡ Some input → IsAsAsked plan input.items) (sym c.in-Strict.is)
+    (of_first (λ (bytes : List ℕ). IsManifest bytes) c.args.inputs.now c.index-inputs-0-in-Strict.is c.as_slice-in-Strict.ensures.value (c.print_strict.ensures.done is))
+
+pub returns-in-Strict-clause-output : goal.returns-in-Strict-clause-output
+returns-in-Strict-clause-output g c = λ is.
+    subst (λ (plan : Plan). (input : Vec ℕ Global) → slice_get c.args.inputs.now 0 ≡ Some input → IsOutput plan input.items (g.W.Write.contents c.args.out.now) (g.W.Write.contents c.print_strict.new.out)) (sym c.in-Strict.is)
+    (of_first (λ (bytes : List ℕ). PutsOut (IsTraceUnder bytes) (g.W.Write.contents c.args.out.now) (g.W.Write.contents c.print_strict.new.out)) c.args.inputs.now c.index-inputs-0-in-Strict.is c.as_slice-in-Strict.ensures.value (c.print_strict.ensures.output is))
+
+pub returns-in-Strict-clause-no_text : goal.returns-in-Strict-clause-no_text
+returns-in-Strict-clause-no_text g c = λ reads input there not_text.
+    let two : length c.args.inputs.now ≡ 2 = c.requires ∙ ap (λ (plan : Plan). length (input_paths plan)) c.in-Strict.is in
+    elim (one_of_two c.args.inputs.now c.index-inputs-0-in-Strict.result c.index-inputs-1-in-Strict.result input two c.index-inputs-0-in-Strict.is c.index-inputs-1-in-Strict.is there) [
+      | inl first ↦ c.print_strict.ensures.manifest (λ text. not_text (subst (λ (bytes : List ℕ). IsUtf8 bytes) (c.as_slice-in-Strict.ensures.value ∙ ap (λ (bytes : Vec ℕ Global). bytes.items) first) text))
+      | inr second ↦ c.print_strict.ensures.scenario (λ text. not_text (subst (λ (bytes : List ℕ). IsUtf8 bytes) (c.as_slice-in-Strict-2.ensures.value ∙ ap (λ (bytes : Vec ℕ Global). bytes.items) second) text))
+    ]
+
+pub returns-in-Strict-clause-accepted : goal.returns-in-Strict-clause-accepted
+returns-in-Strict-clause-accepted g c = λ is first second one other.
+    subst (λ (plan : Plan). IsAccepted plan first.items second.items) (sym c.in-Strict.is)
+    (of_both (λ (_ scenario : List ℕ). IsScenario scenario) c.args.inputs.now c.index-inputs-0-in-Strict.is c.index-inputs-1-in-Strict.is c.as_slice-in-Strict.ensures.value c.as_slice-in-Strict-2.ensures.value
+    (c.print_strict.ensures.accepted is) first second one other)
+
+pub returns-in-Strict-clause-out : goal.returns-in-Strict-clause-out
+returns-in-Strict-clause-out g c = λ is first second one other.
+    let old = g.W.Write.contents c.args.out.now in
+    let new = g.W.Write.contents c.print_strict.new.out in
+    subst (λ (plan : Plan). IsPutOut plan first.items second.items old new) (sym c.in-Strict.is)
+    (of_both (λ (manifest scenario : List ℕ). (trace : Trace) × IsOfManifest manifest trace × IsOfScenarioText scenario trace × IsPrinted trace old new × (refused_count trace.records.items ≡ 0)) c.args.inputs.now c.index-inputs-0-in-Strict.is c.index-inputs-1-in-Strict.is c.as_slice-in-Strict.ensures.value c.as_slice-in-Strict-2.ensures.value
+    (c.print_strict.ensures.out is) first second one other)
+
+pub returns-in-Strict-clause-failed : goal.returns-in-Strict-clause-failed
+returns-in-Strict-clause-failed g c = λ is first second one other.
+    let old = g.W.Write.contents c.args.out.now in
+    let new = g.W.Write.contents c.print_strict.new.out in
+    let told-old = g.E.Write.contents c.args.err.now in
+    let told-new = g.E.Write.contents c.print_strict.new.err in
+    subst (λ (plan : Plan). IsFailedRun plan first.items second.items old new told-old told-new) (sym c.in-Strict.is)
+    (of_both (λ (manifest scenario : List ℕ). IsFailed manifest scenario old new told-old told-new) c.args.inputs.now c.index-inputs-0-in-Strict.is c.index-inputs-1-in-Strict.is c.as_slice-in-Strict.ensures.value c.as_slice-in-Strict-2.ensures.value
+    (c.print_strict.ensures.failed is) first second one other)
+
+pub returns-in-Strict-clause-nothing : goal.returns-in-Strict-clause-nothing
+returns-in-Strict-clause-nothing g c = λ is loose.
+    let bad : true ≡ false = sym (ap is_strict c.in-Strict.is) ∙ loose in
+    absurd cc

@@ -1,7 +1,7 @@
 use Rattle.cli_commands.proofs.carrying.print_run.Goals as goal
 
 pub returns-in-Err-clause-rejected : goal.returns-in-Err-clause-rejected
-returns-in-Err-clause-rejected g c = λ is. c.in-Err.ensures.fault (c.report.ensures.refused is)
+returns-in-Err-clause-rejected g c = λ is. (c.in-Err.fault, c.in-Err.ensures.fault (c.report.ensures.refused is))
 
 pub returns-in-Ok-clause-out : goal.returns-in-Ok-clause-out
 returns-in-Ok-clause-out g c = λ is. (c.in-Ok.trace, c.in-Ok.ensures.trace, c.in-Ok.ensures.asked, c.write_trace.ensures.written is)

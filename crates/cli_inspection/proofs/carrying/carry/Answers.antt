@@ -1,11 +1,12 @@
-use Rattle.std.proofs.Common.{◌≡◌, ◌∙◌, ℕ, List, Vec, ap, inl, inr, length, sym, subst}
+use Rattle.std.proofs.Common.{◌≡◌, ◌∙◌, ℕ, List, Vec, ap, false, inl, inr, length, sym, subst, true}
 use Rattle.std.specs.Prelude.{Contains, IsUtf8}
 use Rattle.std.specs.Global.{Global}
-use Rattle.cli_commands.specs.Told.{IsFaultyManifest, IsManifest}
+use Rattle.cli_commands.specs.Told.{IsFaultyManifest, IsManifest, IsManifestFault}
 use Rattle.cli_commands.proofs.Telling.{first_is}
 use Rattle.cli_inspect_line.specs.Files.{input_paths}
 use Rattle.cli_inspect_line.specs.declared.plans.Plan.{Plan}
-use Rattle.cli_inspection.specs.Shown.{IsAccepted, IsAsAsked, IsFaulty, IsRejected}
+use Rattle.cli_inspection.specs.Shown.{AreReported, IsAccepted, IsAsAsked, IsFaulty, IsOutput, IsRejected, IsReported, PutsFault, explains}
+use Rattle.cli_inspection.proofs.Explained.{is_faulty}
 use Rattle.cli_inspection.proofs.Inputs.{none_there, only_one}
 use Rattle.cli_inspection.proofs.carrying.carry.Goals as goal
 
@@ -25,11 +26,39 @@ returns-in-Explain-clause-done g c = λ is input there.
     let same : c.as_slice.result.now ≡ input.items = c.as_slice.ensures.value ∙ ap (λ (bytes : Vec ℕ Global). bytes.items) read in
     subst (λ (plan : Plan). IsAsAsked plan input.items) (sym c.in-Explain.is) (subst (λ (bytes : List ℕ). IsManifest bytes) same (c.print_explanation.ensures.done is))
 
+pub returns-in-Explain-clause-told : goal.returns-in-Explain-clause-told
+returns-in-Explain-clause-told g c = λ is input there.
+    let old = g.W.Write.contents c.args.out.now in
+    let new = g.W.Write.contents c.print_explanation.new.out in
+    let read = first_is c.args.inputs.now c.index-inputs-0.result input c.index-inputs-0.is there in
+    let same : c.as_slice.result.now ≡ input.items = c.as_slice.ensures.value ∙ ap (λ (bytes : Vec ℕ Global). bytes.items) read in
+    subst (λ (plan : Plan). IsReported plan input.items old new) (sym c.in-Explain.is) (subst (λ (bytes : List ℕ). PutsFault (IsManifestFault bytes) old new) same (c.print_explanation.ensures.refused is))
+
 pub returns-in-Explain-clause-refused : goal.returns-in-Explain-clause-refused
 returns-in-Explain-clause-refused g c = λ is input there.
     let read = first_is c.args.inputs.now c.index-inputs-0.result input c.index-inputs-0.is there in
     let same : c.as_slice.result.now ≡ input.items = c.as_slice.ensures.value ∙ ap (λ (bytes : Vec ℕ Global). bytes.items) read in
-    subst (λ (plan : Plan). IsFaulty plan input.items) (sym c.in-Explain.is) (subst (λ (bytes : List ℕ). IsFaultyManifest bytes) same (c.print_explanation.ensures.refused is))
+    let put = c.print_explanation.ensures.refused is in
+    subst (λ (plan : Plan). IsFaulty plan input.items) (sym c.in-Explain.is) (subst (λ (bytes : List ℕ). IsFaultyManifest bytes) same (is_faulty c.as_slice.result.now put.0 put.2))
+
+pub returns-in-ExplainFile-clause-done : goal.returns-in-ExplainFile-clause-done
+returns-in-ExplainFile-clause-done g c = λ is input there.
+    subst (λ (plan : Plan). IsAsAsked plan input.items) (sym c.in-ExplainFile.is) (c.print_judged.ensures.manifest is input there)
+
+pub returns-in-ExplainFile-clause-accepted : goal.returns-in-ExplainFile-clause-accepted
+returns-in-ExplainFile-clause-accepted g c = λ is first second one other.
+    subst (λ (plan : Plan). IsAccepted plan first.items second.items) (sym c.in-ExplainFile.is) (c.print_judged.ensures.done is first second one other)
+
+pub returns-in-ExplainFile-clause-rejected : goal.returns-in-ExplainFile-clause-rejected
+returns-in-ExplainFile-clause-rejected g c = λ is first second one other.
+    let put = c.print_judged.ensures.rejected is first second one other in
+    subst (λ (plan : Plan). IsRejected plan first.items second.items) (sym c.in-ExplainFile.is) (put.0, put.2)
+
+pub returns-in-ExplainFile-clause-reported : goal.returns-in-ExplainFile-clause-reported
+returns-in-ExplainFile-clause-reported g c = λ is first second one other.
+    let old = g.W.Write.contents c.args.out.now in
+    let new = g.W.Write.contents c.print_judged.new.out in
+    subst (λ (plan : Plan). AreReported plan first.items second.items old new) (sym c.in-ExplainFile.is) (c.print_judged.ensures.rejected is first second one other)
 
 pub returns-in-Show-clause-done : goal.returns-in-Show-clause-done
 returns-in-Show-clause-done g c = λ is input there.
@@ -66,3 +95,39 @@ returns-in-Draw-clause-accepted g c = λ is first second one other.
 pub returns-in-Draw-clause-rejected : goal.returns-in-Draw-clause-rejected
 returns-in-Draw-clause-rejected g c = λ is first second one other.
     subst (λ (plan : Plan). IsRejected plan first.items second.items) (sym c.in-Draw.is) (c.print_traced-in-Draw.ensures.rejected is first second one other)
+
+pub returns-in-ExplainCode-clause-nothing : goal.returns-in-ExplainCode-clause-nothing
+returns-in-ExplainCode-clause-nothing g c = λ is other.
+    let bad : true ≡ false = sym (ap explains c.in-ExplainCode.is) ∙ other in
+    absurd cc
+
+pub returns-in-Explain-clause-nothing : goal.returns-in-Explain-clause-nothing
+returns-in-Explain-clause-nothing g c = λ is other.
+    let bad : true ≡ false = sym (ap explains c.in-Explain.is) ∙ other in
+    absurd cc
+
+pub returns-in-ExplainFile-clause-nothing : goal.returns-in-ExplainFile-clause-nothing
+returns-in-ExplainFile-clause-nothing g c = λ is other.
+    let bad : true ≡ false = sym (ap explains c.in-ExplainFile.is) ∙ other in
+    absurd cc
+
+pub returns-in-Show-clause-explained : goal.returns-in-Show-clause-explained
+returns-in-Show-clause-explained g c = λ is other.
+    let bad : false ≡ true = sym (ap explains c.in-Show.is) ∙ other in
+    absurd cc
+
+pub returns-in-Summarise-clause-explained : goal.returns-in-Summarise-clause-explained
+returns-in-Summarise-clause-explained g c = λ is other.
+    let bad : false ≡ true = sym (ap explains c.in-Summarise.is) ∙ other in
+    absurd cc
+
+pub returns-in-Draw-clause-explained : goal.returns-in-Draw-clause-explained
+returns-in-Draw-clause-explained g c = λ is other.
+    let bad : false ≡ true = sym (ap explains c.in-Draw.is) ∙ other in
+    absurd cc
+
+pub returns-in-ExplainFile-clause-output : goal.returns-in-ExplainFile-clause-output
+returns-in-ExplainFile-clause-output g c = λ is.
+    let old = g.W.Write.contents c.args.out.now in
+    let new = g.W.Write.contents c.print_judged.new.out in
+    subst (λ (plan : Plan). IsOutput plan old new) (sym c.in-ExplainFile.is) (c.print_judged.ensures.output is)

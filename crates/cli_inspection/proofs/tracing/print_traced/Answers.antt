@@ -1,8 +1,10 @@
 use Rattle.std.proofs.Common.{◌≡◌, ◌∙◌, ℕ, List, Vec, ap, inl, inr, subst}
 use Rattle.std.specs.Prelude.{IsUtf8}
 use Rattle.std.specs.Global.{Global}
-use Rattle.cli_commands.specs.Told.{IsAcceptedTrace, IsManifest, IsRejectedTrace}
-use Rattle.cli_commands.proofs.Telling.{first_is, of_both, one_of_two, over_manifest}
+use Rattle.cli_commands.specs.Told.{IsManifest, IsRejectedTrace}
+use Rattle.cli_commands.proofs.Telling.{first_is, of_both, one_of_two}
+use Rattle.cli_inspection.specs.Shown.{IsWholeOrOpen}
+use Rattle.cli_inspection.proofs.OpenTraces.{over_manifest}
 use Rattle.cli_inspection.proofs.tracing.print_traced.Goals as goal
 
 pub returns-clause-no_text : goal.returns-clause-no_text
@@ -20,7 +22,7 @@ returns-clause-manifest g c = λ is first there.
 
 pub returns-clause-done : goal.returns-clause-done
 returns-clause-done g c = λ is.
-    of_both IsAcceptedTrace c.args.inputs.now c.index-inputs-0.is c.index-inputs-1.is c.as_slice.ensures.value c.as_slice-2.ensures.value (c.print_over.ensures.done is)
+    of_both IsWholeOrOpen c.args.inputs.now c.index-inputs-0.is c.index-inputs-1.is c.as_slice.ensures.value c.as_slice-2.ensures.value (c.print_over.ensures.done is)
 
 pub returns-clause-rejected : goal.returns-clause-rejected
 returns-clause-rejected g c = λ is.

@@ -1,4 +1,4 @@
-use Rattle.std.proofs.Common.{◌≡◌, ℕ, Option, Some, None, List, length, refl}
+use Rattle.std.proofs.Common.{ℕ, Option, Some, None, List, length, refl}
 use Rattle.host_live.specs.Answering.{IsLong}
 use Rattle.cli_commands.proofs.handing.WriterSinkOutlet.answered.Goals as goal
 

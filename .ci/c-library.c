@@ -93,16 +93,22 @@ static void recovers(void)
     camr_close(engine);
 }
 
-/* A host that takes each line needs no more memory after a million records than after ten thousand. */
+/* How many records the long history has. */
+#ifndef RECORDS
+#define RECORDS 1000000
+#endif
+
+/* A host that takes each line needs no more memory after all of these records than after ten thousand. */
 static void streams(void)
 {
+    char last[64];
     camr_engine *engine = opened();
     struct rusage usage;
     long early = 0;
     char place[65536];
     size_t written;
     uint32_t removed;
-    for (uint64_t reading = 1; reading <= 1000000; reading++) {
+    for (uint64_t reading = 1; reading <= RECORDS; reading++) {
         WANT(camr_clock(engine, reading, &removed) == CAMR_DONE);
         if (reading % 1000 == 0)
             do WANT(camr_take(engine, place, sizeof place, &written) == CAMR_DONE);
@@ -111,7 +117,8 @@ static void streams(void)
         if (reading == 10000) early = usage.ru_maxrss;
     }
     WANT(usage.ru_maxrss - early < 1024);
-    WANT(camr_trace_end(engine, place, sizeof place, &written) == CAMR_DONE && memcmp(place, "end 1000000 0 0 0\n", 18) == 0);
+    snprintf(last, sizeof last, "end %d 0 0 0\n", RECORDS);
+    WANT(camr_trace_end(engine, place, sizeof place, &written) == CAMR_DONE && written == strlen(last) && memcmp(place, last, written) == 0);
     camr_close(engine);
 }
 

@@ -26,6 +26,10 @@ abbrev pub with_waiting : CcbId → ℕ → QueueState → QueueState
 with_waiting number priority state =
     record state { waiting = with_pair (record { priority = priority; number = number }) state.waiting }
 
+-- one CCB more is active, which did not wait here
+abbrev pub with_active : QueueState → QueueState
+with_active state = record state { active = state.active + 1 }
+
 -- the CCB of this number, which waited, is active
 abbrev pub with_started : CcbId → QueueState → QueueState
 with_started number state = record state { waiting = without number state.waiting; active = state.active + 1 }

@@ -4,7 +4,7 @@
 ghost use Rattle.std.specs.Prelude.{◌≡◌, ◌<◌, ◌≤◌, false, length, IfOk, OnOk, OnErr};
 ghost use Rattle.std.specs.Result.{result_err};
 ghost use Rattle.dev_queue.specs.Waiting.{IsLeastNumber, waits};
-ghost use Rattle.dev_queue.specs.State.{QueueState, empty_queue, live, with_waiting, with_started, with_stopped, with_left};
+ghost use Rattle.dev_queue.specs.State.{QueueState, empty_queue, live, with_active, with_waiting, with_started, with_stopped, with_left};
 ghost use Rattle.dev_queue.specs.Faults.{insert_fault, start_fault};
 
 use crate::frozen::Frozen;
@@ -75,6 +75,21 @@ impl DevQueue {
         }
         self.waiting
             .add(WaitingCcb { priority, number }, &mut self.steps);
+        Ok(())
+    }
+
+    /// One CCB more is active, which another engine started: openings and freezes do not stop it. Q1, which changes nothing,
+    /// exactly where 256 CCBs are live.
+    pub fn insert_active(&mut self) -> Result<(), QueueFault>
+        ensures fault { result_err result ≡ insert_fault self.old }
+        ensures active { OnOk result (self.new ≡ with_active self.old) }
+        ensures refused { OnErr result (self.new ≡ self.old) }
+    {
+        let (waiting, active, recovering) = self.counts();
+        if waiting + active + recovering >= MAX_LIVE {
+            return Err(QueueFault::Full);
+        }
+        self.active += 1;
         Ok(())
     }
 

@@ -1,5 +1,5 @@
 -- What entries keep is kept by one more, one fewer and a change of a holder.
-use Rattle.std.proofs.Common.{◌≡◌, ℕ, ◌+◌, ◌-◌, ◌<◌, ◌≤◌, List, [], ◌∷◌, ◌++◌, length, get_or, set, is_some, replicate, ◌^◌, count_by, Option, Some, None, IsSome, refl, arith, length-append, cond, inl, inr, ◌∙◌, ap, sym, subst}
+use Rattle.std.proofs.Common.{◌≡◌, ℕ, ◌+◌, ◌-◌, ◌<◌, ◌≤◌, List, [], ◌∷◌, ◌++◌, length, get_or, set, is_some, replicate, count_by, Option, Some, None, IsSome, refl, arith, length-append, cond, inl, inr, ◌∙◌, ap, sym, subst}
 use Rattle.std.proofs.lemmas.Bool.{cases_eq, eq-eqb, ne_eqb}
 use Rattle.std.proofs.lemmas.List.Sums.{sum_by-append, sum_by-remove, sum_by-set}
 use Rattle.std.proofs.lemmas.List.Edits.{length-remove}

@@ -1,5 +1,5 @@
 -- What stands under keys, and the list of it in the order of numbers: what one more, one fewer and a change of a holder leave.
-use Rattle.std.proofs.Common.{◌≡◌, ◌≢◌, ◌⊎◌, ℕ, zero, suc, ◌+◌, ◌<◌, ◌≤◌, List, [], ◌∷◌, ◌++◌, Contains, not, cond, eqb, Option, Some, None, inl, inr, refl, ap, sym, subst, ◌∙◌, arith}
+use Rattle.std.proofs.Common.{◌≡◌, ◌≢◌, ◌⊎◌, ℕ, zero, suc, ◌+◌, ◌-◌, ◌<◌, ◌≤◌, List, [], ◌∷◌, ◌++◌, Contains, not, cond, eqb, Option, Some, None, inl, inr, refl, ap, sym, subst, ◌∙◌, arith}
 use Rattle.std.specs.Option.{option_to_list}
 use Rattle.std.proofs.lemmas.Bool.{cases_eq, eq-eqb, ne_eqb, cond-true, cond-false, not_from_true, not_from_false}
 use Rattle.std.proofs.lemmas.List.{map-append, append-nil}
@@ -192,6 +192,26 @@ freezes_entered old new key f high apart apart2 given number vacant change =
     let last : numbered new (suc high) ≡ Some f = subst (λ (m : ℕ). numbered new m ≡ Some f) next (found new apart2 key f change.changed) in
     let both : up_to (numbered new) (suc high) ≡ up_to (numbered old) high ++ f ∷ [] = λ i. front i ++ option_to_list (last i) in
     subst (λ (m : ℕ). up_to (numbered new) m ≡ up_to (numbered old) high ++ f ∷ []) one both
+
+-- greater numbers, which no freeze bears, add nothing to the list
+pub freezes_passed : (slots : List (Option Freeze)) (high more : ℕ) → AreGiven slots high → freezes_in slots (high + more) ≡ freezes_in slots high
+unfolding freezes_in
+freezes_passed slots high more given = by more (high + more) refl
+  where
+    by : (more all : ℕ) → all ≡ high + more → up_to (numbered slots) all ≡ up_to (numbered slots) high
+    by zero all is =
+        let same : all ≡ high = omega (arith, is) in
+        ap (up_to (numbered slots)) same
+    by (suc more) zero is = absurd (omega (arith, is))
+    by (suc more) (suc all) is =
+        let none : numbered slots (suc all) ≡ None = missing slots (suc all) (λ key f e same. omega (arith, (given key f e).1, same, is)) in
+        ap (λ (o : Option Freeze). up_to (numbered slots) all ++ option_to_list o) none ∙ (append-nil (up_to (numbered slots) all) ∙ by more all (omega (arith, is)))
+
+-- the same for a number that is no lower
+pub freezes_up_to : (slots : List (Option Freeze)) (high number : ℕ) → AreGiven slots high → high ≤ number → freezes_in slots number ≡ freezes_in slots high
+freezes_up_to slots high number given no_lower =
+    let sum : number ≡ high + (number - high) = omega (arith, no_lower) in
+    ap (freezes_in slots) sum ∙ freezes_passed slots high (number - high) given
 
 -- the numbers rise
 pub list_rises : (slots : List (Option Freeze)) (high : ℕ) → AreNumbered 0 (freezes_in slots high) high

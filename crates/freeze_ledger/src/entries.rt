@@ -93,6 +93,18 @@ impl Entries {
         (key, freeze)
     }
 
+    /// The numbers up to this one, which is at least the greatest given, are given no more.
+    pub(crate) fn pass_over(&mut self, number: u32)
+        requires { self.old.greatest ≤ number }
+        ensures slots { self.new.slots ≡ self.old.slots }
+        ensures greatest { self.new.greatest ≡ number }
+        ensures places { self.new.places ≡ self.old.places }
+        ensures keys { self.new.keys ≡ self.old.keys }
+        ensures freezes { all_of self.new ≡ all_of self.old }
+    {
+        self.greatest = number;
+    }
+
     /// Removes what stands under the key: its place has one freeze fewer.
     pub(crate) fn remove(&mut self, key: usize, freeze: Freeze)
         requires { freeze_at self.old.slots key ≡ Some freeze }
@@ -152,6 +164,13 @@ impl Entries {
         ensures bound { result ≤ MAX_PLACE_FREEZES }
     {
         u32::from(self.counts[place.index()])
+    }
+
+    /// The greatest number that was given.
+    pub(crate) fn greatest(&self) -> u32
+        ensures { result ≡ self.now.greatest }
+    {
+        self.greatest
     }
 
     /// How many freezes there are in all.

@@ -1,7 +1,7 @@
 // The ledger: entries under keys, beside an index of the deadlines of those that timers hold. It relies on `entries` and
 // `deadlines` for these, on `indexed` for the changes of both, and on `freeze_token` for the right to give one back.
 
-ghost use Rattle.std.specs.Prelude.{◌≡◌, ◌<◌, ◌≤◌, ◌↔◌, [], false, length, map, IsTrue, IsSome, IsOk, Some, IsNone, IfSome, IfNone, IfOk, IfErr, OnOk, Contains};
+ghost use Rattle.std.specs.Prelude.{◌≡◌, ◌<◌, ◌≤◌, ◌↔◌, [], false, length, map, IsTrue, IsSome, IsOk, Some, IsNone, IfSome, IfNone, IfOk, IfErr, OnOk, OnSome, Contains};
 ghost use Rattle.ccb.specs.Rising.{AreRising};
 ghost use Rattle.freeze_ledger.specs.Deadlines.{IsFirstDeadline, some_timer};
 ghost use Rattle.freeze_ledger.specs.Freezes.{frozen, meets_limit, entry_of, without, handed_over, HasTimer, holders_of};
@@ -11,7 +11,7 @@ ghost use Rattle.freeze_ledger.specs.State.{LedgerState, empty_ledger, next_free
 use crate::chains::Chains;
 use crate::deadlines::Deadlines;
 use crate::entries::Entries;
-use crate::freeze::Holder;
+use crate::freeze::{Freeze, Holder};
 use crate::freeze_token::FreezeToken;
 use crate::holders::Holders;
 use crate::indexed::{enter, hand_over, take_out};
@@ -88,6 +88,42 @@ impl Ledger {
             holder,
         );
         Some(FreezeToken::new(freeze, key))
+    }
+
+    /// The numbers up to this one, which is at least the greatest given, are given no more: the next freeze bears the number after it.
+    pub fn pass_over(&mut self, number: u32)
+        requires { self.old.greatest ≤ number }
+        ensures { self.new ≡ record self.old { greatest = number } }
+    {
+        self.entries.are_numbered();
+        self.entries.pass_over(number);
+    }
+
+    /// The greatest number that was given, 0 before the first.
+    pub fn greatest(&self) -> u32
+        ensures { result ≡ self.now.greatest }
+    {
+        self.entries.greatest()
+    }
+
+    /// Enters a freeze under its own number, which is above the greatest given: the right to give it back. `None`, which changes
+    /// nothing, exactly at a limit: the place has 255 freezes, or the ledger 1024.
+    pub fn take_over(&mut self, freeze: Freeze) -> Option<FreezeToken>
+        requires place { index_of freeze.place < self.old.places }
+        requires above { self.old.greatest < freeze.number }
+        ensures limit { IsNone result ↔ IsTrue (meets_limit freeze.place self.old.freezes self.old.greatest) }
+        ensures token { IfSome result (λ token. token ≡ freeze) }
+        ensures entered { OnSome result (self.new ≡ with_entry self.old freeze) }
+        ensures none { IfNone result (self.new ≡ self.old) }
+    {
+        if self.count(freeze.place) >= u32::from(MAX_PLACE_FREEZES) || self.len() >= MAX_FREEZES {
+            return None;
+        }
+        self.pass_over(freeze.number - 1);
+        match self.take(freeze.place, freeze.holder) {
+            Some(token) => Some(token),
+            None => unreachable!(),
+        }
     }
 
     /// Removes the token's entry, and answers how many freezes its place has left, at most 254. The

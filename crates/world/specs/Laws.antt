@@ -7,3 +7,4 @@ pub mod ParkLaws
 pub mod Moved
 pub mod CcbLaws
 pub mod OneController
+pub mod LimitLaws

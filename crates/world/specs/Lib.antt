@@ -12,8 +12,9 @@ pub mod RunSteps
 pub mod ParkSteps
 pub mod Refusals
 pub mod Step
+pub mod Limits
+pub mod Beginning
 pub mod WorldRun
 pub mod Laws
 pub mod Flat
 pub mod TotalsOf
-pub mod Limits

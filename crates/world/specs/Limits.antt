@@ -8,11 +8,7 @@ use Rattle.helpers.specs.Table.{is_there}
 use Rattle.world.specs.Capacities.{most_openings, most_ccbs, most_ccbs_of_queue, most_runs, most_freezes, most_freezes_of_place, most_frames, most_held, last_number, last_reading}
 use Rattle.world.specs.World.{LiveRun, Setup, queue_count, queue_setup, World}
 use Rattle.world.specs.Lookups.{live_count, run_of}
-use Rattle.world.specs.Lawful.{IsLawful}
 use Rattle.world.specs.Refusals.{is_unknown}
-use Rattle.world.specs.Event.{Event, Reply}
-use Rattle.world.specs.WorldRun.{WorldRun}
-use Rattle.world.specs.Laws.FreezeLaws.{entries_of}
 
 -- the helper calls name no queue that there is not, and no controller: where one may be named, each queue is under one that
 -- there is
@@ -60,17 +56,3 @@ pub record KeepsLimits (setup : Setup) (world : World) : Type 0 where
   pub ccbs : CcbLimits setup world
   pub runs : RunLimits setup world
   pub answers : AnswerLimits setup world
-
--- at every moment of every run of a lawful setup the limits are kept
-abbrev pub LimitsAreKept : Type 0
-LimitsAreKept = (setup : Setup) → IsLawful setup → (xs : List (Event × Reply)) (world : World) → WorldRun setup xs world → KeepsLimits setup world
-
--- No run holds too many freezes, neither by its machine nor by the entries that name it, and none has too many frames.
-pub record PerRunLimits (world : World) : Type 0 where
-  pub held : (number : ℕ) (run : LiveRun) → run_of number world.runs.list ≡ Some run → length run.machine.held ≤ most_held
-  pub entries : (number : ℕ) → length (entries_of number world.transport.freezes) ≤ most_held
-  pub frames : (number : ℕ) (run : LiveRun) → run_of number world.runs.list ≡ Some run → length run.machine.frames ≤ most_frames
-
--- nor at any moment of any run of a lawful setup
-abbrev pub RunsKeepLimits : Type 0
-RunsKeepLimits = (setup : Setup) → IsLawful setup → (xs : List (Event × Reply)) (world : World) → WorldRun setup xs world → PerRunLimits world

@@ -1,7 +1,7 @@
 -- The world at one moment, as CAM (ANSI X3.232) has it: device queues with openings, the CCBs that were submitted to
 -- them, the freezes that hold them, and the runs of recovery programs (RFC 9669) with the tables that they share. It is
 -- lists, and no count is kept.
-use Rattle.std.specs.Prelude.{ℕ, Bool, List, [], length, map, slice_index_or}
+use Rattle.std.specs.Prelude.{ℕ, Bool, List, [], length, map, slice_index_or, Option, Some, None}
 use Rattle.ccb.specs.declared.ccb.Ccb.{Ccb}
 use Rattle.freeze_ledger.specs.declared.freeze.Freeze.{Freeze}
 use Rattle.helpers.specs.declared.limits.HelperLimits.{HelperLimits}
@@ -20,28 +20,6 @@ pub record QueueSetup : Type 0 where
   pub controller : ℕ
   pub program : List Slot
   pub budget : ℕ
-
--- What an engine is opened with: the limits of the helper calls, how many controllers there are, and the device queues in the
--- order of their numbers from 0.
-pub record Setup : Type 0 where
-  pub limits : HelperLimits
-  pub controllers : ℕ
-  pub queues : List QueueSetup
-
--- the vocabulary of its histories
-abbrev pub version_of : Setup → Version
-version_of setup = version_in setup.limits.helpers
-
-abbrev pub queue_count : Setup → ℕ
-queue_count setup = length setup.queues
-
--- what stands behind the last queue
-abbrev pub no_queue : QueueSetup
-no_queue = record { openings = 0; controller = 0; program = []; budget = 0 }
-
--- the queue of a number
-abbrev pub queue_setup : Setup → ℕ → QueueSetup
-queue_setup setup queue = slice_index_or setup.queues queue no_queue
 
 -- a CCB that is not finished, and whether it waits, is active or is in recovery
 pub record LiveCcb : Type 0 where
@@ -93,7 +71,30 @@ pub record World : Type 0 where
   -- the CCBs that are finished, in the order in which they ended
   pub ended : List EndedCcb
 
--- the world before the first event
+-- What an engine is opened with: the limits of the helper calls, how many controllers there are, the device queues in the
+-- order of their numbers from 0, and, if the engine follows another one, the world that it takes over.
+pub record Setup : Type 0 where
+  pub limits : HelperLimits
+  pub controllers : ℕ
+  pub queues : List QueueSetup
+  pub carried : Option World
+
+-- the vocabulary of its histories
+abbrev pub version_of : Setup → Version
+version_of setup = version_in setup.limits.helpers
+
+abbrev pub queue_count : Setup → ℕ
+queue_count setup = length setup.queues
+
+-- what stands after the last queue
+abbrev pub no_queue : QueueSetup
+no_queue = record { openings = 0; controller = 0; program = []; budget = 0 }
+
+-- the queue of a number
+abbrev pub queue_setup : Setup → ℕ → QueueSetup
+queue_setup setup queue = slice_index_or setup.queues queue no_queue
+
+-- the world of an engine that follows no other, before the first event
 abbrev pub opening : Setup → World
 opening setup = record {
   transport = record {
@@ -107,3 +108,11 @@ opening setup = record {
   runs = record { list = []; greatest = 0; tables = map zero_table setup.limits.table_lengths };
   ended = [];
 }
+
+-- the world before the first event: that which was taken over, if the engine follows another one
+abbrev pub beginning_of : Setup → Option World → World
+beginning_of setup None = opening setup
+beginning_of setup (Some world) = world
+
+abbrev pub beginning : Setup → World
+beginning setup = beginning_of setup setup.carried

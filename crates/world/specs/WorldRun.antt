@@ -1,6 +1,7 @@
 -- Runs of the world: lists of events with their replies, one step after another.
 use Rattle.std.specs.Prelude.{◌≡◌, List, [], ◌∷◌, Option, Some, None}
-use Rattle.world.specs.World.{Setup, World, opening}
+use Rattle.world.specs.World.{Setup, World, beginning}
+use Rattle.world.specs.Beginning.{Begins}
 use Rattle.world.specs.Event.{Event, Reply}
 use Rattle.world.specs.Step.{step, WorldStep}
 
@@ -9,9 +10,9 @@ abbrev pub Leads : Setup → World → List (Event × Reply) → World → Type 
 Leads setup before [] after = before ≡ after
 Leads setup before (x ∷ xs) after = (between : World) × WorldStep setup before x.0 x.1 between × Leads setup between xs after
 
--- a run: it begins in the opening world
+-- a run: it begins in the opening world, or in the world that was taken over
 abbrev pub WorldRun : Setup → List (Event × Reply) → World → Type 0
-WorldRun setup xs after = Leads setup (opening setup) xs after
+WorldRun setup xs after = Begins setup × Leads setup (beginning setup) xs after
 
 -- Where a step of the world leads. What is no event changes nothing.
 abbrev pub led_to : World → Option (Reply × World) → World

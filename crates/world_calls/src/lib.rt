@@ -4,6 +4,7 @@
 
 mod call;
 mod call_answer;
+mod carried_line;
 mod completion_record;
 mod notice;
 mod notices;
@@ -14,6 +15,7 @@ mod traced_bytes;
 
 pub use call::Call;
 pub use call_answer::CallAnswer;
+pub use carried_line::{CarriedCcb, CarriedLine};
 pub use ccb::CallRefusal;
 pub use completion_record::CompletionRecord;
 pub use notice::Notice;

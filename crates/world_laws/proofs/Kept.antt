@@ -1,5 +1,6 @@
 -- Each step keeps the limits.
-use Rattle.std.proofs.Common.{◌≡◌, ℕ, ◌+◌, ◌<◌, ◌≤◌, List, [], ◌∷◌, ◌++◌, length, length-append, Bool, false, not, cond, eqb, inl, inr, refl, ap, sym, subst, ◌∙◌, arith}
+use Rattle.std.proofs.Common.{◌≡◌, ℕ, ◌+◌, ◌<◌, ◌≤◌, List, [], ◌∷◌, ◌++◌, length, length-append, Bool, false, not, cond, eqb, Option, Some, None, inl, inr, refl, ap, sym, subst, ◌∙◌, arith}
+use Rattle.std.specs.Prelude.{IfSome}
 use Rattle.std.specs.List.{count_by, filter}
 use Rattle.std.proofs.lemmas.Bool.{cases_Bool, leb-false, or_parts, cases_eq, eq-eqb, ne_eqb}
 use Rattle.std.proofs.lemmas.List.Elements.{All-push, All-filter}
@@ -10,7 +11,8 @@ use Rattle.ccb.specs.Places.{is_place}
 use Rattle.freeze_ledger.specs.declared.freeze.Freeze.{Freeze}
 use Rattle.freeze_ledger.specs.Freezes.{frozen, names, meets_limit}
 use Rattle.world.specs.declared.ccb_state.CcbState.TheVariants.{Waiting}
-use Rattle.world.specs.World.{Setup, queue_count, queue_setup, LiveCcb, LiveRun, World, opening}
+use Rattle.world.specs.World.{Setup, queue_count, queue_setup, LiveCcb, LiveRun, World, beginning, beginning_of, opening}
+use Rattle.world.specs.Beginning.{Begins, IsBeginning}
 use Rattle.world.specs.Lookups.{is_of, live_count, with_ccb}
 use Rattle.world.specs.Event.{Event, Reply}
 use Rattle.world.specs.CcbSteps.{ccb_meets_limit}
@@ -254,3 +256,18 @@ pub opening_keeps_limits : (setup : Setup) → IsLawful setup → KeepsLimits se
 opening_keeps_limits setup lawful =
     let lists = opening_keeps setup in
     record { freezes = lists.freezes; ccbs = lists.ccbs; runs = lists.runs; answers = opening_answers setup lawful }
+
+-- the world in which an engine begins
+pub beginning_keeps : (setup : Setup) → Begins setup → KeepsLists setup (beginning setup)
+beginning_keeps setup begins = of_taken_over setup.carried begins
+  where
+    of_taken_over : (carried : Option World) → IfSome carried (IsBeginning setup) → KeepsLists setup (beginning_of setup carried)
+    of_taken_over None begins = opening_keeps setup
+    of_taken_over (Some world) begins = lists_of begins.limits
+
+pub beginning_keeps_limits : (setup : Setup) → IsLawful setup → Begins setup → KeepsLimits setup (beginning setup)
+beginning_keeps_limits setup lawful begins = of_taken_over setup.carried begins
+  where
+    of_taken_over : (carried : Option World) → IfSome carried (IsBeginning setup) → KeepsLimits setup (beginning_of setup carried)
+    of_taken_over None begins = opening_keeps_limits setup lawful
+    of_taken_over (Some world) begins = begins.limits

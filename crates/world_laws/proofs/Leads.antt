@@ -1,13 +1,14 @@
 -- Runs of the world, joined and split, and what holds along them.
 use Rattle.std.proofs.Common.{◌≡◌, List, [], ◌∷◌, ◌++◌, refl, ap, sym, subst, ◌∙◌}
-use Rattle.world.specs.World.{Setup, World, opening}
+use Rattle.world.specs.World.{Setup, World, beginning}
 use Rattle.world.specs.Event.{Event, Reply}
 use Rattle.world.specs.Step.{WorldStep}
 use Rattle.world.specs.WorldRun.{Leads, WorldRun, led_to, world_after}
-use Rattle.world.specs.Limits.{KeepsLimits, LimitsAreKept}
+use Rattle.world.specs.Limits.{KeepsLimits}
+use Rattle.world.specs.Laws.LimitLaws.{LimitsAreKept}
 use Rattle.world_laws.proofs.Steps.Cases.{case_of}
 use Rattle.world.proofs.Steps.Moves.{KeepsLists}
-use Rattle.world_laws.proofs.Kept.{case_keeps_limits, step_keeps, opening_keeps, opening_keeps_limits}
+use Rattle.world_laws.proofs.Kept.{case_keeps_limits, step_keeps, beginning_keeps, beginning_keeps_limits}
 
 -- a run and one step more are a run
 pub leads_push : (setup : Setup) (before : World) (xs : List (Event × Reply)) (between : World) (event : Event) (reply : Reply) (after : World) → Leads setup before xs between → WorldStep setup between event reply after → Leads setup before (xs ++ (event, reply) ∷ []) after
@@ -31,7 +32,7 @@ leads_keeps setup before [] after run kept = subst (KeepsLists setup) run kept
 leads_keeps setup before (x ∷ xs) after run kept = leads_keeps setup run.0 xs after run.2 (step_keeps setup before x.0 x.1 run.0 run.1 kept)
 
 pub lists_are_kept : (setup : Setup) (xs : List (Event × Reply)) (world : World) → WorldRun setup xs world → KeepsLists setup world
-lists_are_kept setup xs world run = leads_keeps setup (opening setup) xs world run (opening_keeps setup)
+lists_are_kept setup xs world run = leads_keeps setup (beginning setup) xs world run.1 (beginning_keeps setup run.0)
 
 leads_keeps_limits : (setup : Setup) (before : World) (xs : List (Event × Reply)) (after : World) → Leads setup before xs after → KeepsLimits setup before → KeepsLimits setup after
 leads_keeps_limits setup before [] after run kept = subst (KeepsLimits setup) run kept
@@ -39,7 +40,7 @@ leads_keeps_limits setup before (x ∷ xs) after run kept =
     leads_keeps_limits setup run.0 xs after run.2 (case_keeps_limits setup before x.0 x.1 run.0 (case_of setup before x.0 x.1 run.0 run.1) kept)
 
 pub limits_are_kept : LimitsAreKept
-limits_are_kept setup lawful xs world run = leads_keeps_limits setup (opening setup) xs world run (opening_keeps_limits setup lawful)
+limits_are_kept setup lawful xs world run = leads_keeps_limits setup (beginning setup) xs world run.1 (beginning_keeps_limits setup lawful run.0)
 
 -- events that lead to a world lead there by the steps alone
 pub world_after_leads : (setup : Setup) (before : World) (xs : List (Event × Reply)) (after : World) → Leads setup before xs after → world_after setup before xs ≡ after

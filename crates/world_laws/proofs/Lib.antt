@@ -17,3 +17,4 @@ pub mod Moved
 pub mod Accounts
 pub mod Starting
 pub mod OneController
+pub mod Over

@@ -2,13 +2,15 @@
 use Rattle.std.proofs.Common.{◌≡◌, ℕ, zero, suc, ◌+◌, ◌≤◌, List, [], ◌∷◌, ◌++◌, map, length, get_or, slice_index, Bool, true, false, not, leb, ltb, cond, Option, Some, None, inl, inr, refl, ap, sym, subst, ◌∙◌, arith}
 use Rattle.std.specs.List.{list_all}
 use Rattle.std.specs.Option.{option_map, option_and_then}
-use Rattle.std.proofs.lemmas.Bool.{and_parts, and_from, cases_Bool, cond-true, cond-false, leb-true, le-leb, not-true}
+use Rattle.std.proofs.lemmas.Bool.{and_parts, and_from, cases_Bool, cond-true, cond-false, leb-false, leb-true, le-leb, not-true}
 use Rattle.std.proofs.lemmas.List.{length-map}
 use Rattle.ccb.specs.Completion.{Outcome}
 use Rattle.ccb.specs.declared.ccb.Ccb.{Ccb}
 use Rattle.ccb.specs.Ccb.{completed}
 use Rattle.ccb.specs.Context.{context_of}
-use Rattle.std.specs.Prelude.{is_none}
+use Rattle.std.specs.Prelude.{All, IfSome, is_none}
+use Rattle.freeze_ledger.specs.declared.freeze.Freeze.{Freeze}
+use Rattle.ccb.specs.declared.place.Place.{Place}
 use Rattle.freeze_ledger.specs.declared.freeze.Holder.TheVariants.{Run}
 use Rattle.freeze_ledger.specs.Freezes.{frozen, meets_limit}
 use Rattle.ccb.specs.declared.place.Place.TheVariants.{Controller, Device}
@@ -30,16 +32,18 @@ use Rattle.world_calls.specs.declared.call.Call.TheVariants as calls
 use Rattle.world_calls.specs.declared.call_answer.CallAnswer.TheVariants as answers
 use Rattle.ccb.specs.declared.call_refusal.CallRefusal.TheVariants.{Unknown, Limit, Frozen, NoOpening, NothingWaits, ControllerFrozen}
 use Rattle.world.specs.declared.ccb_state.CcbState.TheVariants.{InRecovery}
-use Rattle.world.specs.World.{QueueSetup, Setup, no_queue, queue_count, queue_setup, LiveCcb, LiveRun, World, opening}
+use Rattle.world.specs.World.{QueueSetup, Setup, no_queue, queue_count, queue_setup, LiveCcb, LiveRun, World, beginning, beginning_of, opening}
+use Rattle.world.specs.Beginning.{Begins, IsBeginning, IsCarriedFreeze}
+use Rattle.world.specs.Limits.{KeepsLimits}
 use Rattle.world.specs.Lookups.{active_count, ccb_of, next_waiting, run_of, with_ccb}
 use Rattle.world.specs.Told.{Told, told_of, is_told}
 use Rattle.world.specs.Event.{Instruction, private, call, exit, Event, called, executes, Reply, replies}
 use Rattle.world.specs.CcbSteps.{ccb_meets_limit, completes, finishes, is_completion, is_success, run_starts, starts, submits}
 use Rattle.world.specs.FreezeSteps.{froze, guest_freezes}
 use Rattle.world.specs.RunSteps.{may_call, step_helper, step_request, step_run, step_executes}
-use Rattle.world.specs.Refusals.{refusals_of, unless_refused}
+use Rattle.world.specs.Refusals.{is_unknown, refusals_of, unless_refused}
 use Rattle.world.specs.Step.{performs, step, step_call}
-use Rattle.world.specs.Lawful.{IsLawful}
+use Rattle.world.specs.Lawful.{AreUnder, IsLawful}
 use Rattle.world.specs.WorldRun.{Leads, WorldRun}
 use Rattle.world.specs.Laws.OneController.{IsUnderOne, unbudgeted, is_of_controllers, is_controller_event, OneController}
 use Rattle.world_laws.proofs.Steps.Rules.{rule_parts}
@@ -201,6 +205,47 @@ module _ (setup other : Setup) (its : IsUnderOne setup other) where
       let parts = and_parts (not (is_controller_event x.0)) (list_all (λ (y : Event × Reply). not (is_controller_event y.0)) xs) none in
       (leads.0, step_so before x.0 (x.1, leads.0) (not-true _ parts.0) leads.1, leads_so leads.0 xs after parts.1 leads.2)
 
+  -- both begin in one world, whether it was taken over or not
+  same_beginning : beginning setup ≡ beginning other
+  same_beginning = of_taken_over setup.carried other.carried its.carried
+    where
+      of_taken_over : (mine theirs : Option World) → theirs ≡ mine → beginning_of setup mine ≡ beginning_of other theirs
+      of_taken_over None theirs same = same_opening ∙ ap (beginning_of other) (sym same)
+      of_taken_over (Some world) theirs same = ap (beginning_of other) (sym same)
+
+  -- what there is in the one there is in the other
+  there_too : IsLawful setup → (place : Place) → is_unknown setup place ≡ false → is_unknown other place ≡ false
+  there_too lawful (Device queue) known = rw (← count_is) known
+  there_too lawful (Controller controller) known =
+      let under : AreUnder Queues setup.controllers setup.queues = subst (λ (set : HelperSet). AreUnder set setup.controllers setup.queues) its.queues_alone lawful.under in
+      absurd (omega (arith, leb-false _ _ known, under.0))
+
+  begins_too : IsLawful setup → (world : World) → IsBeginning setup world → IsBeginning other world
+  begins_too lawful world begins =
+      let limits = begins.limits in
+      let places : All (IsCarriedFreeze other) world.transport.freezes = λ k d below. record { place = there_too lawful _ (begins.freezes k d below).place; holder = (begins.freezes k d below).holder } in
+      record {
+        limits = record {
+          freezes = record { places = λ agreed k d below. (places k d below).place; a_place = limits.freezes.a_place; ledger = limits.freezes.ledger; numbered = limits.freezes.numbered; numbers = limits.freezes.numbers };
+          ccbs = record { queues = rw (← count_is) limits.ccbs.queues; a_queue = limits.ccbs.a_queue; all = limits.ccbs.all; rising = limits.ccbs.rising; numbers = limits.ccbs.numbers };
+          runs = record { queues = rw begins.no_run (λ k d below. absurd (omega arith)); controllers = rw begins.no_run (λ k d below. absurd (omega arith)); programs = rw begins.no_run (λ k d below. absurd (omega arith)); all = limits.runs.all; rising = limits.runs.rising; numbers = limits.runs.numbers };
+          answers = record { queues = limits.answers.queues ∙ count_is; openings = limits.answers.openings; lengths = limits.answers.lengths ∙ sym its.tables; words = limits.answers.words; clock = limits.answers.clock };
+        };
+        ccbs = begins.ccbs;
+        freezes = places;
+        no_run = begins.no_run;
+        none_ended = begins.none_ended;
+      }
+
+  begins_so : IsLawful setup → Begins setup → Begins other
+  begins_so lawful begins = of_taken_over setup.carried other.carried its.carried begins
+    where
+      of_taken_over : (mine theirs : Option World) → theirs ≡ mine → IfSome mine (IsBeginning setup) → IfSome theirs (IsBeginning other)
+      of_taken_over None theirs same begins = rw same tt
+      of_taken_over (Some world) theirs same begins = rw same (begins_too lawful world begins)
+
 pub one_controller : OneController
-one_controller setup other lawful its xs world none run =
-    subst (λ (w : World). Leads other w xs world) (same_opening setup other its) (leads_so setup other its (opening setup) xs world none run)
+one_controller setup other lawful its xs world none run = (
+  begins_so setup other its lawful run.0,
+  subst (λ (w : World). Leads other w xs world) (same_beginning setup other its) (leads_so setup other its (beginning setup) xs world none run.1),
+)

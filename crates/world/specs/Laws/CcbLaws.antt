@@ -4,7 +4,7 @@ use Rattle.std.specs.Prelude.{◌≡◌, ℕ, ◌<◌, ◌≤◌, ◌==◌, List
 use Rattle.ccb.specs.Status.{code_of}
 use Rattle.world_calls.specs.declared.call.Call.TheVariants.{Complete}
 use Rattle.world_calls.specs.declared.call_answer.CallAnswer.TheVariants as answers
-use Rattle.world.specs.World.{Setup, LiveCcb, EndedCcb, LiveRun, World, opening}
+use Rattle.world.specs.World.{Setup, LiveCcb, EndedCcb, LiveRun, World, beginning}
 use Rattle.world.specs.Lookups.{active_count, ccb_of, run_of}
 use Rattle.world.specs.Told.{finishes}
 use Rattle.world.specs.Event.{call, Event, called, executes, Reply, replies}
@@ -23,10 +23,15 @@ IsLiveOnly number live ended = (it : LiveCcb) × (ccb_of number live ≡ Some it
 abbrev pub IsEndedOnly : ℕ → List LiveCcb → List EndedCcb → Type 0
 IsEndedOnly number live ended = (ccb_of number live ≡ None) × (ended_times number ended ≡ 1)
 
--- Each number from 1 to the greatest given is live or ended, not both, and ended once at most; no other number is either.
-pub record AreAccounted (live : List LiveCcb) (ended : List EndedCcb) (greatest : ℕ) : Type 0 where
-  pub each : (number : ℕ) → 0 < number → number ≤ greatest → IsLiveOnly number live ended ⊎ IsEndedOnly number live ended
-  pub no_other : (number : ℕ) → (number ≡ 0) ⊎ (greatest < number) → (ccb_of number live ≡ None) × (ended_times number ended ≡ 0)
+-- The number was live at the beginning, or was given since then. At the opening none is live and none was given, so there these are
+-- the numbers from 1 to the greatest given.
+abbrev pub WasGiven : World → ℕ → ℕ → Type 0
+WasGiven begun greatest number = ((it : LiveCcb) × (ccb_of number begun.transport.live ≡ Some it)) ⊎ ((begun.transport.greatest_ccb < number) × (number ≤ greatest))
+
+-- Each such number is live or ended, not both, and ended once at most; no other number is either.
+pub record AreAccounted (begun : World) (live : List LiveCcb) (ended : List EndedCcb) (greatest : ℕ) : Type 0 where
+  pub each : (number : ℕ) → WasGiven begun greatest number → IsLiveOnly number live ended ⊎ IsEndedOnly number live ended
+  pub no_other : (number : ℕ) → (WasGiven begun greatest number → ⊥) → (ccb_of number live ≡ None) × (ended_times number ended ≡ 0)
 
 -- the CCB of this run, with the code
 abbrev pub finished_by_run : ℕ → Option LiveRun → List EndedCcb
@@ -50,7 +55,7 @@ finished_in setup before (x ∷ xs) after leads = finished_by before x.0 x.1 ++ 
 abbrev pub EachIsLiveOrEnded : Type 0
 EachIsLiveOrEnded =
     (setup : Setup) (xs : List (Event × Reply)) (world : World) → (run : WorldRun setup xs world) →
-    AreAccounted world.transport.live world.ended world.transport.greatest_ccb × (world.ended ≡ finished_in setup (opening setup) xs world run)
+    AreAccounted (beginning setup) world.transport.live world.ended world.transport.greatest_ccb × (world.ended ≡ finished_in setup (beginning setup) xs world run.1)
 
 -- No step makes more CCBs of a queue active than it has openings then. Openings that a run lowers below the active ones
 -- stop starts and nothing else, so there may be more active ones, but none is added.

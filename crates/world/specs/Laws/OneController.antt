@@ -15,7 +15,8 @@ use Rattle.world.specs.WorldRun.{WorldRun}
 abbrev pub unbudgeted : QueueSetup → QueueSetup
 unbudgeted queue = record queue { budget = 0 }
 
--- the same queues, with their openings and instructions, and the same tables; and one controller over all
+-- the same queues, with their openings and instructions, the same tables and the same world that is taken over, if any; and one
+-- controller over all
 pub record IsUnderOne (setup other : Setup) : Type 0 where
   pub queues_alone : setup.limits.helpers ≡ Queues
   pub controllers_too : other.limits.helpers ≡ Controllers
@@ -23,6 +24,7 @@ pub record IsUnderOne (setup other : Setup) : Type 0 where
   pub named : other.limits.queues ≡ setup.limits.queues
   pub tables : other.limits.table_lengths ≡ setup.limits.table_lengths
   pub queues : map unbudgeted other.queues ≡ map unbudgeted setup.queues
+  pub carried : other.carried ≡ setup.carried
 
 -- the call is about a controller
 abbrev pub is_of_controllers : Call → Bool

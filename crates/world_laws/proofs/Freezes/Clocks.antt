@@ -1,12 +1,14 @@
 -- The clock goes on, and a freeze that a timer holds goes by a clock reading and by nothing else.
-use Rattle.std.proofs.Common.{◌≡◌, ℕ, ◌≤◌, List, [], ◌∷◌, ◌++◌, ◌+◌, length, true, false, not, leb, Some, None, inl, inr, ap, sym, subst, ◌∙◌, arith}
+use Rattle.std.proofs.Common.{◌≡◌, ℕ, ◌≤◌, List, [], ◌∷◌, ◌++◌, ◌+◌, length, true, false, not, leb, Option, Some, None, inl, inr, ap, sym, subst, ◌∙◌, arith}
+use Rattle.std.specs.Prelude.{IfSome}
 use Rattle.std.proofs.lemmas.Bool.{cases_Bool, cond-true, cond-false, not_from_true, not_from_false}
 use Rattle.freeze_ledger.specs.declared.freeze.Holder.{Holder}
 use Rattle.freeze_ledger.specs.declared.freeze.Holder.TheVariants.{Timer}
 use Rattle.freeze_ledger.specs.declared.freeze.Freeze.{Freeze}
 use Rattle.freeze_ledger.specs.Freezes.{entry_of, without, is_due, due_at, not_due_at}
 use Rattle.world.specs.Capacities.{last_reading}
-use Rattle.world.specs.World.{Setup, World, opening}
+use Rattle.world.specs.World.{Setup, World, beginning, beginning_of}
+use Rattle.world.specs.Beginning.{IsBeginning}
 use Rattle.world_calls.specs.declared.call_answer.CallAnswer.TheVariants as answers
 use Rattle.world.specs.Event.{Event, Reply, replies}
 use Rattle.world.specs.FreezeSteps.{is_guest}
@@ -22,7 +24,7 @@ use Rattle.world_laws.proofs.Steps.Cases.{ReadsClock, Case, case_of, refuses, su
 use Rattle.world.proofs.Steps.Moves.{KeepsLists}
 use Rattle.world.proofs.Steps.Answering.{moved_on}
 use Rattle.world_laws.proofs.Steps.Effects.{effect_of}
-use Rattle.world_laws.proofs.Kept.{step_keeps, opening_keeps}
+use Rattle.world_laws.proofs.Kept.{step_keeps, beginning_keeps}
 use Rattle.world_laws.proofs.Leads.{lists_are_kept}
 
 leads_on : (setup : Setup) (before : World) (xs : List (Event × Reply)) (after : World) → KeepsLists setup before → Leads setup before xs after → before.transport.clock ≤ last_reading → (before.transport.clock ≤ after.transport.clock) × (after.transport.clock ≤ last_reading)
@@ -36,9 +38,12 @@ leads_on setup before (x ∷ xs) after kept run within =
 
 pub clock_goes_on : ClockGoesOn
 clock_goes_on setup xs ys before after first second =
-    let opened : 0 ≤ last_reading = omega arith in
-    let begun = leads_on setup (opening setup) xs before (opening_keeps setup) first opened in
+    let begun = leads_on setup (beginning setup) xs before (beginning_keeps setup first.0) first.1 (begins_within setup.carried first.0) in
     leads_on setup before ys after (lists_are_kept setup xs before first) second begun.1
+  where
+    begins_within : (carried : Option World) → IfSome carried (IsBeginning setup) → (beginning_of setup carried).transport.clock ≤ last_reading
+    begins_within None begins = omega arith
+    begins_within (Some world) begins = begins.limits.answers.clock
 
 -- an event that lets nothing go leaves a timer's freeze, where the freezes are as they were, or one is more
 as_before : (before : World) (event : Event) (reply : Reply) (after : World) → ((due : ℕ) → lets_go due reply event ≡ false) → after.transport.freezes ≡ before.transport.freezes → KeepsTime before event reply after

@@ -12,7 +12,7 @@ use Rattle.helpers.specs.declared.request.Request.{Request}
 use Rattle.helpers.specs.Table.{row_of}
 use Rattle.helpers.specs.declared.request.Answer.{Answer}
 use Rattle.bpf_semantics.specs.Step.{request_at}
-use Rattle.world.specs.World.{Setup, LiveRun, World, opening}
+use Rattle.world.specs.World.{Setup, LiveRun, World, beginning}
 use Rattle.world.specs.Lookups.{run_of}
 use Rattle.world.specs.Told.{Told, told_of}
 use Rattle.world_calls.specs.declared.call.Call.TheVariants.{GuestRelease}
@@ -88,10 +88,10 @@ removed_past setup before after number freeze kept entry e g =
 
 pub given_up_stays_given_up : GivenUpStaysGivenUp
 given_up_stays_given_up setup xs ys number reply world run held =
-    let parts = leads_split setup (opening setup) xs ((called (GuestRelease number), reply) ∷ ys) world run in
+    let parts = leads_split setup (beginning setup) xs ((called (GuestRelease number), reply) ∷ ys) world run.1 in
     let before : World = parts.0 in
     let after : World = parts.2.0 in
-    let kept = lists_are_kept setup xs before parts.1 in
+    let kept = lists_are_kept setup xs before (run.0, parts.1) in
     let it = guest_release_parts setup before number reply after parts.2.1 in
     let same : it.number ≡ number = let e : called (GuestRelease number) ≡ called (GuestRelease it.number) = it.event_is in cc in
     let past = removed_past setup before after number it.freeze kept (subst (λ (n : ℕ). entry_of n before.transport.freezes ≡ Some it.freeze) same it.entry)

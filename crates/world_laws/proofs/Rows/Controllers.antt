@@ -26,6 +26,7 @@ setup = record {
   limits = record (of_queues 2 []) { helpers = Controllers };
   controllers = 2;
   queues = queue_of 1 ∷ record (queue_of 2) { controller = 1 } ∷ [];
+  carried = None;
 }
 
 abbrev of_controller : ℕ → ℕ → Holder → Freeze

@@ -18,7 +18,7 @@ use Rattle.world_laws.proofs.Rows.Worked.{one_queue, zero_tables, with_freezes, 
 
 -- a guest freezes queue 0 and gives the freeze back
 two_lines : (l : HelperLimits) → WorldRun (one_queue l) ((guest_freeze 0 7, freeze_given 1) ∷ (guest_release 1, count_left 0) ∷ []) (zero_tables l (with_freezes [] 1))
-two_lines l = (zero_tables l (with_freezes (freeze_of 1 7 ∷ []) 1), refl, (zero_tables l (with_freezes [] 1), refl, refl))
+two_lines l = (tt, (zero_tables l (with_freezes (freeze_of 1 7 ∷ []) 1), refl, (zero_tables l (with_freezes [] 1), refl, refl)))
 
 -- which is what its two records stand for, and their totals
 two_records : flat (Called (answers.Freeze 1) (GuestFreeze (device 0) 7) ∷ Called (answers.Left 0) (GuestRelease 1) ∷ []) ≡ (guest_freeze 0 7, freeze_given 1) ∷ (guest_release 1, count_left 0) ∷ []

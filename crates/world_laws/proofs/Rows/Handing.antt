@@ -1,6 +1,6 @@
 -- A worked run: a CCB times out, its queue is frozen, and the queue's program freezes queue 1, hands that freeze over to a
 -- timer, gives its own back and finishes the CCB.
-use Rattle.std.proofs.Common.{◌≡◌, ℕ, pos, List, [], ◌∷◌, Some, Ok, refl}
+use Rattle.std.proofs.Common.{◌≡◌, ℕ, pos, List, [], ◌∷◌, Some, Ok, refl, None}
 use Rattle.ccb.specs.declared.cam_status.CamStatus.TheVariants.{CommandTimeout}
 use Rattle.bpf_insn.specs.declared.insn.Insn.{Insn}
 use Rattle.bpf_insn.specs.declared.insn.Insn.TheVariants.{Alu, Call, Exit}
@@ -57,7 +57,7 @@ queue = record {
 }
 
 abbrev setup : Setup
-setup = record { limits = of_queues 2 []; controllers = 0; queues = queue ∷ queue ∷ [] }
+setup = record { limits = of_queues 2 []; controllers = 0; queues = queue ∷ queue ∷ []; carried = None }
 
 -- the records that a transport makes of it
 abbrev records : List Record
@@ -93,14 +93,14 @@ at_end = record { transport = record { live = []; freezes = record { number = 2;
 
 it_runs : WorldRun setup events at_end
 unfolding row_of
-it_runs = (_, refl, (_, refl, (_, refl, (_, refl, (_, refl, (_, refl, (_, refl, (_, refl, (_, refl, (_, refl, (_, refl, (_, refl, (_, refl, (_, refl, (_, refl, refl)))))))))))))))
+it_runs = (tt, (_, refl, (_, refl, (_, refl, (_, refl, (_, refl, (_, refl, (_, refl, (_, refl, (_, refl, (_, refl, (_, refl, (_, refl, (_, refl, (_, refl, (_, refl, refl))))))))))))))))
 
 -- it got freeze 1 at its start and took freeze 2, and gave up both
 it_took : took 1 events ≡ 1 ∷ 2 ∷ []
 unfolding row_of
 it_took = refl
 
-it_gave : gave 1 setup (opening setup) events at_end it_runs ≡ 2 ∷ 1 ∷ []
+it_gave : gave 1 setup (opening setup) events at_end it_runs.1 ≡ 2 ∷ 1 ∷ []
 unfolding it_runs
 it_gave = refl
 
@@ -110,7 +110,7 @@ unfolding row_of
 its_steps = (refl, refl, refl)
 
 -- the CCB ended with the code that the program named
-its_code : finished_in setup (opening setup) events at_end it_runs ≡ record { number = 1; code = 11 } ∷ []
+its_code : finished_in setup (opening setup) events at_end it_runs.1 ≡ record { number = 1; code = 11 } ∷ []
 unfolding it_runs
 its_code = refl
 

@@ -105,36 +105,39 @@ what_they_stand_for = refl
 it_runs : (l : HelperLimits) → WorldRun (one_queue l) events (at_end l)
 unfolding row_of
 it_runs l = (
-  submitted_one l,
-  refl,
+  tt,
   (
-    started_one l,
+    submitted_one l,
     refl,
     (
-      failed l,
+      started_one l,
       refl,
       (
-        next (one_queue l) (failed l) (executes 1 private),
+        failed l,
         refl,
         (
-          at_release l,
+          next (one_queue l) (failed l) (executes 1 private),
           refl,
           (
-            released l,
+            at_release l,
             refl,
             (
-              at_requeue l,
+              released l,
               refl,
               (
-                requeued_one l,
+                at_requeue l,
                 refl,
                 (
-                  at_exit l,
+                  requeued_one l,
                   refl,
                   (
-                    at_end l,
+                    at_exit l,
                     refl,
-                    refl,
+                    (
+                      at_end l,
+                      refl,
+                      refl,
+                    ),
                   ),
                 ),
               ),
@@ -154,7 +157,7 @@ it_took : took 1 events ≡ 1 ∷ []
 unfolding row_of
 it_took = refl
 
-it_gave : (l : HelperLimits) → gave 1 (one_queue l) (opening (one_queue l)) events (at_end l) (it_runs l) ≡ 1 ∷ []
+it_gave : (l : HelperLimits) → gave 1 (one_queue l) (opening (one_queue l)) events (at_end l) (it_runs l).1 ≡ 1 ∷ []
 unfolding it_runs
 it_gave l = refl
 
@@ -173,7 +176,7 @@ unfolding row_of
 its_steps = (refl, refl, refl)
 
 -- no CCB ended
-none_ended : (l : HelperLimits) → finished_in (one_queue l) (opening (one_queue l)) events (at_end l) (it_runs l) ≡ []
+none_ended : (l : HelperLimits) → finished_in (one_queue l) (opening (one_queue l)) events (at_end l) (it_runs l).1 ≡ []
 unfolding it_runs
 none_ended l = refl
 

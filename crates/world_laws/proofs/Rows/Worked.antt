@@ -43,10 +43,10 @@ abbrev pub of_helpers : HelperLimits → HelperLimits
 of_helpers limits = record limits { helpers = Queues }
 
 abbrev pub one_queue : HelperLimits → Setup
-one_queue limits = record { limits = of_helpers limits; controllers = 0; queues = queue_of 2 ∷ [] }
+one_queue limits = record { limits = of_helpers limits; controllers = 0; queues = queue_of 2 ∷ []; carried = None }
 
 abbrev pub two_queues : HelperLimits → Setup
-two_queues limits = record { limits = of_helpers limits; controllers = 0; queues = queue_of 1 ∷ queue_of 2 ∷ [] }
+two_queues limits = record { limits = of_helpers limits; controllers = 0; queues = queue_of 1 ∷ queue_of 2 ∷ []; carried = None }
 
 -- with the tables as they are at the opening
 abbrev pub zero_tables : HelperLimits → World → World

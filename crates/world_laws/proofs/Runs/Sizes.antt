@@ -42,7 +42,7 @@ use Rattle.bpf_semantics.proofs.WrittenBytes.{some_same}
 use Rattle.bpf_stack_frame.specs.Frame.{written_at}
 use Rattle.world.specs.World.{Setup, queue_count, queue_setup, LiveRun, World}
 use Rattle.world.specs.Lawful.{IsLawful}
-use Rattle.world.specs.Limits.{RunsKeepLimits}
+use Rattle.world.specs.Laws.LimitLaws.{RunsKeepLimits}
 use Rattle.world.specs.Lookups.{run_of}
 use Rattle.world.specs.Laws.FreezeLaws.{entries_of, held_by}
 use Rattle.world.proofs.Lists.Each.{all_found}

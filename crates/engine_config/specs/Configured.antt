@@ -1,5 +1,5 @@
 -- What a configuration may be, and the setup that it is.
-use Rattle.std.specs.Prelude.{◌≡◌, ℕ, ◌≤◌, List, length, map, All}
+use Rattle.std.specs.Prelude.{◌≡◌, ℕ, ◌≤◌, List, length, map, All, None}
 use Rattle.std.specs.Global.{Global}
 use Rattle.std.specs.Arc.{arc_value}
 use Rattle.std.specs.declared.sync.Arc.{Arc}
@@ -31,7 +31,7 @@ abbrev pub queue_of : Given → QueueSetup
 queue_of given = record { openings = given.openings; controller = given.controller; program = given.verdict.program; budget = given.verdict.budget }
 
 abbrev pub setup_of : HelperLimits → ℕ → List Given → Setup
-setup_of limits controllers given = record { limits = limits; controllers = controllers; queues = map queue_of given }
+setup_of limits controllers given = record { limits = limits; controllers = controllers; queues = map queue_of given; carried = None }
 
 -- at least one opening, and a program that was accepted under these limits
 abbrev pub IsGivenUnder : HelperLimits → Given → Type 0

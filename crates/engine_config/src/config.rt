@@ -1,10 +1,11 @@
 // What an engine is opened with. It relies on `given` for the queues as they are given, on `bpf_accepted` for accepted programs and
 // on `helpers` for their limits.
 
-ghost use Rattle.std.specs.Prelude.{◌≡◌, ◌<◌, ◌≤◌, ◌↔◌, length, map, All, IsSome, IsTrue, IfSome, IfOk};
+ghost use Rattle.std.specs.Prelude.{◌≡◌, ◌<◌, ◌≤◌, ◌↔◌, length, map, All, IsSome, IsTrue, IfSome, IfOk, None};
 ghost use Rattle.std.specs.Arc.{arc_value};
 ghost use Rattle.helpers.specs.declared.limits.HelperSet.TheVariants.{Controllers};
 ghost use Rattle.bpf_accepted.specs.Verdict.{IsAccepted};
+ghost use Rattle.world.specs.Beginning.{Begins};
 ghost use Rattle.world.specs.World.{queue_count, queue_setup};
 ghost use Rattle.world.specs.Capacities.{most_controllers, most_queues};
 ghost use Rattle.world.specs.Lawful.{AreUnder, IsLawful};
@@ -88,11 +89,13 @@ impl Config {
         self.limits.helpers
     }
 
-    /// How many device queues there are, 1 to 64.
+    /// How many device queues there are, 1 to 64. Of itself a configuration is that of an engine which follows no other.
     pub fn queues(&self) -> u32
         ensures value { result ≡ queue_count self.now }
         ensures bound { result ≤ most_queues }
         ensures lawful { IsLawful self.now }
+        ensures alone { self.now.carried ≡ None }
+        ensures begins { Begins self.now }
     {
         self.limits.queues
     }

@@ -6,7 +6,7 @@ use Rattle.interpreter.specs.Segments.{SegmentState}
 use Rattle.world_calls.specs.declared.record.Record.{Record}
 use Rattle.world_calls.specs.declared.totals.Totals.{Totals}
 use Rattle.world_calls.specs.declared.record.Record.TheVariants.{Advance as advanced}
-use Rattle.world.specs.World.{Setup, opening}
+use Rattle.world.specs.World.{Setup, beginning}
 use Rattle.world.specs.Lawful.{IsLawful}
 use Rattle.world.specs.TotalsOf.{totals_in}
 use Rattle.world.specs.Event.{Event as WorldEvent, Reply as WorldReply}
@@ -113,7 +113,7 @@ is_run_more between after told is more = record {
   lawful = subst IsLawful (sym more.setup) is.lawful;
   run = subst (λ (s : Setup). WorldRun s (flat after.history) after.world) (sym more.setup)
       (subst (λ (xs : List (WorldEvent × WorldReply)). WorldRun between.setup xs after.world) (sym (ap flat more.history ∙ flat_push between.history told))
-      (leads_append between.setup (opening between.setup) (flat between.history) (events_of told) between.world after.world is.run more.step));
+      (is.run.0, leads_append between.setup (beginning between.setup) (flat between.history) (events_of told) between.world after.world is.run.1 more.step));
 }
 
 -- ---- one advance

@@ -1,5 +1,5 @@
 -- What the records keep is kept by one run more, by a change of one, and by one fewer; and what is seen of them then.
-use Rattle.std.proofs.Common.{◌≡◌, ℕ, ◌+◌, ◌<◌, List, [], ◌∷◌, ◌++◌, map, length, get_or, set, false, leb, Option, ap, sym, subst, ◌∙◌, arith, length-append}
+use Rattle.std.proofs.Common.{◌≡◌, ℕ, ◌+◌, ◌<◌, ◌≤◌, List, [], ◌∷◌, ◌++◌, map, length, get_or, set, false, leb, Option, None, ap, sym, subst, ◌∙◌, arith, length-append}
 use Rattle.std.specs.List.{remove}
 use Rattle.std.proofs.lemmas.Bool.{or_parts, leb-false}
 use Rattle.std.proofs.lemmas.List.{map_push, map-set}
@@ -25,7 +25,7 @@ abbrev pub HasRoom : Runs → Type 0
 HasRoom runs = (world : World) → run_meets_limit (record world { runs = runs }) ≡ false
 
 some_setup : Setup
-some_setup = record { limits = of_queues 0 []; controllers = 0; queues = [] }
+some_setup = record { limits = of_queues 0 []; controllers = 0; queues = []; carried = None }
 
 -- then there is room, and a further number
 pub has_room : (runs : Runs) → HasRoom runs → (length runs.list < 256) × (runs.greatest < 4294967295)
@@ -41,6 +41,19 @@ seen_is rs greatest tables list tokens lives held = λ i. record { runs = record
 pub rises_on : (s : NumberedState RunRecord) (greatest : ℕ) → KeepsRuns s greatest → AreRising 0 (s.numbers ++ (greatest + 1) ∷ []) (greatest + 1)
 rises_on s greatest k =
     rising_more 0 s.numbers greatest (greatest + 1) (subst (λ (ns : List ℕ). AreRising 0 ns greatest) (sym k.numbered) (own s.values greatest k.rising)) (omega arith)
+
+-- nor do they cease to where numbers up to a greater one are passed over
+rises_up : (low : ℕ) (ns : List ℕ) (high more : ℕ) → AreRising low ns high → high ≤ more → AreRising low ns more
+rises_up low [] high more rising up = omega (arith, rising, up)
+rises_up low (n ∷ ns) high more rising up = (rising.0, rises_up n ns high more rising.1 up)
+
+pub kept_passed : (s : NumberedState RunRecord) (greatest more : ℕ) → KeepsRuns s greatest → greatest ≤ more → KeepsRuns s more
+kept_passed s greatest more k up = record {
+  numbered = k.numbered;
+  rising = rises_up 0 (map number_of (lives_of s.values)) greatest more k.rising up;
+  within = k.within;
+  room = k.room;
+}
 
 -- one more run
 pub kept_started : (s : NumberedState RunRecord) (greatest : ℕ) (r : RunRecord) → KeepsRuns s greatest → length s.values < 256 → r.number ≡ greatest + 1 → KeepsRuns (record s { numbers = s.numbers ++ r.number ∷ []; values = s.values ++ r ∷ [] }) (greatest + 1)

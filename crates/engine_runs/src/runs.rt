@@ -146,6 +146,21 @@ impl Runs {
         self.tables.add(table, index, value)
     }
 
+    /// Whether there is a word of this index in a table of this number.
+    pub fn has_word(&self, table: usize, index: usize) -> bool
+        ensures { IsTrue result ↔ HasWord self.now.runs.tables table index }
+    {
+        self.tables.has_word(table, index)
+    }
+
+    /// The numbers up to this one, which is at least the greatest given, are given no more: the next run bears the number after it.
+    pub fn pass_over(&mut self, number: u32)
+        requires { self.old.runs.greatest ≤ number }
+        ensures { self.new ≡ record self.old { runs = record self.old.runs { greatest = number } } }
+    {
+        self.greatest = number;
+    }
+
     /// How many runs are live, at most 256.
     pub fn len(&self) -> u32
         ensures runs { result ≡ length self.now.runs.list }

@@ -9,3 +9,4 @@ pub mod Info
 pub mod Opened
 pub mod Failing
 pub mod Placed
+pub mod Carrying

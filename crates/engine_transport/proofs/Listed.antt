@@ -1,5 +1,5 @@
 -- What the list of live CCBs keeps is kept by one more at the end, by a change of one, and by one fewer.
-use Rattle.std.proofs.Common.{◌≡◌, ℕ, ◌+◌, ◌<◌, List, [], ◌∷◌, ◌++◌, length, map, get_or, set, cond, Option, Some, None, IfSome, IfNone, Contains, ap, sym, subst, ◌∙◌, arith, length-append}
+use Rattle.std.proofs.Common.{◌≡◌, ℕ, ◌+◌, ◌<◌, ◌≤◌, List, [], ◌∷◌, ◌++◌, length, map, get_or, set, cond, Option, Some, None, IfSome, IfNone, Contains, ap, sym, subst, ◌∙◌, arith, length-append}
 use Rattle.std.specs.List.{remove}
 use Rattle.std.proofs.lemmas.List.{map_push}
 use Rattle.std.proofs.lemmas.List.Edits.{length-remove}
@@ -50,6 +50,11 @@ not_there_if s greatest active number (Some place) h none = tt
 -- the CCB at the place is the one of the number
 pub placed : (ccbs : List LiveCcb) (greatest number place : ℕ) (it : LiveCcb) → AreRising 0 (map ccb_key ccbs) greatest → IsPlaceOf number ccbs place → it ≡ get_or ccbs place it → ccb_of number ccbs ≡ Some it
 placed ccbs greatest number place it rising p e = found_at ccb_key 0 ccbs greatest place number it p.within rising (p.here it) ∙ ap Some (sym e)
+
+-- numbers rise up to any greater one
+pub rises_up : (low : ℕ) (ns : List ℕ) (high more : ℕ) → AreRising low ns high → high ≤ more → AreRising low ns more
+rises_up low [] high more rising up = omega (arith, rising, up)
+rises_up low (n ∷ ns) high more rising up = (rising.0, rises_up n ns high more rising.1 up)
 
 -- with a further one the numbers rise too
 pub rises_on : (s : NumberedState LiveCcb) (greatest active : ℕ) (c : LiveCcb) → IsListed s greatest active → c.ccb.number.0 ≡ greatest + 1 → AreRising 0 (s.numbers ++ c.ccb.number.0 ∷ []) c.ccb.number.0

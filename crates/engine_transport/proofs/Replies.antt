@@ -39,7 +39,7 @@ use Rattle.engine_transport.proofs.Kept.{openings_at}
 use Rattle.engine_transport.proofs.Steps.{Dispatched, as_active}
 
 -- a queue counts its live CCBs
-crowd_is : (list : ListState) (queues : List QueueState) (queue : ℕ) → KeepsTable list queues → queue < length queues → live (queue_at queues queue) ≡ live_count queue list.live
+pub crowd_is : (list : ListState) (queues : List QueueState) (queue : ℕ) → KeepsTable list queues → queue < length queues → live (queue_at queues queue) ≡ live_count queue list.live
 crowd_is list queues queue h known = ap live (h.told queue known) ∙ live_is queue (queue_at queues queue).openings list.live
 
 pub submit_limit : (setup : Setup) (world : World) (queue priority retries : ℕ) → queue < queue_count setup → ccb_meets_limit queue world ≡ true → step_call setup world (Submit (record { 0 = queue }) priority retries) ≡ Some (refused Limit, world)
@@ -164,7 +164,7 @@ known_to : (setup : Setup) (queues : List QueueState) (queue : ℕ) → queue < 
 known_to setup queues queue known count = omega (arith, known, count, length-map queues (λ (q : QueueState). q.openings))
 
 -- a queue that takes no further CCB has 256 live ones
-crowded_by : (state : QueueState) (f : QueueFault) → insert_fault state ≡ Some f → (nat_le 256 (live state) ≡ true) × (f ≡ fault.Full)
+pub crowded_by : (state : QueueState) (f : QueueFault) → insert_fault state ≡ Some f → (nat_le 256 (live state) ≡ true) × (f ≡ fault.Full)
 crowded_by state f e =
     elim (cases_Bool (nat_le 256 (live state))) [
       | inl crowded ↦

@@ -66,7 +66,7 @@ module _ (ledger : LedgerState) (clock : ℕ) where
     pub kept : KeepsTable list queues
     pub seen_is : seen list queues ledger clock ≡ state
 
-  seen_set : (list : ListState) (queues : List QueueState) (queue : ℕ) (new : QueueState) → new.openings ≡ (queue_at queues queue).openings → seen list (set queues queue new) ledger clock ≡ seen list queues ledger clock
+  pub seen_set : (list : ListState) (queues : List QueueState) (queue : ℕ) (new : QueueState) → new.openings ≡ (queue_at queues queue).openings → seen list (set queues queue new) ledger clock ≡ seen list queues ledger clock
   seen_set list queues queue new e = λ i. record (seen list queues ledger clock) { openings = openings_set queues queue new e i }
 
   -- said of what equals the list, the queues and the number of the queue

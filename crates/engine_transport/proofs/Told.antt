@@ -44,14 +44,14 @@ gone kind queue ccbs high number x rising found was was_is =
     let before : one_if (on kind queue x) ≡ one_if was = ap one_if was_is in
     omega (arith, both, before)
 
-entered : (kind : CcbState → Bool) (queue : ℕ) (ccbs : List LiveCcb) (c : LiveCcb) (now : Bool) → on kind queue c ≡ now → count_by (on kind queue) (ccbs ++ c ∷ []) ≡ count_by (on kind queue) ccbs + one_if now
+pub entered : (kind : CcbState → Bool) (queue : ℕ) (ccbs : List LiveCcb) (c : LiveCcb) (now : Bool) → on kind queue c ≡ now → count_by (on kind queue) (ccbs ++ c ∷ []) ≡ count_by (on kind queue) ccbs + one_if now
 entered kind queue ccbs c now now_is =
     let both = sum_by_push (λ (y : LiveCcb). cond (on kind queue y) 1 0) ccbs c in
     let after : one_if (on kind queue c) ≡ one_if now = ap one_if now_is in
     omega (arith, both, after)
 
 -- two queues with the same parts are one
-same_queue : (a b : QueueState) → a.waiting ≡ b.waiting → a.active ≡ b.active → a.recovering ≡ b.recovering → a.openings ≡ b.openings → a ≡ b
+pub same_queue : (a b : QueueState) → a.waiting ≡ b.waiting → a.active ≡ b.active → a.recovering ≡ b.recovering → a.openings ≡ b.openings → a ≡ b
 same_queue a b w k r o = λ i. record { waiting = w i; active = k i; recovering = r i; openings = o i }
 
 -- each CCB of the queue is in one state

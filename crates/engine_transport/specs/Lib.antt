@@ -3,3 +3,4 @@ pub mod Queues
 pub mod Refusals
 pub mod Invariant
 pub mod Freezing
+pub mod Carrying

@@ -1,7 +1,7 @@
 // The live CCBs in the order of their numbers, for which room is taken once. It relies on `live_ccb` for what an entry is,
 // and on `cam_numbered_slots` for where it stands.
 
-ghost use Rattle.std.specs.Prelude.{◌≡◌, ◌+◌, ◌<◌, ◌≤◌, ◌++◌, [], ◌∷◌, ◌==◌, ℕ, not, length, filter, slice_index_or, ◌↔◌, IfOk, IfSome, IfNone, IsSome, None, Some, if◌then◌else◌};
+ghost use Rattle.std.specs.Prelude.{◌≡◌, ◌+◌, ◌<◌, ◌≤◌, ◌++◌, [], ◌∷◌, ◌==◌, ℕ, nat_le, not, length, filter, slice_index_or, ◌↔◌, IfOk, IfSome, IfNone, IsSome, None, Some, if◌then◌else◌};
 ghost use Rattle.world.specs.Capacities.{most_ccbs};
 ghost use Rattle.world.specs.World.{LiveCcb as WorldCcb};
 ghost use Rattle.world.specs.Lookups.{ccb_of, with_ccb};
@@ -66,6 +66,13 @@ impl CcbList {
         self.ccbs.len() >= MAX_CCBS || self.greatest == u32::MAX
     }
 
+    /// Whether as many CCBs are live as may be.
+    pub(crate) fn is_crowded(&self) -> bool
+        ensures { result ≡ nat_le most_ccbs (length self.now.live) }
+    {
+        self.ccbs.len() >= MAX_CCBS
+    }
+
     /// The greatest number that was given, 0 before the first.
     pub(crate) fn greatest(&self) -> u32
         ensures { result ≡ self.now.greatest }
@@ -118,6 +125,14 @@ impl CcbList {
         self.greatest = live.number().0;
         self.active = moved(self.active, false, live.is_active());
         self.ccbs.push(live.number().0, live);
+    }
+
+    /// The numbers up to this one, which is at least the greatest given, are given no more.
+    pub(crate) fn pass_over(&mut self, number: u32)
+        requires { self.old.greatest ≤ number }
+        ensures { self.new ≡ record self.old { greatest = number } }
+    {
+        self.greatest = number;
     }
 
     /// Puts a CCB in the place of the one of its number, which stands there.

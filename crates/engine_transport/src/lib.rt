@@ -3,6 +3,7 @@
 // freezes, and on `timer_events` for those that a clock reading lets go.
 #![tactic(auto)]
 
+mod beginning;
 mod ccb_list;
 mod live_ccb;
 mod queue_list;

@@ -4,10 +4,12 @@ ghost use Rattle.std.specs.Prelude.{◌≡◌};
 ghost use Rattle.ccb.specs.Ccb.{started, requeued};
 ghost use Rattle.world.specs.declared.ccb_state.CcbState.TheVariants.{Active, Waiting};
 ghost use Rattle.world.specs.Lookups.{is_active};
+ghost use Rattle.engine_transport.specs.Carrying.{carried_of};
 
 use ccb::{Ccb, CcbId};
 use std::marker::Model;
 use world::CcbState;
+use world_calls::CarriedCcb;
 
 /// A CCB that is not finished, with its state: it waits, is active, or is in recovery. Contracts see the world's
 /// `LiveCcb`.
@@ -32,6 +34,25 @@ impl LiveCcb {
     pub(crate) fn new(ccb: Ccb, state: CcbState) -> Self
         ensures { result ≡ record { ccb = ccb; state = state } }
     {
+        LiveCcb { ccb, state }
+    }
+
+    /// A CCB that is taken over.
+    pub(crate) fn carried(carried: &CarriedCcb) -> Self
+        ensures { result ≡ carried_of carried.now }
+    {
+        let mut ccb = Ccb::new(
+            carried.number,
+            carried.queue,
+            carried.priority,
+            carried.retries,
+        );
+        ccb.attempts = carried.attempts;
+        let state = if carried.is_active {
+            CcbState::Active
+        } else {
+            CcbState::Waiting
+        };
         LiveCcb { ccb, state }
     }
 

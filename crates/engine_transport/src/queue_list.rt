@@ -5,6 +5,7 @@ ghost use Rattle.std.specs.Result.{result_err};
 ghost use Rattle.dev_queue.specs.Waiting.{IsLeastNumber, waits};
 ghost use Rattle.dev_queue.specs.State.{empty_queue, live, with_waiting, with_started, with_stopped, with_left};
 ghost use Rattle.dev_queue.specs.Faults.{insert_fault, start_fault};
+ghost use Rattle.engine_transport.specs.Carrying.{with_carried};
 ghost use Rattle.engine_transport.specs.Queues.{queue_at, with_gone};
 ghost use Rattle.engine_transport.specs.Refusals.{refusal_of};
 
@@ -12,7 +13,7 @@ use ccb::{CcbId, QueueId};
 use dev_queue::{DevQueue, Frozen, QueueFault};
 use std::alloc::{AllocError, Global};
 use std::marker::Model;
-use world_calls::CallRefusal;
+use world_calls::{CallRefusal, CarriedCcb};
 
 /// How often a queue is frozen, and its controller.
 #[derive(Drop)]
@@ -110,6 +111,23 @@ impl QueueList {
         ensures refused { OnErr result (self.new ≡ self.old) }
     {
         self.queues[queue.0 as usize].insert(number, priority)
+    }
+
+    /// One CCB more, which is taken over: it waits, or is active. Q1, which changes nothing, exactly where 256 CCBs of the queue are
+    /// live.
+    pub(crate) fn carry(&mut self, carried: &CarriedCcb) -> Result<(), QueueFault>
+        requires known { carried.now.queue.0 < length self.old }
+        requires new { waits carried.now.number (queue_at self.old carried.now.queue.0).waiting ≡ false }
+        ensures fault { result_err result ≡ insert_fault (queue_at self.old carried.now.queue.0) }
+        ensures carried { OnOk result (self.new ≡ slice_set self.old carried.now.queue.0 (with_carried carried.now (queue_at self.old carried.now.queue.0))) }
+        ensures refused { OnErr result (self.new ≡ self.old) }
+    {
+        let queue = &mut self.queues[carried.queue.0 as usize];
+        if carried.is_active {
+            queue.insert_active()
+        } else {
+            queue.insert(carried.number, carried.priority)
+        }
     }
 
     /// Starts the waiting CCB of the queue that is least, where the queue and its controller are frozen so many times.

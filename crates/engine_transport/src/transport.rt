@@ -46,10 +46,10 @@ const LAST_READING: u64 = 4_611_686_018_427_387_904;
 /// and the clock. Contracts see the world's transport.
 #[derive(Drop)]
 pub struct Transport {
-    ccbs: CcbList,
-    queues: QueueList,
-    ledger: Ledger,
-    clock: u64,
+    pub(crate) ccbs: CcbList,
+    pub(crate) queues: QueueList,
+    pub(crate) ledger: Ledger,
+    pub(crate) clock: u64,
 }
 
 impl Model for Transport {
@@ -287,8 +287,8 @@ impl Transport {
         self.ledger.len() as u32
     }
 
-    // Whether there is such a place: a queue, or one of so many controllers.
-    fn has_place(&self, place: Place, controllers: u32) -> bool
+    /// Whether there is such a place: a queue, or one of so many controllers.
+    pub fn has_place(&self, place: Place, controllers: u32) -> bool
         requires { controllers ≤ most_controllers }
         ensures known { (setup : Setup) → queue_count setup ≡ length self.now.openings → setup.controllers ≡ controllers → result ≡ not (is_unknown setup place) }
         ensures within { IsTrue result → index_of place < places_of (length self.now.openings) most_controllers }

@@ -36,7 +36,7 @@ begins_each words (suc seat) v at = absurd (some-ne-none v (sym at))
 pub begins : (words : List ℕ) → Kept words (opening ∷ [])
 begins words = record {
   whole = unnamed;
-  sums = record { sums = (opening_world no_setup, refl, refl) };
+  sums = record { sums = (opening_world no_setup, (tt, refl), refl) };
   numbered = All-nil (λ (p : Pair). p.caller ≤ 0);
   each = begins_each words;
 }

@@ -1,4 +1,5 @@
 pub mod Holding
+pub mod Begun
 pub mod Recording
 pub mod OneMore
 pub mod Parking

@@ -20,7 +20,8 @@ use Rattle.world_calls.specs.declared.call_answer.CallAnswer.TheVariants as answ
 use Rattle.world_calls.specs.declared.record.StoppedAt.{StoppedAt}
 use Rattle.world_calls.specs.declared.record.Record.{Record}
 use Rattle.world_calls.specs.declared.record.Record.TheVariants.{Called, Advance}
-use Rattle.world.specs.World.{Setup, LiveRun, Transport, World, opening}
+use Rattle.world.specs.World.{Setup, LiveRun, Transport, World, beginning, opening}
+use Rattle.world.specs.Beginning.{Begins, IsBeginning}
 use Rattle.world.specs.Lawful.{IsLawful}
 use Rattle.world.specs.Lookups.{run_of}
 use Rattle.world.specs.CcbSteps.{is_completion}
@@ -45,7 +46,9 @@ use Rattle.engine_core.specs.Looking.{AsksNext, StopsNext, asked_at, first_out}
 use Rattle.engine_core.specs.Performing.{Performs}
 use Rattle.engine_core.specs.RunState.{IsAgain, IsStopped, RunState, StoppedState, before_stop}
 use Rattle.engine_core.specs.TakingOver.{LeadsTo}
-use Rattle.engine_core.specs.ByNumber.{AreTokens, IsAdvanceOf, NumberedState, IsBehind, RecordFollows, CannotFollow, KeepsNumbered, answer_told, guests_of}
+use Rattle.engine_core.specs.ByNumber.{AreTokens, IsAdvanceOf, NumberedState, IsBehind, RecordFollows, CannotFollow, KeepsNumbered, answer_told, guests_of, opened_numbered}
+use Rattle.engine_core.proofs.Begun.{begun_alone, keeps_begun, keeps_opened, same}
+use Rattle.engine_core.specs.Settings.{setup_over}
 use Rattle.engine_core.proofs.Recording.{flat_push, world_is, goes, kept_sound}
 use Rattle.engine_core.proofs.Holding.{run_changed}
 use Rattle.engine_core.proofs.Parking.{parks_run, with_out_run}
@@ -59,9 +62,33 @@ pub behind_kept : (setup : Setup) (records : List Record) (transport : Transport
 behind_kept setup records transport runs kept = record { world = _; leads = kept.run.run; is = refl }
 
 -- nothing is behind an engine that was opened
-pub keeps_opening : (setup : Setup) (transport : Transport) (runs : RunsState) (tokens : List Freeze) → IsLawful setup → transport ≡ (opening setup).transport → runs ≡ no_runs setup.limits.table_lengths → tokens ≡ [] → KeepsNumbered setup transport runs tokens
-keeps_opening setup transport runs tokens lawful first second none =
-    rw (first, second, none) (([], record { run = record { lawful = lawful; run = refl }; tokens = refl }), refl)
+pub keeps_opening : (config : Setup) (over : Option World) (transport : Transport) (runs : RunsState) (tokens : List Freeze) → IsLawful config → Begins config → config.carried ≡ None → over ≡ None
+    → transport ≡ (opening config).transport → runs ≡ no_runs config.limits.table_lengths → tokens ≡ [] → KeepsNumbered (setup_over config over) transport runs tokens
+keeps_opening config over transport runs tokens lawful begins alone nothing first second none =
+    (([], keeps_opened config over transport runs lawful begins alone nothing first second), none ∙ ap (λ (t : Transport). guests_of t.freezes) (sym first))
+
+-- and what contracts see of it
+abbrev numbered_in : Setup → World → NumberedState
+numbered_in setup world = record { setup = setup; transport = world.transport; runs = world.runs }
+
+pub seen_opening : (config : Setup) (over : Option World) (transport : Transport) (runs : RunsState) → config.carried ≡ None → over ≡ None
+    → transport ≡ (opening config).transport → runs ≡ no_runs config.limits.table_lengths → state_of (setup_over config over) transport runs ≡ opened_numbered config
+seen_opening config over transport runs alone nothing first second =
+    ap (λ (s : Setup). state_of s transport runs) (same config over alone nothing) ∙ ap (numbered_in config) (begun_alone config transport runs alone first second)
+
+-- the same of an engine that takes over what these parts say
+pub keeps_beginning : (config : Setup) (over : Option World) (transport : Transport) (runs : RunsState) (tokens : List Freeze) → IsLawful config
+    → IsBeginning config (record { transport = transport; runs = runs.runs; ended = [] }) → runs.tokens ≡ [] → over ≡ Some (record { transport = transport; runs = runs.runs; ended = [] })
+    → tokens ≡ guests_of transport.freezes → KeepsNumbered (setup_over config over) transport runs tokens
+keeps_beginning config over transport runs tokens lawful begins none is all = (([], keeps_begun config over transport runs lawful begins none is), all)
+
+pub seen_beginning : (config : Setup) (over : Option World) (transport : Transport) (runs : RunsState) → over ≡ Some (record { transport = transport; runs = runs.runs; ended = [] })
+    → state_of (setup_over config over) transport runs ≡ opened_numbered (setup_over config (Some (record { transport = transport; runs = runs.runs; ended = [] })))
+seen_beginning config over transport runs is = ap (λ (o : Option World). state_of (setup_over config o) transport runs) is
+
+-- no record is behind an engine that begins
+pub behind_begun : (setup : Setup) → Begins setup → IsBehind [] (opened_numbered setup)
+behind_begun setup begins = record { world = beginning setup; leads = (begins, refl); is = refl }
 
 -- whatever history is behind it, it is an engine of that
 pub kept_behind : (setup : Setup) (history records : List Record) (transport : Transport) (runs : RunsState) → KeepsEngine setup history transport runs → IsBehind records (state_of setup transport runs) → KeepsEngine setup records transport runs
@@ -109,8 +136,8 @@ IsIn state world = world ≡ record world { transport = state.transport; runs = 
 -- where no world of this state is led on by the record's events
 pub cannot : (state : NumberedState) (told : Record) → ((world after : World) → IsIn state world → Leads state.setup world (events_of told) after → ⊥) → CannotFollow state told
 cannot state told none = λ records behind history.
-    let parts = leads_split state.setup (opening state.setup) (flat records) (events_of told) history.0 (subst (λ xs. WorldRun state.setup xs history.0) (flat_push records told) history.1) in
-    let same : behind.world ≡ parts.0 = sym (world_after_leads state.setup (opening state.setup) (flat records) behind.world behind.leads) ∙ world_after_leads state.setup (opening state.setup) (flat records) parts.0 parts.1 in
+    let parts = leads_split state.setup (beginning state.setup) (flat records) (events_of told) history.0 (subst (λ xs. WorldRun state.setup xs history.0) (flat_push records told) history.1).1 in
+    let same : behind.world ≡ parts.0 = sym (world_after_leads state.setup (beginning state.setup) (flat records) behind.world behind.leads.1) ∙ world_after_leads state.setup (beginning state.setup) (flat records) parts.0 parts.1 in
     none behind.world history.0 behind.is (subst (λ (w : World). Leads state.setup w (events_of told) history.0) (sym same) parts.2)
 
 -- a call that is no event

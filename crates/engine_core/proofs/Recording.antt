@@ -4,7 +4,7 @@ use Rattle.std.proofs.lemmas.List.Concat.{flat_map-append}
 use Rattle.std.proofs.Common.{append-nil}
 use Rattle.engine_runs.specs.RunsState.{RunsState}
 use Rattle.world_calls.specs.declared.record.Record.{Record}
-use Rattle.world.specs.World.{Runs, Setup, Transport, World, queue_count, opening}
+use Rattle.world.specs.World.{Runs, Setup, Transport, World, beginning, queue_count}
 use Rattle.world.specs.Event.{Event, Reply}
 use Rattle.world.specs.WorldRun.{Leads, WorldRun}
 use Rattle.world.specs.Flat.{events_of, flat}
@@ -20,7 +20,7 @@ flat_push history r = flat_map-append events_of history (r ∷ []) ∙ ap (λ xs
 -- a world to which the history leads, and which has what the fields say, is the fields read as a world
 pub world_is : (setup : Setup) (history : List Record) (transport : Transport) (runs : Runs) (world : World) → WorldRun setup (flat history) world → world ≡ record world { transport = transport; runs = runs } → world_of setup history transport runs ≡ world
 world_is setup history transport runs world run fields =
-    ap (λ (w : World). record w { transport = transport; runs = runs }) (world_after_leads setup (opening setup) (flat history) world run) ∙ sym fields
+    ap (λ (w : World). record w { transport = transport; runs = runs }) (world_after_leads setup (beginning setup) (flat history) world run.1) ∙ sym fields
 
 -- an engine before a call and after it, with one record more
 pub record Goes (setup : Setup) (history later : List Record) (transport more : Transport) (runs after : RunsState) (r : Record) : Type 0 where
@@ -32,7 +32,7 @@ goes setup history later transport more runs after r kept is holds to =
     let before : World = world_of setup history transport runs.runs in
     let run : WorldRun setup (flat later) to.world =
     subst (λ (xs : List (Event × Reply)). WorldRun setup xs to.world) (sym (ap flat is ∙ flat_push history r))
-    (leads_append setup (opening setup) (flat history) (events_of r) before to.world kept.run.run to.leads) in
+    (kept.run.run.0, leads_append setup (beginning setup) (flat history) (events_of r) before to.world kept.run.run.1 to.leads) in
     let is_world : world_of setup later more after.runs ≡ to.world = world_is setup later more after.runs to.world run to.is in
     record {
       leads = subst (λ (w : World). Leads setup before (events_of r) w) (sym is_world) to.leads;

@@ -10,14 +10,14 @@ use Rattle.world_calls.specs.declared.record.StoppedAt.{StoppedAt}
 use Rattle.world_calls.specs.declared.record.Record.{Record}
 use Rattle.world_calls.specs.declared.record.Record.TheVariants.{Called, Advance}
 use Rattle.world_calls.specs.declared.totals.Totals.{Totals}
-use Rattle.world.specs.World.{Setup, Runs, Transport, World, opening}
+use Rattle.world.specs.World.{Setup, Runs, Transport, World, beginning}
 use Rattle.world.specs.Lookups.{is_active}
 use Rattle.world.specs.FreezeSteps.{is_guest}
 use Rattle.world.specs.WorldRun.{WorldRun}
 use Rattle.world.specs.Flat.{flat}
 use Rattle.engine_runs.specs.RunsState.{RunsState}
+use Rattle.engine_core.specs.EngineState.{EngineState, IsRun, world_of}
 use Rattle.engine_core.specs.Invariant.{KeepsEngine}
-use Rattle.engine_core.specs.TakingOver.{LeadsTo}
 
 -- its setup, and what it has of a world
 pub record NumberedState : Type 0 where
@@ -26,7 +26,7 @@ pub record NumberedState : Type 0 where
   pub runs : Runs
 
 abbrev pub opened_numbered : Setup → NumberedState
-opened_numbered setup = record { setup = setup; transport = (opening setup).transport; runs = (opening setup).runs }
+opened_numbered setup = record { setup = setup; transport = (beginning setup).transport; runs = (beginning setup).runs }
 
 -- the freezes of guests, in the order of their numbers
 abbrev pub guests_of : List Freeze → List Freeze
@@ -36,13 +36,23 @@ guests_of freezes = filter (λ freeze. is_guest freeze.holder) freezes
 abbrev pub KeepsNumbered : Setup → Transport → RunsState → List Freeze → Type 0
 KeepsNumbered setup transport runs tokens = ((history : List Record) × KeepsEngine setup history transport runs) × (tokens ≡ guests_of transport.freezes)
 
--- the records lead from the opening of the setup to a world
+-- the records lead from the beginning of the setup to a world
 abbrev pub IsHistory : Setup → List Record → Type 0
 IsHistory setup records = (world : World) × WorldRun setup (flat records) world
 
 -- the records lead to a world of which this engine has the transport and the runs
-abbrev pub IsBehind : List Record → NumberedState → Type 0
-IsBehind records state = LeadsTo state.setup (opening state.setup) (flat records) state.transport state.runs
+pub record IsBehind (records : List Record) (state : NumberedState) : Type 0 where
+  pub world : World
+  pub leads : WorldRun state.setup (flat records) world
+  pub is : world ≡ record world { transport = state.transport; runs = state.runs }
+
+-- the engine that keeps its history, if that is this one
+abbrev pub engine_of : NumberedState → List Record → EngineState
+engine_of state history = record { setup = state.setup; history = history; taken = 0; world = world_of state.setup history state.transport state.runs }
+
+-- with some history it is the run of that
+abbrev pub HasHistory : NumberedState → Type 0
+HasHistory state = (history : List Record) × IsRun (engine_of state history)
 
 -- one record more is behind it
 abbrev pub RecordFollows : NumberedState → Record → NumberedState → Type 0

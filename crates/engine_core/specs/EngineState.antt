@@ -3,7 +3,7 @@
 use Rattle.std.specs.Prelude.{◌≡◌, ℕ, true, List, [], ◌∷◌, ◌++◌, Contains}
 use Rattle.freeze_ledger.specs.declared.freeze.Freeze.{Freeze}
 use Rattle.world_calls.specs.declared.record.Record.{Record}
-use Rattle.world.specs.World.{Setup, Runs, Transport, World, opening}
+use Rattle.world.specs.World.{Setup, Runs, Transport, World, beginning, opening}
 use Rattle.world.specs.Lawful.{IsLawful}
 use Rattle.world.specs.FreezeSteps.{is_guest}
 use Rattle.world.specs.WorldRun.{Leads, WorldRun, world_after}
@@ -21,9 +21,10 @@ abbrev pub world_of : Setup → List Record → Transport → Runs → World
 world_of setup history transport runs = record {
   transport = transport;
   runs = runs;
-  ended = (world_after setup (opening setup) (flat history)).ended;
+  ended = (world_after setup (beginning setup) (flat history)).ended;
 }
 
+-- of an engine that follows no other
 abbrev pub opened : Setup → EngineState
 opened setup = record { setup = setup; history = []; taken = 0; world = opening setup }
 

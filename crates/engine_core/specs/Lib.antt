@@ -18,5 +18,6 @@ pub mod Replies
 pub mod Performing
 pub mod ByNumber
 pub mod Looking
+pub mod Settings
 pub mod Stepping
 pub mod Driving

@@ -15,9 +15,9 @@ ghost use Rattle.engine_core.specs.Replies.{ccb_reply, completed_answer, complet
 
 use crate::answers::CompleteAnswer;
 use crate::completion_action::{CompletionAction, decide, recover};
+use crate::setting::Setting;
 use crate::told::{ccb_told, refused};
 use ccb::{CallRefusal, CcbId, Completion, QueueId};
-use engine_config::Config;
 use engine_runs::Runs;
 use engine_transport::Transport;
 use std::alloc::{AllocError, Global};
@@ -49,14 +49,14 @@ pub(crate) fn submit(
 /// The least CCB that waits is active, or the first refusal of a dispatch that holds.
 #[inline(always)]
 pub(crate) fn dispatch(
-    config: &Config,
+    setting: &Setting<'_>,
     transport: &mut Transport,
     queue: QueueId,
 ) -> (Result<CcbId, CallRefusal>, Record)
     ensures told { result.1 ≡ Called (ccb_answer result.0) (calls.Dispatch queue) }
-    ensures performs { (runs : RunsState) → Performs config.now (Dispatch queue) transport.old runs transport.new runs (ccb_reply result.0) result.1 }
+    ensures performs { (runs : RunsState) → Performs setting.now (Dispatch queue) transport.old runs transport.new runs (ccb_reply result.0) result.1 }
 {
-    let answer = transport.dispatch(queue, config.controller(queue));
+    let answer = transport.dispatch(queue, setting.controller(queue));
     let told = ccb_told(answer, Call::Dispatch { queue });
     (answer, told)
 }
@@ -65,14 +65,14 @@ pub(crate) fn dispatch(
 #[inline(always)]
 pub(crate) fn complete(
     alloc: Global,
-    config: &Config,
+    setting: &Setting<'_>,
     transport: &mut Transport,
     runs: &mut Runs,
     completion: &Completion,
 ) -> Result<(Result<CompleteAnswer, CallRefusal>, Record), AllocError>
-    requires { (history : List TheRecord) × KeepsEngine config.now history transport.old runs.old }
+    requires { (history : List TheRecord) × KeepsEngine setting.now history transport.old runs.old }
     ensures told { IfOk result (λ it. it.1 ≡ Called (completed_answer it.0) (calls.Complete completion.now)) }
-    ensures performs { IfOk result (λ it. Performs config.now (Complete completion.entry) transport.old runs.old transport.new runs.new (completed_reply it.0) it.1) }
+    ensures performs { IfOk result (λ it. Performs setting.now (Complete completion.entry) transport.old runs.old transport.new runs.new (completed_reply it.0) it.1) }
     ensures refused { OnErr result ((transport.new ≡ transport.old) × (runs.new ≡ runs.old)) }
 {
     let course = decide(transport, runs, completion);
@@ -86,7 +86,7 @@ pub(crate) fn complete(
             Ok((Ok(CompleteAnswer::Done), Record::Called { answer, call }))
         }
         CompletionAction::Recover(place, ccb) => {
-            let (run, freeze) = recover(config, transport, runs, place, ccb, completion)?;
+            let (run, freeze) = recover(setting, transport, runs, place, ccb, completion)?;
             let answer = CallAnswer::Started {
                 run: run.number(),
                 freeze,

@@ -1,5 +1,5 @@
 // What a completion asks for, and how a run starts. It relies on `engine_transport` for CCBs and
-// freezes, on `engine_runs` for runs, and on `config` for the program of a queue.
+// freezes, on `engine_runs` for runs, and on `setting` for the program of a queue.
 
 ghost use Rattle.std.specs.Prelude.{◌≡◌, ◌<◌, false, List, IfOk, OnErr};
 ghost use Rattle.world_calls.specs.declared.record.Record.{Record as TheRecord};
@@ -16,8 +16,8 @@ ghost use Rattle.engine_core.specs.Invariant.{HoldEntries, KeepsEngine};
 ghost use Rattle.engine_core.specs.RunState.{IsOutUnder};
 
 use crate::run::Run;
+use crate::setting::Setting;
 use ccb::{CamStatus, Ccb, Completion};
-use engine_config::Config;
 use engine_runs::Runs;
 use engine_transport::Transport;
 use std::alloc::AllocError;
@@ -77,27 +77,27 @@ pub(crate) fn decide(
 /// and the number of its freeze, or 0 where that met a limit. Where memory is refused nothing changes.
 #[inline(always)]
 pub(crate) fn recover(
-    config: &Config,
+    setting: &Setting<'_>,
     transport: &mut Transport,
     runs: &mut Runs,
     place: usize,
     ccb: Ccb,
     completion: &Completion,
 ) -> Result<(Run, u32), AllocError>
-    requires kept { (history : List TheRecord) × KeepsEngine config.now history transport.old runs.old }
-    requires known { ccb.queue.0 < queue_count config.now }
+    requires kept { (history : List TheRecord) × KeepsEngine setting.now history transport.old runs.old }
+    requires known { ccb.queue.0 < queue_count setting.now }
     requires active { (world : World) → IsActive (record world { transport = transport.old }) completion.now ccb }
     requires there { IsPlaceOf completion.now.ccb.0 transport.old.live place }
     requires room { (world : World) → run_meets_limit (record world { runs = runs.old.runs }) ≡ false }
     ensures step { IfOk result (λ started. (world : World) →
-        recovers config.now (record world { transport = transport.old; runs = runs.old.runs }) ccb completion.now
+        recovers setting.now (record world { transport = transport.old; runs = runs.old.runs }) ccb completion.now
         ≡ (replies (answers.Started started.0.number started.1), record world { transport = transport.new; runs = runs.new.runs })) }
-    ensures out { IfOk result (λ started. (world : World) → IsOutUnder config.now (record world { runs = runs.new.runs }) started.0) }
+    ensures out { IfOk result (λ started. (world : World) → IsOutUnder setting.now (record world { runs = runs.new.runs }) started.0) }
     ensures tokens { IfOk result (λ _. HoldEntries transport.new.freezes runs.new) }
     ensures refused { OnErr result ((transport.new ≡ transport.old) × (runs.new ≡ runs.old)) }
 {
     let queue = ccb.queue;
-    let program = config.program(queue);
+    let program = setting.program(queue);
     let recorded = Arc::try_clone(program)?;
     let handed = Arc::try_clone(program)?;
     let kept = runs.place_for_run()?;
@@ -106,7 +106,7 @@ pub(crate) fn recover(
     let (ccb, token) = transport.fail(place, ccb, completion, runs.next_number());
     let started = runs.start(
         &ccb,
-        config.controller(queue),
+        setting.controller(queue),
         recorded,
         token,
         kept,

@@ -13,6 +13,7 @@ use crate::answers::AdvanceFault;
 use crate::engine::{Engine, ROOM};
 use crate::run::Run;
 use crate::run_events::{Progress, go_on_here};
+use crate::setting::Setting;
 use std::alloc::AllocError;
 
 /// A run that did not come to its exit.
@@ -97,7 +98,10 @@ impl Engine {
         let alloc = *self.history.allocator();
         let (progress, told) = go_on_here(
             alloc,
-            &self.config,
+            &Setting {
+                config: &self.config,
+                over: &self.over,
+            },
             &mut self.parts.transport,
             &mut self.parts.runs,
             place,

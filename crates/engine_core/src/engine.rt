@@ -1,12 +1,13 @@
 // The engine: its configuration, its parts and its history. It relies on `parts` for CCBs, freezes and runs, and on `world` for what is
 // recorded.
 
-ghost use Rattle.std.specs.Prelude.{◌≡◌, ◌↔◌, IsTrue, ◌+◌, ◌≤◌, ◌++◌, ◌∷◌, [], drop, length, false, IsNone, IfSome, IfOk, IfErr};
+ghost use Rattle.std.specs.Prelude.{◌≡◌, ◌↔◌, IsTrue, ◌+◌, ◌≤◌, ◌++◌, ◌∷◌, [], drop, length, false, IsNone, IfSome, IfOk, IfErr, None};
 ghost use Rattle.engine_config.specs.Configured.{AreProgramsOf};
 ghost use Rattle.freeze_ledger.specs.Deadlines.{some_timer};
 ghost use Rattle.engine_transport.specs.Freezing.{IsNextDue};
 ghost use Rattle.engine_runs.specs.Admits.{IsOutWith};
 ghost use Rattle.engine_runs.specs.RunsState.{no_runs};
+ghost use Rattle.world.specs.Beginning.{Begins};
 ghost use Rattle.world.specs.World.{opening, version_of};
 ghost use Rattle.world.specs.Lawful.{IsLawful};
 ghost use Rattle.world.specs.TotalsOf.{TotalsOf, totals_in};
@@ -21,6 +22,7 @@ use ccb::QueueId;
 use engine_config::Config;
 use engine_history::EngineHistory;
 use engine_runs::{MAX_RUNS, Runs};
+use engine_taken_over::TakenOver;
 use engine_transport::Transport;
 use interpreter::Segment;
 use std::alloc::{AllocError, Global};
@@ -36,6 +38,7 @@ pub(crate) const ROOM: usize = 1 + MAX_RUNS;
 #[derive(Drop)]
 pub struct Engine {
     pub(crate) config: Config,
+    pub(crate) over: TakenOver,
     pub(crate) parts: Parts,
     pub(crate) history: EngineHistory,
 }
@@ -46,14 +49,15 @@ impl Model for Engine {
     ghost Value = { EngineState };
 
     ghost use Rattle.engine_core.specs.EngineState.{world_of};
+    ghost use Rattle.engine_core.specs.Settings.{setup_over};
     ghost use Rattle.engine_core.specs.Invariant.{KeepsEngine};
 
-    ghost view = { λ e. record { setup = e.config; history = e.history.records; taken = e.history.taken; world = world_of e.config e.history.records e.parts.transport e.parts.runs.runs } };
+    ghost view = { λ e. record { setup = setup_over e.config e.over.world; history = e.history.records; taken = e.history.taken; world = world_of (setup_over e.config e.over.world) e.history.records e.parts.transport e.parts.runs.runs } };
 
     ghost use Rattle.std.specs.Prelude.{length};
     ghost use Rattle.engine_core.specs.Invariant.{HistoryHasRoom};
 
-    ghost invariant = { λ e. KeepsEngine e.config e.history.records e.parts.transport e.parts.runs × HistoryHasRoom (length e.history.records) e.history.capacity e.parts.runs.runs.list };
+    ghost invariant = { λ e. KeepsEngine (setup_over e.config e.over.world) e.history.records e.parts.transport e.parts.runs × HistoryHasRoom (length e.history.records) e.history.capacity e.parts.runs.runs.list };
 }
 
 /// The queues and tables of the configuration, with no CCB, no freeze and no run.
@@ -61,6 +65,8 @@ pub(crate) fn rooms(alloc: Global, config: &Config) -> Result<Parts, AllocError>
     ensures transport { IfOk result (λ parts. parts.transport ≡ (opening config.now).transport) }
     ensures runs { IfOk result (λ parts. parts.runs ≡ no_runs config.now.limits.table_lengths) }
     ensures lawful { IsLawful config.now }
+    ensures alone { config.now.carried ≡ None }
+    ensures begins { Begins config.now }
 {
     let mut openings = Vec::with_capacity(alloc, config.queues() as usize)?;
     for queue in 0..config.queues() {
@@ -76,6 +82,7 @@ impl Engine {
     /// An engine of unfrozen queues without CCBs and with an empty history. It takes room for all the CCBs, runs and
     /// freezes that there may be, so that later only the history grows. Where memory is refused the configuration
     /// comes back.
+    #[tactic(auto, using(crate::proofs::Begun::keeps_opened, crate::proofs::Begun::seen_opened))]
     pub fn open(alloc: Global, config: Config) -> Result<Self, (AllocError, Config)>
         ensures opened { IfOk result (λ engine. engine ≡ opened config) }
         ensures back { IfErr result (λ fault. fault.1 ≡ config) }
@@ -87,6 +94,7 @@ impl Engine {
         match rooms(alloc, &config) {
             Ok(parts) => Ok(Engine {
                 config,
+                over: TakenOver::none(),
                 parts,
                 history,
             }),
@@ -186,6 +194,7 @@ impl Engine {
         let totals = self.totals();
         let Engine {
             config: _,
+            over: _,
             parts: _,
             history,
         } = self;

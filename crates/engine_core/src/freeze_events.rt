@@ -14,9 +14,9 @@ ghost use Rattle.engine_core.specs.declared.reply.Reply.TheVariants.{Success};
 ghost use Rattle.engine_core.specs.Performing.{Performs};
 ghost use Rattle.engine_core.specs.Replies.{removed_reply, token_answer, token_reply};
 
+use crate::setting::Setting;
 use crate::told::{refused, removed_told};
 use ccb::{CallRefusal, Place};
-use engine_config::Config;
 use engine_transport::Transport;
 use freeze_ledger::FreezeToken;
 use world_calls::{Call, CallAnswer, Record};
@@ -24,16 +24,16 @@ use world_calls::{Call, CallAnswer, Record};
 /// A guest has a freeze more of the place, or C1, or C2.
 #[inline(always)]
 pub(crate) fn guest_freeze(
-    config: &Config,
+    setting: &Setting<'_>,
     transport: &mut Transport,
     place: Place,
     guest: u32,
 ) -> (Result<FreezeToken, CallRefusal>, Record)
     ensures told { result.1 ≡ Called (token_answer result.0) (calls.GuestFreeze place guest) }
-    ensures performs { (runs : RunsState) → Performs config.now (GuestFreeze place guest) transport.old runs transport.new runs (token_reply result.0) result.1 }
+    ensures performs { (runs : RunsState) → Performs setting.now (GuestFreeze place guest) transport.old runs transport.new runs (token_reply result.0) result.1 }
 {
     let call = Call::GuestFreeze { place, guest };
-    match transport.guest_freeze(place, config.controllers(), guest) {
+    match transport.guest_freeze(place, setting.controllers(), guest) {
         Ok(token) => {
             let answer = CallAnswer::Freeze(token.number());
             (Ok(token), Record::Called { answer, call })

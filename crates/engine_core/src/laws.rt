@@ -1,6 +1,6 @@
 // The laws of the world, each the contract of a function without arguments. They rely on `world` alone.
 
-ghost use Rattle.world.specs.Limits.{LimitsAreKept, RunsKeepLimits};
+ghost use Rattle.world.specs.Laws.LimitLaws.{LimitsAreKept, RunsKeepLimits};
 ghost use Rattle.world.specs.Laws.FreezeLaws.{CountsAreEntries, HeldAreEntries};
 ghost use Rattle.world.specs.Laws.FreezeLaws.{GivenUpStaysGivenUp, GivenUpByRunStaysGivenUp, HandedOverStaysHandedOver, GoneStaysGone};
 ghost use Rattle.world.specs.Laws.CcbLaws.{EachIsLiveOrEnded, StartsKeepOpenings};

@@ -4,6 +4,7 @@
 #![tactic(auto)]
 
 mod answers;
+mod beginning;
 mod by_event;
 mod ccb_events;
 mod commit_segment;
@@ -23,6 +24,7 @@ mod run;
 mod run_events;
 mod run_info;
 mod segments;
+mod setting;
 mod stopped;
 mod told;
 

@@ -19,6 +19,7 @@ use crate::engine::{Engine, ROOM};
 use crate::freeze_events::{guest_freeze, guest_release, read_clock};
 use crate::run::Run;
 use crate::run_events::{advance, park, resume};
+use crate::setting::Setting;
 use crate::stopped::Stopped;
 use ccb::{CcbId, Completion, Place, QueueId};
 use freeze_ledger::FreezeToken;
@@ -57,7 +58,14 @@ impl Engine {
         if self.history.reserve(ROOM).is_err() {
             return Err(CallFault::OutOfMemory);
         }
-        let (answer, told) = dispatch(&self.config, &mut self.parts.transport, queue);
+        let (answer, told) = dispatch(
+            &Setting {
+                config: &self.config,
+                over: &self.over,
+            },
+            &mut self.parts.transport,
+            queue,
+        );
         self.history.push_reserved(told);
         given(answer)
     }
@@ -100,7 +108,10 @@ impl Engine {
         let alloc = *self.history.allocator();
         match complete(
             alloc,
-            &self.config,
+            &Setting {
+                config: &self.config,
+                over: &self.over,
+            },
             &mut self.parts.transport,
             &mut self.parts.runs,
             completion,
@@ -213,7 +224,14 @@ impl Engine {
         if self.history.reserve(ROOM).is_err() {
             return Err(CallFault::OutOfMemory);
         }
-        match resume(&self.config, &mut self.parts.runs, run) {
+        match resume(
+            &Setting {
+                config: &self.config,
+                over: &self.over,
+            },
+            &mut self.parts.runs,
+            run,
+        ) {
             Ok((answer, told)) => {
                 self.history.push_reserved(told);
                 given(answer)
@@ -260,7 +278,15 @@ impl Engine {
         if self.history.reserve(ROOM).is_err() {
             return Err(CallFault::OutOfMemory);
         }
-        let (answer, told) = guest_freeze(&self.config, &mut self.parts.transport, place, guest);
+        let (answer, told) = guest_freeze(
+            &Setting {
+                config: &self.config,
+                over: &self.over,
+            },
+            &mut self.parts.transport,
+            place,
+            guest,
+        );
         self.history.push_reserved(told);
         given(answer)
     }

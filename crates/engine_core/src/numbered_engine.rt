@@ -12,9 +12,11 @@ ghost use Rattle.world.specs.Lawful.{IsLawful};
 ghost use Rattle.world.specs.Lookups.{ccb_of, run_of};
 ghost use Rattle.world.specs.QueueInfo.{queue_info};
 ghost use Rattle.world.specs.Refusals.{is_unknown};
+ghost use Rattle.world.specs.Beginning.{Begins, IsBeginning};
 ghost use Rattle.world.specs.World.{World};
+ghost use Rattle.engine_core.specs.Settings.{setup_over};
 ghost use Rattle.engine_core.specs.Looking.{AsksNext, HasRunOut, IsRunTold, asked_at, first_out};
-ghost use Rattle.engine_core.specs.ByNumber.{Advances, AnswersCall, RecordFollows, guests_of, opened_numbered, sums_behind, takes_memory};
+ghost use Rattle.engine_core.specs.ByNumber.{Advances, AnswersCall, HasHistory, RecordFollows, guests_of, opened_numbered, sums_behind, takes_memory};
 
 use crate::ccb_events::{complete, dispatch, submit};
 use crate::engine::rooms;
@@ -23,12 +25,14 @@ use crate::guest_tokens::{GuestToken, has_token, take_token};
 use crate::parts::Parts;
 use crate::run_events::{go_on_here, resume, to_stop};
 use crate::run_info::RunInfo;
+use crate::setting::Setting;
 use crate::told::answer_in;
 use bpf_semantics::Stop;
 use ccb::{CcbId, Completion, Place, QueueId};
 use engine_config::Config;
 use engine_runs::Runs;
-use engine_transport::LiveCcb;
+use engine_taken_over::TakenOver;
+use engine_transport::{LiveCcb, Transport};
 use freeze_ledger::Holders;
 use helpers::Request;
 use std::alloc::{AllocError, Global};
@@ -41,6 +45,7 @@ use world_calls::{Call, CallAnswer, CompletionRecord, Record, Totals};
 #[derive(Drop)]
 pub struct NumberedEngine<'a> {
     config: &'a Config,
+    over: TakenOver,
     parts: Parts,
     // those of all guests' freezes, in the order of their numbers
     tokens: Vec<GuestToken>,
@@ -48,12 +53,13 @@ pub struct NumberedEngine<'a> {
 
 impl<'a> Model for NumberedEngine<'a> {
     ghost use Rattle.engine_core.specs.ByNumber.{NumberedState, KeepsNumbered};
+    ghost use Rattle.engine_core.specs.Settings.{setup_over};
 
     ghost Value = { NumberedState };
 
-    ghost view = { λ u. record { setup = u.config.now; transport = u.parts.transport; runs = u.parts.runs.runs } };
+    ghost view = { λ u. record { setup = setup_over u.config.now u.over.world; transport = u.parts.transport; runs = u.parts.runs.runs } };
 
-    ghost invariant = { λ u. KeepsNumbered u.config.now u.parts.transport u.parts.runs u.tokens.items };
+    ghost invariant = { λ u. KeepsNumbered (setup_over u.config.now u.over.world) u.parts.transport u.parts.runs u.tokens.items };
 }
 
 impl<'a> NumberedEngine<'a> {
@@ -61,12 +67,39 @@ impl<'a> NumberedEngine<'a> {
     pub fn open(alloc: Global, config: &'a Config) -> Result<Self, AllocError>
         ensures opened { IfOk result (λ engine. engine ≡ opened_numbered config.now) }
         ensures lawful { IsLawful config.now }
+        ensures begins { Begins config.now }
     {
         Ok(NumberedEngine {
             config,
+            over: TakenOver::none(),
             parts: rooms(alloc, config)?,
             tokens: Vec::new(alloc),
         })
+    }
+
+    /// An engine that begins with these parts, in which no run is live, and with the tokens of all guests' freezes in them, in the order
+    /// of their numbers.
+    #[tactic(auto, using(crate::proofs::Numbered::keeps_beginning, crate::proofs::Numbered::seen_beginning))]
+    pub fn begin(
+        config: &'a Config,
+        transport: Transport,
+        runs: Runs,
+        tokens: Vec<GuestToken>,
+    ) -> Self
+        requires beginning { IsBeginning config.now (record { transport = transport; runs = runs.runs; ended = [] }) }
+        requires none_held { runs.tokens ≡ [] }
+        requires tokens { tokens.items ≡ guests_of transport.freezes }
+        ensures { result ≡ opened_numbered (setup_over config.now (Some (record { transport = transport; runs = runs.runs; ended = [] }))) }
+    {
+        // It is called for what it says of the configuration.
+        let _ = config.queues();
+        let over = TakenOver::of(&transport, &runs);
+        NumberedEngine {
+            config,
+            over,
+            parts: Parts { transport, runs },
+            tokens,
+        }
     }
 
     /// Carries a call out, or refuses it: its answer. `None`, which changes nothing, exactly where the call is no event here: a
@@ -108,7 +141,14 @@ impl<'a> NumberedEngine<'a> {
         ensures answered { RecordFollows self.old (Called result (Dispatch queue)) self.new }
         ensures setup { self.new.setup ≡ self.old.setup }
     {
-        let (_, told) = dispatch(self.config, &mut self.parts.transport, queue);
+        let (_, told) = dispatch(
+            &Setting {
+                config: self.config,
+                over: &self.over,
+            },
+            &mut self.parts.transport,
+            queue,
+        );
         answer_in(told)
     }
 
@@ -142,7 +182,10 @@ impl<'a> NumberedEngine<'a> {
         let alloc = *self.tokens.allocator();
         let (answer, told) = complete(
             alloc,
-            self.config,
+            &Setting {
+                config: self.config,
+                over: &self.over,
+            },
             &mut self.parts.transport,
             &mut self.parts.runs,
             completion,
@@ -157,7 +200,14 @@ impl<'a> NumberedEngine<'a> {
         ensures setup { self.new.setup ≡ self.old.setup }
         ensures refused { OnErr result (self.new ≡ self.old) }
     {
-        let (answer, told) = resume(self.config, &mut self.parts.runs, run)?;
+        let (answer, told) = resume(
+            &Setting {
+                config: self.config,
+                over: &self.over,
+            },
+            &mut self.parts.runs,
+            run,
+        )?;
         self.parts.spend_again(answer);
         Ok(answer_in(told))
     }
@@ -217,12 +267,38 @@ impl<'a> NumberedEngine<'a> {
         let alloc = *self.tokens.allocator();
         let (_, told) = go_on_here(
             alloc,
-            self.config,
+            &Setting {
+                config: self.config,
+                over: &self.over,
+            },
             &mut self.parts.transport,
             &mut self.parts.runs,
             place,
         )?;
         Ok(Some(told))
+    }
+
+    /// What it was opened with.
+    pub fn config(&self) -> &Config
+        ensures { setup_over result.now self.now.setup.carried ≡ self.now.setup }
+    {
+        self.config
+    }
+
+    /// Its CCBs, queues, freezes and clock.
+    pub fn transport(&self) -> &Transport
+        ensures value { result.now ≡ self.now.transport }
+        ensures run { HasHistory self.now }
+    {
+        &self.parts.transport
+    }
+
+    /// Its runs and tables.
+    pub fn runs(&self) -> &Runs
+        ensures value { result.now.runs ≡ self.now.runs }
+        ensures run { HasHistory self.now }
+    {
+        &self.parts.runs
     }
 
     /// What the clock read last, in milliseconds, 0 before the first reading.
@@ -287,7 +363,15 @@ impl<'a> NumberedEngine<'a> {
             return Ok(None);
         };
         let mut to = self.parts.runs.place_for_machine()?;
-        let (_, stop) = to_stop(self.config, &self.parts.runs, place, &mut to);
+        let (_, stop) = to_stop(
+            &Setting {
+                config: self.config,
+                over: &self.over,
+            },
+            &self.parts.runs,
+            place,
+            &mut to,
+        );
         self.parts.runs.keep_place(to);
         Ok(request_of(stop))
     }

@@ -23,11 +23,11 @@ ghost use Rattle.engine_core.specs.Stepping.{IsOutAt, IsStep, StopsAt};
 use crate::answers::AdvanceAnswer;
 use crate::commit_segment::{recorded, take_over};
 use crate::run::Run;
+use crate::setting::Setting;
 use crate::stopped::Stopped;
 use crate::told::refused;
 use bpf_machine::Machine;
 use bpf_semantics::Stop;
-use engine_config::Config;
 use engine_runs::Runs;
 use engine_transport::Transport;
 use interpreter::{go_to_stop, stop_of};
@@ -78,13 +78,18 @@ pub(crate) struct Progress {
 /// Executes what the run at this place does by itself, in that machine: how many instructions there are, with that of its next stop,
 /// and the stop.
 #[inline(always)]
-pub(crate) fn to_stop(config: &Config, runs: &Runs, place: usize, to: &mut Machine) -> (u32, Stop)
-    requires of { (transport : TheTransport) × (history : List TheRecord) × KeepsEngine config.now history transport runs.now }
+pub(crate) fn to_stop(
+    setting: &Setting<'_>,
+    runs: &Runs,
+    place: usize,
+    to: &mut Machine,
+) -> (u32, Stop)
+    requires of { (transport : TheTransport) × (history : List TheRecord) × KeepsEngine setting.now history transport runs.now }
     requires out { IsOutAt runs.now.runs.list place }
-    ensures { StopsAt config.now runs.now.runs.list place to.new result.0 result.1 }
+    ensures { StopsAt setting.now runs.now.runs.list place to.new result.0 result.1 }
 {
     to.copy_from(runs.machine(place));
-    let program = config.program(runs.queue(place));
+    let program = setting.program(runs.queue(place));
     let instructions = go_to_stop(program, to);
     (instructions, stop_of(program, to))
 }
@@ -94,18 +99,18 @@ pub(crate) fn to_stop(config: &Config, runs: &Runs, place: usize, to: &mut Machi
 #[inline(always)]
 pub(crate) fn go_on_here(
     alloc: Global,
-    config: &Config,
+    setting: &Setting<'_>,
     transport: &mut Transport,
     runs: &mut Runs,
     place: usize,
 ) -> Result<(Progress, Record), AllocError>
-    requires of { (history : List TheRecord) × KeepsEngine config.now history transport.old runs.old }
+    requires of { (history : List TheRecord) × KeepsEngine setting.now history transport.old runs.old }
     requires out { IsOutAt runs.old.runs.list place }
-    ensures step { IfOk result (λ it. IsStep config.now transport.old runs.old place transport.new runs.new it.0 it.1) }
+    ensures step { IfOk result (λ it. IsStep setting.now transport.old runs.old place transport.new runs.new it.0 it.1) }
     ensures refused { OnErr result ((transport.new ≡ transport.old) × (runs.new ≡ runs.old)) }
 {
     let mut to = runs.place_for_machine()?;
-    let (instructions, at) = to_stop(config, runs, place, &mut to);
+    let (instructions, at) = to_stop(setting, runs, place, &mut to);
     let Ok(stop) = recorded(alloc, &at) else {
         runs.keep_place(to);
         return Err(AllocError);
@@ -147,13 +152,13 @@ pub(crate) fn park(runs: &mut Runs, place: usize, run: Run) -> Record
 
 /// The run of that number, which is parked, is out again, or C1. Where memory is refused nothing changes.
 pub(crate) fn resume(
-    config: &Config,
+    setting: &Setting<'_>,
     runs: &mut Runs,
     run: u32,
 ) -> Result<(Result<Run, CallRefusal>, Record), AllocError>
-    requires { (transport : TheTransport) × (history : List TheRecord) × KeepsEngine config.now history transport runs.old }
+    requires { (transport : TheTransport) × (history : List TheRecord) × KeepsEngine setting.now history transport runs.old }
     ensures told { IfOk result (λ it. it.1 ≡ Called (resumed_answer it.0) (calls.Resume run)) }
-    ensures performs { IfOk result (λ it. (transport : TheTransport) → Performs config.now (Resume run) transport runs.old transport runs.new (resumed_reply it.0) it.1) }
+    ensures performs { IfOk result (λ it. (transport : TheTransport) → Performs setting.now (Resume run) transport runs.old transport runs.new (resumed_reply it.0) it.1) }
     ensures refused { OnErr result (runs.new ≡ runs.old) }
 {
     let call = Call::Resume { run };
@@ -163,7 +168,7 @@ pub(crate) fn resume(
             refused(CallRefusal::Unknown, call),
         ));
     };
-    let again = run_at(config, runs, place)?;
+    let again = run_at(setting, runs, place)?;
     runs.set_out(place, true);
     let answer = CallAnswer::Ok;
     Ok((Ok(again), Record::Called { answer, call }))
@@ -171,13 +176,13 @@ pub(crate) fn resume(
 
 // The right to take the run at this place further, made anew, for one whose right was spent. Where memory is refused nothing
 // changes.
-fn run_at(config: &Config, runs: &mut Runs, place: usize) -> Result<Run, AllocError>
-    requires of { (transport : TheTransport) × (history : List TheRecord) × KeepsEngine config.now history transport runs.old }
+fn run_at(setting: &Setting<'_>, runs: &mut Runs, place: usize) -> Result<Run, AllocError>
+    requires of { (transport : TheTransport) × (history : List TheRecord) × KeepsEngine setting.now history transport runs.old }
     requires place { (run : ℕ) × IsPlaced runs.old.runs.list run place }
-    ensures again { (it : LiveRun) → HasRunAt runs.old.runs.list place it → IfOk result (IsAgain config.now it) }
+    ensures again { (it : LiveRun) → HasRunAt runs.old.runs.list place it → IfOk result (IsAgain setting.now it) }
     ensures same { runs.new ≡ runs.old }
 {
-    let program = Arc::try_clone(config.program(runs.queue(place)))?;
+    let program = Arc::try_clone(setting.program(runs.queue(place)))?;
     let mut machine = runs.place_for_machine()?;
     let next = runs.place_for_machine()?;
     machine.copy_from(runs.machine(place));

@@ -78,11 +78,11 @@ start-started-requires c world =
 
 pub fail-ccb-requires-clause-active : goal.fail-ccb-requires-clause-active
 fail-ccb-requires-clause-active c =
-    ccb_found c.args.completion.now.ccb.0 c.args.transport.now.live (record { ccb = c.args.ccb; state = Active }) (c.requires.active (opening c.args.config.now))
+    ccb_found c.args.completion.now.ccb.0 c.args.transport.now.live (record { ccb = c.args.ccb; state = Active }) (c.requires.active (opening c.args.setting.now))
 
 pub fail-ccb-requires-clause-there : goal.fail-ccb-requires-clause-there
 fail-ccb-requires-clause-there c =
-    let number : c.args.ccb.number.0 ≡ c.args.completion.now.ccb.0 = found_key ccb_key c.args.completion.now.ccb.0 c.args.transport.now.live (record { ccb = c.args.ccb; state = Active }) (c.requires.active (opening c.args.config.now)) in
+    let number : c.args.ccb.number.0 ≡ c.args.completion.now.ccb.0 = found_key ccb_key c.args.completion.now.ccb.0 c.args.transport.now.live (record { ccb = c.args.ccb; state = Active }) (c.requires.active (opening c.args.setting.now)) in
     subst (λ (n : ℕ). IsPlaceOf n c.args.transport.now.live c.args.place) (sym number) c.requires.there
 
 run_is : (c : goal.After-new) → c.start-started.result.run ≡ c.args.runs.now.runs.greatest + 1
@@ -100,15 +100,15 @@ returns-clause-step c world =
     let ccb : Ccb = completed c.args.ccb c.args.completion.now (is_some t) in
     let same : c.place_for_machine-2.new.self ≡ c.args.runs.now = c.place_for_machine-2.ensures ∙ (c.place_for_machine.ensures ∙ c.place_for_run.ensures) in
     let program : List Slot = (arc_value c.in_ok-recorded.recorded).program in
-    let program_is : (queue_setup c.args.config.now c.args.ccb.queue.0).program ≡ program = sym (ap (λ (v : Verdict). v.program) c.in_ok-recorded.ensures ∙ c.program-program.ensures.program) in
+    let program_is : (queue_setup c.args.setting.now c.args.ccb.queue.0).program ≡ program = sym (ap (λ (v : Verdict). v.program) c.in_ok-recorded.ensures ∙ c.program-program.ensures.program) in
     let machine_is : c.start-started.new.machine ≡ entry (context_of ccb) (told t) = c.start-started.ensures.machine ∙ ap (λ (b : Ccb). entry (context_of b) (told t)) c.fail-ccb.ensures.ccb in
     let transport_is : c.fail-ccb.new.self ≡ failed at c.args.ccb c.args.completion.now t =
     c.fail-ccb.ensures.state ∙ ap (λ (b : Ccb). record (took c.args.transport.now t) { live = with_ccb (record { ccb = b; state = InRecovery }) c.args.transport.now.live }) c.fail-ccb.ensures.ccb in
-    let under : (queue_setup c.args.config.now c.args.ccb.queue.0).controller ≡ c.controller.result = sym c.controller.ensures.value in
+    let under : (queue_setup c.args.setting.now c.args.ccb.queue.0).controller ≡ c.controller.result = sym c.controller.ensures.value in
     let begun_by : RunsState → ℕ → Ccb → MachineState → Runs = λ runs number b m. record runs.runs { list = runs.runs.list ++ run_for number b c.controller.result program m ∷ []; greatest = number } in
     let runs_are : c.start-started.new.self.runs ≡ begun at c.args.ccb c.controller.result c.args.completion.now program t =
     ap (λ (r : RunsState). r.runs) c.start-started.ensures.state ∙ (λ i. begun_by (same i) (run_is c i) (c.fail-ccb.ensures.ccb i) (machine_is i)) in
-    recovers_so c.args.config.now at c.args.ccb c.controller.result c.args.completion.now program t (taken_is c) program_is under
+    recovers_so c.args.setting.now at c.args.ccb c.controller.result c.args.completion.now program t (taken_is c) program_is under
     ∙ sym (λ i. (replies (answers.Started ((ap (λ (r : RunState). r.number) c.new.ensures ∙ run_is c) i) (c.start-started.ensures.freeze i)), record world { transport = transport_is i; runs = runs_are i }))
 
 pub returns-clause-out : goal.returns-clause-out
@@ -118,7 +118,7 @@ returns-clause-out c world =
     rw (c.new.ensures) (record {
       out = record { it = _; found = c.start-started.ensures.found; out = refl; program_is = program; machine_is = refl };
       budget = ap (λ (v : Verdict). v.budget) c.in_ok-handed.ensures
-          ∙ (c.program-program.ensures.budget ∙ ap (λ (b : Ccb). (queue_setup c.args.config.now b.queue.0).budget) (sym c.fail-ccb.ensures.ccb));
+          ∙ (c.program-program.ensures.budget ∙ ap (λ (b : Ccb). (queue_setup c.args.setting.now b.queue.0).budget) (sym c.fail-ccb.ensures.ccb));
       limits = ap (λ (v : Verdict). v.limits) c.in_ok-handed.ensures ∙ c.program-program.ensures.limits;
     })
 
@@ -126,10 +126,10 @@ pub returns-clause-tokens : goal.returns-clause-tokens
 returns-clause-tokens c =
     let t : Option Freeze = c.fail-ccb.result.1 in
     let same : c.place_for_machine-2.new.self ≡ c.args.runs.now = c.place_for_machine-2.ensures ∙ (c.place_for_machine.ensures ∙ c.place_for_run.ensures) in
-    let before : World = world_of c.args.config.now c.requires.kept.0 c.args.transport.now c.args.runs.now.runs in
+    let before : World = world_of c.args.setting.now c.requires.kept.0 c.args.transport.now c.args.runs.now.runs in
     let it : LiveRun = run_for c.start-started.result.run c.fail-ccb.result.0 c.controller.result (arc_value c.in_ok-recorded.recorded).program c.start-started.new.machine in
     subst (λ (fs : List Freeze). HoldEntries fs c.start-started.new.self) (sym (ap (λ (m : Transport). m.freezes) c.fail-ccb.ensures.state))
-    (run_started c.args.config.now before c.args.runs.now c.start-started.new.self t it (kept_sound c.args.config.now c.requires.kept.0 c.args.transport.now c.args.runs.now c.requires.kept.1) refl c.requires.kept.1.tokens
+    (run_started c.args.setting.now before c.args.runs.now c.start-started.new.self t it (kept_sound c.args.setting.now c.requires.kept.0 c.args.transport.now c.args.runs.now c.requires.kept.1) refl c.requires.kept.1.tokens
     (holder_is c.args.transport.now (Device c.args.ccb.queue) (c.args.runs.now.runs.greatest + 1) t (taken_is c)) (run_is c)
     (ap (λ (r : RunsState). r.runs.list) c.start-started.ensures.state ∙ ap (λ (r : RunsState). r.runs.list ++ it ∷ []) same)
     (ap (λ (r : RunsState). r.tokens) c.start-started.ensures.state ∙ ap (λ (r : RunsState). r.tokens ++ tokens_of (option_to_list t) ∷ []) same))

@@ -11,7 +11,7 @@ use Rattle.engine_core.proofs.run_events.resume.Goals as goal
 -- no run of that number is parked
 
 pub returns-in_default-clause-performs : goal.returns-in_default-clause-performs
-returns-in_default-clause-performs c = λ transport. rw (c.refused.ensures) (resumes_nothing c.args.config.now transport c.args.runs.now c.args.run (search rules))
+returns-in_default-clause-performs c = λ transport. rw (c.refused.ensures) (resumes_nothing c.args.setting.now transport c.args.runs.now c.args.run (search rules))
 
 -- a run that goes on, which stands where it stood while its right was made anew
 
@@ -22,7 +22,7 @@ returns-clause-performs c = λ transport.
     let stands = subst (λ (r : RunsState). HasRunAt r.runs.list c.in-Some.place there.0) (sym c.run_at.ensures.same) there.3 in
     let after : c.set_out.new.self ≡ with_out_run there.0 true c.args.runs.now = subst (λ (r : RunsState). c.set_out.new.self ≡ with_out_run there.0 true r) c.run_at.ensures.same (c.set_out.ensures there.0 stands) in
     let named = again.number ∙ found_key run_key c.args.run c.args.runs.now.runs.list there.0 there.1 in
-    resumes_it c.args.config.now transport c.args.runs.now c.set_out.new.self c.args.run there.0 c.in_ok-again.again there.1 there.2 after
+    resumes_it c.args.setting.now transport c.args.runs.now c.set_out.new.self c.args.run there.0 c.in_ok-again.again there.1 there.2 after
     named
     (λ world. record {
       out = record {

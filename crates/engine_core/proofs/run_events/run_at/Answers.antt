@@ -13,7 +13,7 @@ pub program-requires : goal.program-requires
 program-requires c =
     let of = c.requires.of in
     let there = c.requires.place in
-    let known = known_run c.args.config.now of.1 of.0 c.args.runs.now there.0 there.1.0 of.2 there.1.1 in
+    let known = known_run c.args.setting.now of.1 of.0 c.args.runs.now there.0 there.1.0 of.2 there.1.1 in
     omega (arith, known.queue, c.queue.ensures there.1.0 there.1.2)
 
 -- the run stands where it stood while places for its machines were taken
@@ -23,7 +23,7 @@ new-requires c =
     let of = c.requires.of in
     let there = c.requires.place in
     let stands = subst (λ (r : RunsState). HasRunAt r.runs.list c.args.place there.1.0) (sym (c.place_for_machine-2.ensures ∙ c.place_for_machine.ensures)) there.1.2 in
-    let known = known_run c.args.config.now of.1 of.0 c.args.runs.now there.0 there.1.0 of.2 there.1.1 in
+    let known = known_run c.args.setting.now of.1 of.0 c.args.runs.now there.0 there.1.0 of.2 there.1.1 in
     let given : (arc_value c.in_ok-program.program).program ≡ (arc_value c.program.result.now).program = ap (λ (v : Verdict). v.program) c.in_ok-program.ensures in
     let program : (arc_value c.in_ok-program.program).program ≡ there.1.0.program = given ∙ (c.program.ensures.program ∙ (rw (c.queue.ensures there.1.0 there.1.2) (sym known.program))) in
     let machine : c.copy_from.new.self ≡ there.1.0.machine = c.copy_from.ensures ∙ c.machine.ensures there.1.0 stands in
@@ -35,7 +35,7 @@ returns-clause-again c = λ it here.
     let there = c.requires.place in
     let same = stands_once c.args.runs.now.runs.list c.args.place there.1.0 it there.1.2 here in
     let stands = subst (λ (r : RunsState). HasRunAt r.runs.list c.args.place it) (sym (c.place_for_machine-2.ensures ∙ c.place_for_machine.ensures)) here in
-    let known = known_run c.args.config.now of.1 of.0 c.args.runs.now there.0 there.1.0 of.2 there.1.1 in
+    let known = known_run c.args.setting.now of.1 of.0 c.args.runs.now there.0 there.1.0 of.2 there.1.1 in
     let queue = c.queue.ensures it here in
     let made = c.in_ok-program.ensures in
     rw c.new.ensures (record {

@@ -3,25 +3,26 @@ use Rattle.world_calls.specs.declared.call.Call.TheVariants as calls
 use Rattle.world_calls.specs.Answered.{removed_answer}
 use Rattle.engine_core.specs.declared.event.Event.TheVariants as events
 use Rattle.engine_core.specs.Replies.{removed_reply}
+use Rattle.engine_core.specs.Settings.{setup_over}
 use Rattle.engine_core.proofs.Answering.{Appended, appended, gives, on_ok, refuses, seen}
 use Rattle.engine_core.proofs.engine.Engine.clock.Goals as goal
 
 -- one record more
-made : (c : goal.After-given) → Appended c.self.inside.config c.self.inside.history c.push_reserved.new.self c.self.inside.parts.transport c.self.inside.parts.runs c.read_clock-answer.new.transport c.self.inside.parts.runs c.read_clock-answer.result.1
+made : (c : goal.After-given) → Appended (setup_over c.self.inside.config c.self.inside.over.world) c.self.inside.history c.push_reserved.new.self c.self.inside.parts.transport c.self.inside.parts.runs c.read_clock-answer.new.transport c.self.inside.parts.runs c.read_clock-answer.result.1
 made c =
-    appended c.self.inside.config c.self.inside.history c.reserve.new.self c.push_reserved.new.self (events.Clock c.args.reading) c.self.inside.parts.transport c.self.inside.parts.runs c.read_clock-answer.new.transport c.self.inside.parts.runs (removed_reply c.read_clock-answer.result.0) c.read_clock-answer.result.1
-    c.self.invariant.0 c.reserve.ensures.records c.reserve.ensures.taken c.push_reserved.ensures.records c.push_reserved.ensures.taken (on_ok c.reserve.result _ (sym c.is_err.ensures.value ∙ c.if-is_err.false) c.reserve.ensures.room) c.push_reserved.ensures.capacity (c.read_clock-answer.ensures.performs c.self.inside.config c.self.inside.parts.runs)
+    appended (setup_over c.self.inside.config c.self.inside.over.world) c.self.inside.history c.reserve.new.self c.push_reserved.new.self (events.Clock c.args.reading) c.self.inside.parts.transport c.self.inside.parts.runs c.read_clock-answer.new.transport c.self.inside.parts.runs (removed_reply c.read_clock-answer.result.0) c.read_clock-answer.result.1
+    c.self.invariant.0 c.reserve.ensures.records c.reserve.ensures.taken c.push_reserved.ensures.records c.push_reserved.ensures.taken (on_ok c.reserve.result _ (sym c.is_err.ensures.value ∙ c.if-is_err.false) c.reserve.ensures.room) c.push_reserved.ensures.capacity (c.read_clock-answer.ensures.performs (setup_over c.self.inside.config c.self.inside.over.world) c.self.inside.parts.runs)
 
 pub invariant_of-self-2 : goal.invariant_of-self-2
 invariant_of-self-2 c = let it = made c in (it.kept, it.room)
 
 pub returns-clause-answered : goal.returns-clause-answered
 returns-clause-answered c = rw (c.given.ensures, ← c.self.view_is) (
-    gives c.read_clock-answer.result.0 removed_answer (seen c.self.inside.config c.self.inside.history c.self.inside.parts.transport c.self.inside.parts.runs) (seen c.self.inside.config c.push_reserved.new.self c.read_clock-answer.new.transport c.self.inside.parts.runs) (calls.Clock c.args.reading) c.read_clock-answer.result.1 c.read_clock-answer.ensures.told (made c).records)
+    gives c.read_clock-answer.result.0 removed_answer (seen (setup_over c.self.inside.config c.self.inside.over.world) c.self.inside.history c.self.inside.parts.transport c.self.inside.parts.runs) (seen (setup_over c.self.inside.config c.self.inside.over.world) c.push_reserved.new.self c.read_clock-answer.new.transport c.self.inside.parts.runs) (calls.Clock c.args.reading) c.read_clock-answer.result.1 c.read_clock-answer.ensures.told (made c).records)
 
 pub returns-clause-fault : goal.returns-clause-fault
 returns-clause-fault c = rw (c.given.ensures, ← c.self.view_is) (
-    refuses c.read_clock-answer.result.0 removed_answer (seen c.self.inside.config c.self.inside.history c.self.inside.parts.transport c.self.inside.parts.runs) (seen c.self.inside.config c.push_reserved.new.self c.read_clock-answer.new.transport c.self.inside.parts.runs) (calls.Clock c.args.reading) c.read_clock-answer.result.1 (λ refusal. refl) c.read_clock-answer.ensures.told (made c).records)
+    refuses c.read_clock-answer.result.0 removed_answer (seen (setup_over c.self.inside.config c.self.inside.over.world) c.self.inside.history c.self.inside.parts.transport c.self.inside.parts.runs) (seen (setup_over c.self.inside.config c.self.inside.over.world) c.push_reserved.new.self c.read_clock-answer.new.transport c.self.inside.parts.runs) (calls.Clock c.args.reading) c.read_clock-answer.result.1 (λ refusal. refl) c.read_clock-answer.ensures.told (made c).records)
 
 pub returns-clause-run : goal.returns-clause-run
 returns-clause-run c = (made c).kept.run

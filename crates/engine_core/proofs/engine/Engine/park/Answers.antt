@@ -6,17 +6,18 @@ use Rattle.engine_core.specs.Performing.{Performs}
 use Rattle.engine_core.specs.declared.event.Event.TheVariants as events
 use Rattle.engine_core.specs.declared.reply.Success.TheVariants as given
 use Rattle.engine_core.specs.declared.reply.Reply.TheVariants.{Success}
+use Rattle.engine_core.specs.Settings.{setup_over}
 use Rattle.engine_core.proofs.Answering.{performed, seen}
 use Rattle.engine_core.proofs.Parking.{room_kept}
 use Rattle.engine_core.proofs.Recording.{Goes}
 use Rattle.engine_core.proofs.engine.Engine.park.Goals as goal
 
-parks : (c : goal.After-push_reserved) → Performs c.self.inside.config (events.Park c.args.run) c.self.inside.parts.transport c.self.inside.parts.runs c.self.inside.parts.transport c.park-told.new.runs (Success given.Parked) c.park-told.result
-parks c = c.park-told.ensures.performs c.self.inside.config c.self.inside.parts.transport c.self.inside.history.records c.self.invariant.0
+parks : (c : goal.After-push_reserved) → Performs (setup_over c.self.inside.config c.self.inside.over.world) (events.Park c.args.run) c.self.inside.parts.transport c.self.inside.parts.runs c.self.inside.parts.transport c.park-told.new.runs (Success given.Parked) c.park-told.result
+parks c = c.park-told.ensures.performs (setup_over c.self.inside.config c.self.inside.over.world) c.self.inside.parts.transport c.self.inside.history.records c.self.invariant.0
 
 -- one record more
-made : (c : goal.After-push_reserved) → Goes c.self.inside.config c.self.inside.history.records c.push_reserved.new.self.records c.self.inside.parts.transport c.self.inside.parts.transport c.self.inside.parts.runs c.park-told.new.runs c.park-told.result
-made c = performed c.self.inside.config c.self.inside.history.records c.push_reserved.new.self.records (events.Park c.args.run) c.self.inside.parts.transport c.self.inside.parts.runs c.self.inside.parts.transport c.park-told.new.runs (Success given.Parked) c.park-told.result c.self.invariant.0 c.push_reserved.ensures.records (parks c)
+made : (c : goal.After-push_reserved) → Goes (setup_over c.self.inside.config c.self.inside.over.world) c.self.inside.history.records c.push_reserved.new.self.records c.self.inside.parts.transport c.self.inside.parts.transport c.self.inside.parts.runs c.park-told.new.runs c.park-told.result
+made c = performed (setup_over c.self.inside.config c.self.inside.over.world) c.self.inside.history.records c.push_reserved.new.self.records (events.Park c.args.run) c.self.inside.parts.transport c.self.inside.parts.runs c.self.inside.parts.transport c.park-told.new.runs (Success given.Parked) c.park-told.result c.self.invariant.0 c.push_reserved.ensures.records (parks c)
 
 pub invariant_of-self : goal.invariant_of-self
 invariant_of-self c = (
@@ -26,7 +27,7 @@ invariant_of-self c = (
 
 pub returns-clause-parked : goal.returns-clause-parked
 returns-clause-parked c = rw (← c.self.view_is) (
-    subst (λ (told : Record). Records (seen c.self.inside.config c.self.inside.history c.self.inside.parts.transport c.self.inside.parts.runs) (seen c.self.inside.config c.push_reserved.new.self c.self.inside.parts.transport c.park-told.new.runs) told) c.park-told.ensures.told
+    subst (λ (told : Record). Records (seen (setup_over c.self.inside.config c.self.inside.over.world) c.self.inside.history c.self.inside.parts.transport c.self.inside.parts.runs) (seen (setup_over c.self.inside.config c.self.inside.over.world) c.push_reserved.new.self c.self.inside.parts.transport c.park-told.new.runs) told) c.park-told.ensures.told
     (record { history = c.push_reserved.ensures.records; taken = c.push_reserved.ensures.taken; setup = refl; step = (made c).leads }))
 
 pub returns-clause-run : goal.returns-clause-run

@@ -3,16 +3,17 @@ use Rattle.world_calls.specs.declared.call.Call.TheVariants as calls
 use Rattle.world_calls.specs.declared.record.Record.{Record}
 use Rattle.engine_core.specs.Replies.{completed_answer}
 use Rattle.engine_core.specs.ByNumber.{RecordFollows}
+use Rattle.engine_core.specs.Settings.{setup_over}
 use Rattle.engine_core.proofs.Numbered.{called_by, follows, keeps_tokens, moved, others_by, state_of}
 use Rattle.engine_core.proofs.numbered_engine.NumberedEngine.completed.Goals as goal
 
 pub invariant_of-self-2 : goal.invariant_of-self-2
 invariant_of-self-2 c = rw c.spend_started.ensures (
-    keeps_tokens c.self.inside.config.now c.self.inside.parts.transport c.self.inside.parts.runs c.complete.new.transport c.complete.new.runs c.in_ok-answer.told c.self.inside.tokens.items c.self.invariant (moved _ _ _ _ _ _ _ _ (c.in_ok-answer.ensures.performs))
+    keeps_tokens (setup_over c.self.inside.config.now c.self.inside.over.world) c.self.inside.parts.transport c.self.inside.parts.runs c.complete.new.transport c.complete.new.runs c.in_ok-answer.told c.self.inside.tokens.items c.self.invariant (moved _ _ _ _ _ _ _ _ (c.in_ok-answer.ensures.performs))
     (others_by c.in_ok-answer.told (completed_answer c.in_ok-answer.answer) (calls.Complete c.args.completion.now) c.in_ok-answer.ensures.told tt))
 
 pub returns-clause-answered : goal.returns-clause-answered
 returns-clause-answered c = rw (c.spend_started.ensures, ← c.self.view_is) (
-    subst (λ (r : Record). RecordFollows (state_of c.self.inside.config.now c.self.inside.parts.transport c.self.inside.parts.runs) r (state_of c.self.inside.config.now c.complete.new.transport c.complete.new.runs))
+    subst (λ (r : Record). RecordFollows (state_of (setup_over c.self.inside.config.now c.self.inside.over.world) c.self.inside.parts.transport c.self.inside.parts.runs) r (state_of (setup_over c.self.inside.config.now c.self.inside.over.world) c.complete.new.transport c.complete.new.runs))
     (called_by c.in_ok-answer.told (completed_answer c.in_ok-answer.answer) c.answer_in.result (calls.Complete c.args.completion.now) c.in_ok-answer.ensures.told c.answer_in.ensures)
-    (follows c.self.inside.config.now c.self.inside.parts.transport c.self.inside.parts.runs c.complete.new.transport c.complete.new.runs c.in_ok-answer.told c.self.inside.tokens.items c.self.invariant (moved _ _ _ _ _ _ _ _ (c.in_ok-answer.ensures.performs))))
+    (follows (setup_over c.self.inside.config.now c.self.inside.over.world) c.self.inside.parts.transport c.self.inside.parts.runs c.complete.new.transport c.complete.new.runs c.in_ok-answer.told c.self.inside.tokens.items c.self.invariant (moved _ _ _ _ _ _ _ _ (c.in_ok-answer.ensures.performs))))

@@ -1,0 +1,6 @@
+pub mod Resting
+pub mod Leaving
+pub mod Beginning
+pub mod Free
+pub mod Above
+pub mod Adding

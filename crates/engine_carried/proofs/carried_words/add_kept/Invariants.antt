@@ -1,0 +1,7 @@
+use Rattle.std.proofs.Common.{◌≡◌, ◌++◌, [], get_or, take}
+use Rattle.engine_beginning.specs.Lines.{words_from}
+use Rattle.engine_carried.proofs.carried_words.add_kept.Given as goal
+
+-- the lines of the words so far are added
+abbrev pub invariant-loop-index : goal.invariant-loop-index
+invariant-loop-index l = l.lines.items ≡ l.fn.lines.items ++ words_from l.table 0 (take l.index (get_or l.runs.runs.tables l.table []))

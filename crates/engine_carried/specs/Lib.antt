@@ -1,0 +1,4 @@
+pub mod FreezeAbove
+pub mod Leaving
+pub mod Left
+pub mod TakenOver

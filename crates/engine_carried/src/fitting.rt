@@ -1,0 +1,66 @@
+// Whether what an engine leaves fits another configuration. It relies on `engine_core` for the engine and on `engine_transport` for what its
+// queues and controllers have.
+
+ghost use Rattle.std.specs.Prelude.{◌≡◌, ◌<◌, ◌≤◌, ◌↔◌, [], length, IsTrue};
+ghost use Rattle.world.specs.Capacities.{most_controllers};
+ghost use Rattle.engine_carried.specs.Left.{ControllersAreFree, IsFree, QueuesAreFree};
+ghost use Rattle.engine_carried.specs.TakenOver.{Fits};
+
+use ccb::QueueId;
+use engine_config::Config;
+use engine_core::Engine;
+use engine_transport::Transport;
+use world::QueueInfo;
+
+/// Returns whether an engine of this configuration may take over what the engine leaves, in which no run is live: each queue with a live
+/// CCB or a freeze, and each controller with a freeze, is one of the configuration's. It looks at each queue and each controller at most
+/// once, and takes no memory.
+pub fn fits(engine: &Engine, config: &Config) -> bool
+    requires { engine.now.world.runs.list ≡ [] }
+    ensures { IsTrue result ↔ Fits config.now engine.now.world }
+{
+    let transport = engine.transport();
+    let old = engine.config();
+    are_queues_free(transport, config.queues(), old.queues())
+        && are_controllers_free(transport, config.controllers(), old.controllers())
+}
+
+// Returns whether the queues from this number on, up to the last one that there is, have no freeze and no waiting or active CCB.
+fn are_queues_free(transport: &Transport, from: u32, to: u32) -> bool
+    requires { to ≡ length transport.now.openings }
+    ensures { IsTrue result ↔ QueuesAreFree transport.now from to }
+{
+    for queue in from..to {
+        if !is_free(transport, QueueId(queue)) {
+            return false;
+        }
+    }
+    true
+}
+
+// Returns the same of one queue.
+fn is_free(transport: &Transport, queue: QueueId) -> bool
+    requires { queue.0 < length transport.now.openings }
+    ensures { IsTrue result ↔ IsFree transport.now queue.0 }
+{
+    has_nothing(transport.queue_info(queue))
+}
+
+fn has_nothing(info: QueueInfo) -> bool
+    ensures { IsTrue result ↔ ((info.frozen ≡ 0) × (info.active ≡ 0) × (info.waiting ≡ 0)) }
+{
+    info.frozen == 0 && info.active == 0 && info.waiting == 0
+}
+
+// Returns whether the controllers from `from` on and below `to` have no freeze.
+fn are_controllers_free(transport: &Transport, from: u32, to: u32) -> bool
+    requires { to ≤ most_controllers }
+    ensures { IsTrue result ↔ ControllersAreFree transport.now from to }
+{
+    for controller in from..to {
+        if transport.controller_frozen(controller) > 0 {
+            return false;
+        }
+    }
+    true
+}

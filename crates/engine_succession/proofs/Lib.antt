@@ -1,0 +1,3 @@
+pub mod Taking
+pub mod Succeeding
+pub mod Refused

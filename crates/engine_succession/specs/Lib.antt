@@ -1,0 +1,3 @@
+pub mod FromLines
+pub mod Taking
+pub mod Succession

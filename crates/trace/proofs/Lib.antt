@@ -9,3 +9,4 @@ pub mod Shown
 pub mod SoFar
 pub mod FirstFaulty
 pub mod Grown
+pub mod FromSecond

@@ -12,7 +12,7 @@ use Rattle.trace_lines.specs.Rows.{row_of}
 use Rattle.trace_lines.specs.Written.{Reads}
 use Rattle.trace_lines.specs.declared.word.Word.{Word}
 use Rattle.trace_lines.proofs.Tests.{parts_of, same_text}
-use Rattle.trace.specs.Reading.{HasNoLine, IsFaultyLine}
+use Rattle.trace.specs.Reading.{HasNoLine, IsFaultyFrom, IsFaultyLine}
 use Rattle.trace.specs.TraceText.{asked_of, told_text, line_of, entry_text, header, record_text, records_text, sums_text, totals_text, lines_text, trace_text}
 use Rattle.trace.proofs.Cuts.{IsOneLine, IsFirstLine, HasNoFeed}
 use Rattle.trace.proofs.Entries.{of_entry, one_line}
@@ -169,8 +169,11 @@ module _ (version : Version) (text : List ℕ) (entries : List Record) (rest : L
           append_three (records_text version entries) (totals_text totals) (Some behind) ∙ ap (option_append (records_text version entries)) here ∙ so_far.said
 
       -- something stands behind it
-      pub goes_on : (number : ℕ) → number ≡ length entries + 2 → behind ≢ [] → IsFaultyLine version text (number + 1)
+      goes_on : (number : ℕ) → number ≡ length entries + 2 → behind ≢ [] → IsFaultyLine version text (number + 1)
       goes_on number place more = record { records = entries; sums = Some totals; rest = behind; front = last_said; place = omega arith; faulty = more }
+
+      pub goes_on_from : (number begin : ℕ) → number ≡ length entries + begin → behind ≢ [] → IsFaultyFrom version text begin (number + 1)
+      goes_on_from number begin place more = record { place = length entries + 2 + 1; is = goes_on (length entries + 2) refl more; counted = omega (arith, place) }
 
       left_over : (all others : List Record) (sums : Totals) → IsFront version others sums line behind → all ≡ entries ++ others → (entries ≡ all) × (totals ≡ sums) × (behind ≡ [])
       left_over all [] sums front is =
@@ -209,8 +212,11 @@ module _ (version : Version) (text : List ℕ) (entries : List Record) (rest : L
   }
 
   module _ (none : HasNoLine version rest) where
-    pub faulty_line : (number : ℕ) → number ≡ length entries + 2 → IsFaultyLine version text number
+    faulty_line : (number : ℕ) → number ≡ length entries + 2 → IsFaultyLine version text number
     faulty_line number place = record { records = entries; sums = None; rest = rest; front = so_far.said; place = place; faulty = none }
+
+    pub faulty_from : (number begin : ℕ) → number ≡ length entries + begin → IsFaultyFrom version text begin number
+    faulty_from number begin place = record { place = length entries + 2; is = faulty_line (length entries + 2) refl; counted = omega (arith, place) }
 
     not_left : (others : List Record) (totals : Totals) → lines_text version others totals ≡ Some rest → ⊥
     not_left [] totals e = none.no_end totals [] (alone version totals rest e)

@@ -1,18 +1,14 @@
 -- A record that has a text is put, and the records of what was read have texts.
-use Rattle.std.proofs.Common.{◌≡◌, ◌<◌, ℕ, Bool, true, false, cond, Option, Some, None, Result, Ok, Err, IfOk, List, [], ◌∷◌, length, get_or, refl, sym, ap, ◌∙◌, subst}
+use Rattle.std.proofs.Common.{◌≡◌, ◌<◌, ℕ, Bool, true, false, cond, Option, Some, None, List, [], ◌∷◌, length, get_or, refl, sym, ap, ◌∙◌, subst}
 use Rattle.std.specs.Prelude.{IsSome}
 use Rattle.std.specs.Fmt.{option_append, with_newline}
 use Rattle.std.proofs.lemmas.List.Elements.{All-from_recursion, All-get_or}
 use Rattle.world_calls.specs.declared.record.Record.{Record}
-use Rattle.world_calls.specs.declared.trace.Trace.{Trace}
 use Rattle.world_calls.specs.declared.trace.Version.{Version}
 use Rattle.trace_lines.specs.Written.{IsPut}
 use Rattle.trace_lines.proofs.Tests.{parts_of}
-use Rattle.base.specs.declared.or_memory.OrMemory.{OrMemory}
-use Rattle.trace.specs.declared.fault.TraceFault.{TraceFault}
 use Rattle.trace.specs.HasText.{AllHaveText, NumbersFit, HasText}
-use Rattle.trace.specs.Reading.{SaysLines}
-use Rattle.trace.specs.TraceText.{line_of, record_text, records_text, totals_text}
+use Rattle.trace.specs.TraceText.{line_of, record_text, records_text}
 use Rattle.trace.specs.Versions.{is_of}
 
 -- a text that is put is that text
@@ -44,9 +40,3 @@ module _ (version : Version) where
   have_texts (first ∷ rest) text e =
       let parts = parts_of (record_text version first) (records_text version rest) text e in
       (λ fits. subst (λ (o : Option (List ℕ)). IsSome o) (sym parts.2) refl, have_texts rest parts.1 parts.3)
-
-pub read_have : (version : Version) (text : List ℕ) (read : Result Trace (OrMemory TraceFault)) → SaysLines version text read → IfOk read (λ trace. AllHaveText trace.version trace.records.items)
-read_have version text (Ok trace) said =
-    let parts = parts_of (records_text version trace.records.items) (totals_text trace.totals) text said.1 in
-    subst (λ (v : Version). AllHaveText v trace.records.items) (sym said.0) (have_texts version trace.records.items parts.0 parts.2)
-read_have version text (Err fault) said = tt

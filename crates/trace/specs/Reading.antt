@@ -48,12 +48,18 @@ pub record IsFaultyLine (version : Version) (text : List ℕ) (number : ℕ) : T
   pub place : number ≡ front_lines records sums + 2
   pub faulty : MayNotFollow version sums rest
 
--- what is said of a text behind the first line of a version
-abbrev pub SaysLines : Version → List ℕ → Result Trace (OrMemory TraceFault) → Type 0
-SaysLines version text (Ok trace) = (trace.version ≡ version) × (lines_text version trace.records.items trace.totals ≡ Some text)
-SaysLines version text (Err OutOfMemory) = Unit {0}
-SaysLines version text (Err (Fault Header)) = ⊥
-SaysLines version text (Err (Fault (Line number))) = IsFaultyLine version text number
+-- The same, counted from the number of the line with which the text begins.
+pub record IsFaultyFrom (version : Version) (text : List ℕ) (first number : ℕ) : Type 0 where
+  pub place : ℕ
+  pub is : IsFaultyLine version text place
+  pub counted : number + 2 ≡ first + place
+
+-- what is said of a text after the first line of a version, or after more lines, that begins with the line of this number
+abbrev pub SaysLines : Version → List ℕ → ℕ → Result Trace (OrMemory TraceFault) → Type 0
+SaysLines version text first (Ok trace) = (trace.version ≡ version) × (lines_text version trace.records.items trace.totals ≡ Some text)
+SaysLines version text first (Err OutOfMemory) = Unit {0}
+SaysLines version text first (Err (Fault Header)) = ⊥
+SaysLines version text first (Err (Fault (Line number))) = IsFaultyFrom version text first number
 
 -- What is said of a text: that it is this trace's; that no version's header stands in front; or that behind the header of one this line is
 -- the first that is not of the form. Want of memory says nothing.

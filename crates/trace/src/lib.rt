@@ -18,7 +18,7 @@ pub use entry::read_record;
 pub use fault::{PrintFault, TraceError, TraceFault};
 pub use growing::Growing;
 pub use printer::{print, print_entry};
-pub use reader::read;
+pub use reader::{read, read_lines};
 pub use sink::{Sink, WriteFailed};
 pub use sums::{print_totals, read_totals};
 pub use version::header;

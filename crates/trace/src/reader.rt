@@ -1,7 +1,7 @@
 // Reads a trace: its first line, which says the version, a record a line, and the sums. It relies on `entry` and `sums` for lines, and on
 // `base_chunked_list` for the records.
 
-ghost use Rattle.std.specs.Prelude.{◌≡◌, ◌++◌, IfOk, MatchOption};
+ghost use Rattle.std.specs.Prelude.{◌≡◌, ◌+◌, ◌++◌, ◌<◌, ◌^◌, IfOk, MatchOption, length};
 ghost use Rattle.trace.specs.HasText.{AllHaveText};
 ghost use Rattle.trace.specs.Reading.{AreReadAgain, IsReadAgain, Says, SaysLines};
 ghost use Rattle.trace.specs.TraceText.{header};
@@ -15,6 +15,9 @@ use base_chunked_list::ChunkedList;
 use std::alloc::Global;
 use world_calls::{Trace, Version};
 
+// The number of the line after the first one.
+const SECOND: usize = 2;
+
 /// Reads a whole trace. Besides the list's chunks it takes memory for sense bytes and traced bytes alone.
 pub fn read(alloc: Global, text: &str) -> Result<Trace, TraceError>
     // What was read is printed so again; else which line is the first that is not of the form.
@@ -25,10 +28,10 @@ pub fn read(alloc: Global, text: &str) -> Result<Trace, TraceError>
     ensures spelled { IfOk result (λ trace. AllHaveText trace.version trace.records.items) }
 {
     if let Some(lines) = behind(Version::One, text) {
-        return read_lines(alloc, Version::One, lines);
+        return read_lines(alloc, Version::One, lines, SECOND);
     }
     match behind(Version::Two, text) {
-        Some(lines) => read_lines(alloc, Version::Two, lines),
+        Some(lines) => read_lines(alloc, Version::Two, lines, SECOND),
         None => Err(OrMemory::Fault(TraceFault::Header)),
     }
 }
@@ -40,13 +43,24 @@ fn behind(version: Version, text: &str) -> Option<&str>
     text.strip_prefix(header(version))
 }
 
-// Reads what stands behind the first line, which is the version's.
-fn read_lines(alloc: Global, version: Version, text: &str) -> Result<Trace, TraceError>
-    ensures said { SaysLines version text.now result }
+/// Reads the lines of the records and the last line, which stand after the first lines of a trace of that version. The line with which
+/// they begin has this number, by which a fault counts. Besides the list's chunks it takes memory for sense bytes and traced bytes alone.
+pub fn read_lines(
+    alloc: Global,
+    version: Version,
+    text: &str,
+    first: usize,
+) -> Result<Trace, TraceError>
+    requires numbers { first + length text.now < 2 ^ 64 }
+    // What was read is printed so again; else which line is the first that is not of the form.
+    ensures said { SaysLines version text.now first result }
+    // What is printed so is read again.
     ensures back { AreReadAgain version text.now result }
+    // What was read can be printed.
+    ensures spelled { IfOk result (λ trace. AllHaveText trace.version trace.records.items) }
 {
     let mut records = ChunkedList::with_room(alloc)?;
-    let (mut rest, mut number) = (text, 2usize);
+    let (mut rest, mut number) = (text, first);
     while let Some((line, behind)) = rest.split_once('\n') {
         let Some(entry) = read_record(alloc, version, line)? else {
             let Some(totals) = read_totals(line) else {

@@ -6,13 +6,13 @@ use Rattle.world_calls.specs.declared.record.Record.TheVariants.{Called, Advance
 use Rattle.trace.specs.HasText.{AllHaveText, HasText}
 use Rattle.trace.specs.TraceText.{line_of}
 use Rattle.trace.specs.Versions.{is_of}
-use Rattle.world.specs.World.{Setup, World, opening, version_of}
+use Rattle.world.specs.World.{Setup, World, beginning, version_of}
 use Rattle.world.specs.Lawful.{IsLawful}
 use Rattle.world.specs.Event.{Event, Reply}
 use Rattle.world.specs.Flat.{events_of, flat}
 use Rattle.world.specs.WorldRun.{Leads}
 use Rattle.world_laws.proofs.Leads.{leads_split}
-use Rattle.world_laws.proofs.Sound.{IsSound, leads_sound, opening_sound}
+use Rattle.world_laws.proofs.Sound.{IsSound, leads_sound, beginning_sound}
 use Rattle.trace_of_history.specs.EachHasText.{EachRecordHasText}
 use Rattle.trace_of_history.proofs.Advances.{advance_has}
 use Rattle.trace_of_history.proofs.Calls.{call_has}
@@ -36,4 +36,4 @@ each setup before (entry ∷ records) after lawful sound leads =
     (record_has setup before entry parts.0 lawful sound parts.1, each setup parts.0 records after lawful (leads_sound setup before (events_of entry) parts.0 lawful parts.1 sound) parts.2)
 
 pub each_record_has_text : EachRecordHasText
-each_record_has_text setup lawful records world run = each setup (opening setup) records world lawful (opening_sound setup lawful) run
+each_record_has_text setup lawful records world run = each setup (beginning setup) records world lawful (beginning_sound setup lawful run.0) run.1

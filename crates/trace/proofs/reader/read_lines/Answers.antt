@@ -1,13 +1,16 @@
-use Rattle.std.proofs.Common.{◌≡◌, List, [], ◌∷◌, ◌++◌, length, refl, sym, ap, ◌∙◌, subst, arith, rules, length-append}
+use Rattle.std.proofs.Common.{◌≡◌, Some, List, [], ◌∷◌, ◌++◌, length, refl, sym, ap, ◌∙◌, subst, arith, rules, length-append}
 use Rattle.world_calls.specs.declared.record.Record.{Record}
 use Rattle.trace.proofs.Cuts.{first_line, no_first_line}
-use Rattle.trace.proofs.SoFar.{IsReadSoFar, begin, one_more, goes_on, no_trace_on, only_trace, not_a_line, not_ended, faulty_line, no_trace, not_empty}
+use Rattle.trace.proofs.SoFar.{IsReadSoFar, begin, one_more, goes_on_from, no_trace_on, only_trace, not_a_line, not_ended, faulty_from, no_trace, not_empty}
+use Rattle.trace_lines.proofs.Tests.{parts_of}
+use Rattle.trace.specs.TraceText.{records_text}
+use Rattle.trace.proofs.Spelled.{have_texts}
 use Rattle.trace.proofs.reader.read_lines.Goals as goal
 
 pub loop-line-init : goal.loop-line-init
 loop-line-init c = record {
   so_far = rw c.in_ok-records.ensures (begin c.args.version c.args.text.now);
-  place = rw c.in_ok-records.ensures refl;
+  place = rw c.in_ok-records.ensures (omega arith);
   fits = omega arith;
   text = c.utf8.text;
 }
@@ -29,7 +32,7 @@ pub returns-in_default-read_totals-clause-said : goal.returns-in_default-read_to
 returns-in_default-read_totals-clause-said c =
     let first = first_line c.loop-line.rest.now c.in-Some.line c.in-Some.behind c.in-Some.ensures.cases in
     let none = not_a_line c.args.version c.args.text.now c.loop-line.records.items c.loop-line.rest.now c.loop-line.invariant.so_far c.in-Some.line.now c.in-Some.behind.now first (rw c.in_default-2.is at c.in_ok-entry.ensures) c.in_default-read_totals.ensures in
-    faulty_line c.args.version c.args.text.now c.loop-line.records.items c.loop-line.rest.now c.loop-line.invariant.so_far none c.loop-line.number c.loop-line.invariant.place
+    faulty_from c.args.version c.args.text.now c.loop-line.records.items c.loop-line.rest.now c.loop-line.invariant.so_far none c.loop-line.number c.args.first c.loop-line.invariant.place
 
 pub returns-in_default-read_totals-clause-back : goal.returns-in_default-read_totals-clause-back
 returns-in_default-read_totals-clause-back c =
@@ -40,8 +43,8 @@ returns-in_default-read_totals-clause-back c =
 pub returns-then-not-is_empty-clause-said : goal.returns-then-not-is_empty-clause-said
 returns-then-not-is_empty-clause-said c =
     let first = first_line c.loop-line.rest.now c.in-Some.line c.in-Some.behind c.in-Some.ensures.cases in
-    goes_on c.args.version c.args.text.now c.loop-line.records.items c.loop-line.rest.now c.loop-line.invariant.so_far c.in-Some.line.now c.in-Some.behind.now first c.in-Some-read_totals.totals c.in-Some-read_totals.ensures
-    c.loop-line.number c.loop-line.invariant.place (not_empty c.in-Some.behind.now (sym c.is_empty.ensures ∙ c.if-not-is_empty.true))
+    goes_on_from c.args.version c.args.text.now c.loop-line.records.items c.loop-line.rest.now c.loop-line.invariant.so_far c.in-Some.line.now c.in-Some.behind.now first c.in-Some-read_totals.totals c.in-Some-read_totals.ensures
+    c.loop-line.number c.args.first c.loop-line.invariant.place (not_empty c.in-Some.behind.now (sym c.is_empty.ensures ∙ c.if-not-is_empty.true))
 
 pub returns-then-not-is_empty-clause-back : goal.returns-then-not-is_empty-clause-back
 returns-then-not-is_empty-clause-back c =
@@ -59,9 +62,14 @@ returns-in_default-2-clause-back c =
 pub returns-clause-said : goal.returns-clause-said
 returns-clause-said c =
     let none = not_ended c.args.version c.args.text.now c.loop-line.records.items c.loop-line.rest.now c.loop-line.invariant.so_far (no_first_line c.loop-line.rest.now c.in_default.ensures.cases) in
-    faulty_line c.args.version c.args.text.now c.loop-line.records.items c.loop-line.rest.now c.loop-line.invariant.so_far none c.loop-line.number c.loop-line.invariant.place
+    faulty_from c.args.version c.args.text.now c.loop-line.records.items c.loop-line.rest.now c.loop-line.invariant.so_far none c.loop-line.number c.args.first c.loop-line.invariant.place
 
 pub returns-clause-back : goal.returns-clause-back
 returns-clause-back c =
     let none = not_ended c.args.version c.args.text.now c.loop-line.records.items c.loop-line.rest.now c.loop-line.invariant.so_far (no_first_line c.loop-line.rest.now c.in_default.ensures.cases) in
     no_trace c.args.version c.args.text.now c.loop-line.records.items c.loop-line.rest.now c.loop-line.invariant.so_far none
+
+pub returns-in_default-2-clause-spelled : goal.returns-in_default-2-clause-spelled
+returns-in_default-2-clause-spelled c =
+    let parts = parts_of (records_text c.args.version c.loop-line.records.items) (Some c.loop-line.rest.now) c.args.text.now c.loop-line.invariant.so_far.said in
+    have_texts c.args.version c.loop-line.records.items parts.0 parts.2

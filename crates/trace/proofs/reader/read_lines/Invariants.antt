@@ -8,8 +8,8 @@ use Rattle.trace.proofs.reader.read_lines.Given as goal
 abbrev pub invariant-loop-line : goal.invariant-loop-line
 invariant-loop-line l = record {
   so_far : IsReadSoFar l.version l.text l.records.items l.rest;
-  place : l.number ≡ length l.records.items + 2;
-  fits : l.number + length l.rest ≤ length l.text + 2;
+  place : l.number ≡ length l.records.items + l.first;
+  fits : l.number + length l.rest ≤ length l.text + l.first;
   text : shadow (Utf8 l.rest);
 }
 

@@ -1,0 +1,11 @@
+pub mod Cuts
+pub mod Numerals
+pub mod Fronts
+pub mod EachLine
+pub mod FreezeLine
+pub mod Whole
+pub mod Appended
+pub mod NoMarks
+pub mod Chains
+pub mod Begins
+pub mod Taken

@@ -1,0 +1,3 @@
+pub mod WholeText
+pub mod Continued
+pub mod OneText

@@ -7,7 +7,7 @@ use Rattle.world_calls.specs.declared.call_answer.CallAnswer.TheVariants.{Ok}
 use Rattle.world_calls.specs.declared.record.StoppedAt.{StoppedAt}
 use Rattle.world_calls.specs.declared.record.Record.{Record}
 use Rattle.world_calls.specs.declared.record.Record.TheVariants.{Called, Advance}
-use Rattle.world.specs.World.{Setup, World, opening}
+use Rattle.world.specs.World.{Setup, World, beginning}
 use Rattle.world.specs.Event.{Event, Reply, replies, went_on, result}
 use Rattle.world.specs.WorldRun.{Leads, WorldRun}
 use Rattle.world.specs.Flat.{events_of, flat}
@@ -30,9 +30,9 @@ from_one : (old new : NumberedState) (records : List Record) (one other : Record
 from_one old new records one other follows setup behind history =
     let next = follows records behind in
     let leads : WorldRun old.setup (flat (records ++ one ∷ [])) next.world = subst (λ (s : Setup). WorldRun s (flat (records ++ one ∷ [])) next.world) setup next.leads in
-    let a = leads_split old.setup (opening old.setup) (flat records) (events_of one) next.world (subst (λ (xs : List (Event × Reply)). WorldRun old.setup xs next.world) (flat_push records one) leads) in
-    let b = leads_split old.setup (opening old.setup) (flat records) (events_of other) history.0 (subst (λ (xs : List (Event × Reply)). WorldRun old.setup xs history.0) (flat_push records other) history.1) in
-    let same : b.0 ≡ a.0 = sym (world_after_leads old.setup (opening old.setup) (flat records) b.0 b.1) ∙ world_after_leads old.setup (opening old.setup) (flat records) a.0 a.1 in
+    let a = leads_split old.setup (beginning old.setup) (flat records) (events_of one) next.world (subst (λ (xs : List (Event × Reply)). WorldRun old.setup xs next.world) (flat_push records one) leads).1 in
+    let b = leads_split old.setup (beginning old.setup) (flat records) (events_of other) history.0 (subst (λ (xs : List (Event × Reply)). WorldRun old.setup xs history.0) (flat_push records other) history.1).1 in
+    let same : b.0 ≡ a.0 = sym (world_after_leads old.setup (beginning old.setup) (flat records) b.0 b.1) ∙ world_after_leads old.setup (beginning old.setup) (flat records) a.0 a.1 in
     record {
       before = a.0;
       after = next.world;

@@ -3,7 +3,7 @@ use Rattle.std.proofs.Common.{◌≡◌, ℕ, ◌+◌, ◌<◌, List, [], ◌∷
 use Rattle.std.proofs.lemmas.List.{length_push, take_at}
 use Rattle.world_calls.specs.declared.record.Record.{Record}
 use Rattle.world_calls.specs.declared.totals.Totals.{Totals}
-use Rattle.world.specs.World.{Setup, World, opening}
+use Rattle.world.specs.World.{Setup, World, beginning}
 use Rattle.world.specs.WorldRun.{WorldRun}
 use Rattle.world.specs.Flat.{flat}
 use Rattle.world.specs.TotalsOf.{TotalsOf, totals_in}
@@ -48,7 +48,7 @@ sums_are engine records count behind counted =
 pub refuses : (setup : Setup) (engine : NumberedState) (records : List Record) (count : ℕ) (totals : Totals) → IsBehind records engine → engine.setup ≡ setup → count ≡ length records → (sums_behind count engine ≡ totals → ⊥) → TotalsOf setup records totals → ⊥
 refuses setup engine records count totals behind same counted differ it =
     let leads : WorldRun setup (flat records) behind.world = subst (λ (s : Setup). WorldRun s (flat records) behind.world) same behind.leads in
-    let one : it.0 ≡ behind.world = sym (world_after_leads setup (opening setup) (flat records) it.0 it.1) ∙ world_after_leads setup (opening setup) (flat records) behind.world leads in
+    let one : it.0 ≡ behind.world = sym (world_after_leads setup (beginning setup) (flat records) it.0 it.1.1) ∙ world_after_leads setup (beginning setup) (flat records) behind.world leads.1 in
     differ (sums_are engine records count behind counted ∙ sym (it.2 ∙ ap (λ (w : World). totals_in records w) one))
 
 -- ---- the first line that does not follow

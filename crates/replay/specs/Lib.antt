@@ -1,3 +1,4 @@
 pub mod Replaying
+pub mod Continued
 pub mod OneVerdict
 pub mod OwnTrace

@@ -14,4 +14,4 @@ use Rattle.replay.specs.Replaying.{Replays}
 abbrev pub OwnTraceIsAccepted : Type 0
 OwnTraceIsAccepted = (engine : EngineState) (trace : Trace) (verdict : Result (Unit {0}) (OrMemory ReplayFault))
     → trace.version ≡ version_of engine.setup → trace.records.items ≡ engine.history → TotalsOf engine.setup engine.history trace.totals
-    → Replays engine.setup trace verdict → (verdict ≡ Ok (tt {0})) ⊎ (verdict ≡ Err OutOfMemory)
+    → Replays engine.setup 0 trace verdict → (verdict ≡ Ok (tt {0})) ⊎ (verdict ≡ Err OutOfMemory)

@@ -10,12 +10,13 @@ use Rattle.world.specs.World.{Setup, version_of}
 use Rattle.world.specs.TotalsOf.{TotalsOf}
 use Rattle.engine_core.specs.ByNumber.{NumberedState, IsBehind, IsHistory, RecordFollows, CannotFollow}
 use Rattle.replay.specs.declared.fault.ReplayFault.{ReplayFault}
-use Rattle.replay.specs.declared.fault.ReplayFault.TheVariants.{Header, Behind}
+use Rattle.replay.specs.declared.fault.ReplayFault.TheVariants.{Header, Carried, Behind}
 
 -- how a fault is printed: by the number of the line
 abbrev pub fault_text : ReplayFault → List ℕ
 fault_text Header = codes "X3 at 1"
-fault_text (Behind count) = codes "X3 at " ++ decimal (count + 2)
+fault_text (Carried count) = codes "X4 at " ++ decimal (count + 2)
+fault_text (Behind carried records) = codes "X3 at " ++ decimal (carried + records + 2)
 
 -- with one more nothing leads; or these are all, and the last line is not their sums
 abbrev pub StopsAt : Setup → List Record → Totals → ℕ → Type 0
@@ -31,16 +32,18 @@ pub record IsFirstFaulty (setup : Setup) (records : List Record) (totals : Total
 abbrev pub IsTraceOf : Setup → Trace → Type 0
 IsTraceOf setup trace = (trace.version ≡ version_of setup) × TotalsOf setup trace.records.items trace.totals
 
--- this line of the trace is the first that does not follow: its header, which is of the other version; or else one behind the header
-abbrev pub IsFaultyAt : Setup → Trace → ReplayFault → Type 0
-IsFaultyAt setup trace Header = trace.version ≢ version_of setup
-IsFaultyAt setup trace (Behind count) = (trace.version ≡ version_of setup) × IsFirstFaulty setup trace.records.items trace.totals count
+-- This line of the trace, which has so many carried lines, is the first that does not follow: its header, which is of another version; or
+-- else one of those after the carried lines.
+abbrev pub IsFaultyAt : Setup → ℕ → Trace → ReplayFault → Type 0
+IsFaultyAt setup lines trace Header = trace.version ≢ version_of setup
+IsFaultyAt setup lines trace (Carried count) = ⊥
+IsFaultyAt setup lines trace (Behind carried records) = (trace.version ≡ version_of setup) × (carried ≡ lines) × IsFirstFaulty setup trace.records.items trace.totals records
 
 -- what a replay says; want of memory says nothing
-abbrev pub Replays : Setup → Trace → Result (Unit {0}) (OrMemory ReplayFault) → Type 0
-Replays setup trace (Ok done) = IsTraceOf setup trace
-Replays setup trace (Err OutOfMemory) = Unit {0}
-Replays setup trace (Err (Fault fault)) = IsFaultyAt setup trace fault
+abbrev pub Replays : Setup → ℕ → Trace → Result (Unit {0}) (OrMemory ReplayFault) → Type 0
+Replays setup lines trace (Ok done) = IsTraceOf setup trace
+Replays setup lines trace (Err OutOfMemory) = Unit {0}
+Replays setup lines trace (Err (Fault fault)) = IsFaultyAt setup lines trace fault
 
 -- ---- inside
 

@@ -4,13 +4,15 @@ use base::OrMemory;
 use std::error::Error;
 use std::fmt;
 
-/// X3: which line is the first that does not follow.
+/// Which line of a trace is the first that does not follow.
 #[derive(Clone, Copy, Debug, PartialEq, Eq)]
 pub enum ReplayFault {
-    /// The header, which is line 1: the trace is of another version than the configuration's histories.
+    /// X3: the header, which is line 1. The trace is of another version than the configuration's histories.
     Header,
-    /// The line behind the header and so many records: it does not follow from those before it.
-    Behind(usize),
+    /// X4: the line after the header and so many carried lines. No engine of the configuration begins with these and with that line.
+    Carried(usize),
+    /// X3: the line after the header, so many carried lines and so many records. It does not follow from those before it.
+    Behind { carried: usize, records: usize },
 }
 
 /// Why a trace was not replayed to its end: memory was refused, or a line does not follow.
@@ -25,7 +27,10 @@ impl fmt::Display for ReplayFault {
     fn fmt<W: fmt::Write>(&self, f: &mut fmt::Formatter<W>) -> fmt::Result {
         match self {
             ReplayFault::Header => f.write_str("X3 at 1"),
-            ReplayFault::Behind(count) => write!(f, "X3 at {}", *count as u128 + 2),
+            ReplayFault::Carried(count) => write!(f, "X4 at {}", *count as u128 + 2),
+            ReplayFault::Behind { carried, records } => {
+                write!(f, "X3 at {}", *carried as u128 + *records as u128 + 2)
+            }
         }
     }
 }

@@ -27,24 +27,25 @@ pub fn replay<N: Notices>(
     trace: &Trace,
     notices: &N,
 ) -> Result<(), ReplayError>
-    ensures { Replays config.now trace.now result }
+    ensures { Replays config.now 0 trace.now result }
 {
     if !is_same_version(trace.version, Version::of(config.helpers())) {
         return Err(OrMemory::Fault(ReplayFault::Header));
     }
     let mut engine = NumberedEngine::open(alloc, config)?;
-    replay_on(&mut engine, trace, notices)
+    replay_on(&mut engine, 0, trace, notices)
 }
 
-// The same on an engine behind which there is nothing yet.
-fn replay_on<N: Notices>(
+/// The same on an engine behind which there is nothing yet. The trace has so many carried lines, by which a fault counts.
+pub(crate) fn replay_on<N: Notices>(
     engine: &mut NumberedEngine<'_>,
+    carried: usize,
     trace: &Trace,
     notices: &N,
 ) -> Result<(), ReplayError>
     requires nothing { IsBehind [] engine.old }
     requires version { trace.now.version ≡ version_of engine.old.setup }
-    ensures { Replays engine.old.setup trace.now result }
+    ensures { Replays engine.old.setup carried trace.now result }
 {
     let followed = followed(engine, &trace.records, notices)?;
     if followed == trace.records.len()
@@ -52,7 +53,10 @@ fn replay_on<N: Notices>(
     {
         Ok(())
     } else {
-        Err(OrMemory::Fault(ReplayFault::Behind(followed)))
+        Err(OrMemory::Fault(ReplayFault::Behind {
+            carried,
+            records: followed,
+        }))
     }
 }
 

@@ -10,7 +10,7 @@ accepted : OwnTraceIsAccepted
 accepted engine trace (Ok done) version records is says = inl refl
 accepted engine trace (Err OutOfMemory) version records is says = inr refl
 accepted engine trace (Err (Fault fault)) version records is says =
-    absurd (not_accepted engine.setup trace fault says (version, subst (λ (rs : List Record). TotalsOf engine.setup rs trace.totals) (sym records) is))
+    absurd (not_accepted engine.setup 0 trace fault says (version, subst (λ (rs : List Record). TotalsOf engine.setup rs trace.totals) (sym records) is))
 
 pub returns : goal.returns
 returns c = accepted

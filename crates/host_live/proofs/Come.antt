@@ -1,12 +1,12 @@
 -- How the reading of lines goes on.
-use Rattle.std.proofs.Common.{inl, inr, ◌≡◌, ◌∙◌, ◌≤◌, ◌+◌, ◌&&◌, ℕ, Bool, true, false, Option, Some, None, List, [], ◌∷◌, ◌++◌, length, take, drop, refl, sym, ap, subst, append_assoc, append-nil, length-drop, arith}
+use Rattle.std.proofs.Common.{inr, ◌≡◌, ◌∙◌, ◌≤◌, ◌+◌, ◌&&◌, ℕ, Bool, true, false, Option, Some, None, List, [], ◌∷◌, ◌++◌, length, take, drop, refl, sym, ap, subst, append_assoc, append-nil, length-drop, arith}
 use Rattle.std.specs.Prelude.{◌≢◌, IfSome}
 use Rattle.std.specs.List.{list_all}
 use Rattle.std.proofs.lemmas.List.{drop-drop, drop_all, take-append-drop}
 use Rattle.std.proofs.lemmas.List.Folds.{list_all-append}
 use Rattle.host_live.specs.Drafts.{IsDraftOf}
 use Rattle.host_live.specs.Inputs.{CameState, Comes, all_of}
-use Rattle.host_live.specs.LinesCome.{EndsALine, IsAll, IsOneLine, IsOver, IsTaken, Stands, TellsCut, TellsLine, is_in_line}
+use Rattle.host_live.specs.LinesCome.{IsAll, IsOneLine, IsOver, IsTaken, Stands, TellsCut, TellsLine, is_in_line}
 use Rattle.host_live.specs.declared.input.Came.TheVariants as came
 use Rattle.host_live.specs.declared.lines.Lines.{Lines}
 

@@ -7,8 +7,8 @@ use Rattle.host_live.specs.Answering.{Answer, AreBehind, with_answers}
 use Rattle.host_live.specs.Growth.{GrowsAs, GrowsBy, PrintedState}
 use Rattle.host_live.specs.Inputs.{CameState, all_of}
 use Rattle.host_live.specs.LinesCome.{Stands, TellsLine, Waits}
-use Rattle.host_live.specs.Served.{AnswersTurn, AreDrivenFirst, Carries, CarriesCut, DrivesFirst, EndsOrPart, GoesOnOr, GrowsWith, IsHandedOn, IsNow, IsPrintedBehind, IsGoneOn, IsGoneOnInPart, IsLineNow, IsTurned, IsTurnedInPart, NextIs, TurnsOr, in_drives, in_first, in_turns, in_turns_on, at_last}
-use Rattle.host_live.specs.Turns.{ActsOn, AreDriven, AreOfRuns, DrivesAll, Ends, Follows, IsOfClock, IsReading, Leads, LeadsInPart, OneTurn, ReadThen, Stops, StopsAt, Turn, TurnInPart, Turns, answer_to, at_reading, fault_of, in_line, is_answered, whole_line, cut_line, timer_due, no_turn, one_more, at_end, at_quit, asked_for, carried, led_to_none, led_to_part, no_request, no_text, part_all, passed_over}
+use Rattle.host_live.specs.Served.{AnswersTurn, AreDrivenFirst, Carries, CarriesCut, DrivesFirst, EndsOrPart, GoesOnOr, GrowsWith, IsNow, IsPrintedBehind, IsGoneOn, IsGoneOnInPart, IsLineNow, IsTurned, IsTurnedInPart, NextIs, TurnsOr, in_drives, in_first, in_turns, in_turns_on, at_last}
+use Rattle.host_live.specs.Turns.{ActsOn, AreDriven, AreOfRuns, DrivesAll, Ends, IsOfClock, IsReading, Leads, LeadsInPart, OneTurn, ReadThen, Stops, StopsAt, Turn, TurnInPart, Turns, answer_to, at_reading, fault_of, in_line, is_answered, whole_line, cut_line, timer_due, no_turn, one_more, at_end, at_quit, asked_for, carried, led_to_none, led_to_part, no_request, no_text, part_all, passed_over}
 use Rattle.host_live.specs.declared.host.Served.{Served}
 use Rattle.host_live.specs.declared.host.Served.TheVariants as served
 use Rattle.host_live.specs.declared.lines.Lines.{Lines}

@@ -10,12 +10,14 @@ use Rattle.world_calls.specs.declared.record.Record.{Record}
 use Rattle.world_calls.specs.declared.totals.Totals.{Totals}
 use Rattle.world_calls.specs.declared.trace.Version.{Version}
 use Rattle.engine_core.specs.ByNumber.{NumberedState, IsBehind, IsHistory, opened_numbered, sums_behind}
+use Rattle.engine_core.proofs.Numbered.{behind_begun}
 use Rattle.trace.specs.Growing.{FailsBySink, Goes, IsFront, StopsIn}
 use Rattle.trace.specs.Sinks.{HasFailed}
 use Rattle.trace.specs.TraceText.{header, records_text, totals_text}
 use Rattle.trace.proofs.Grown.{goes_both, stops_on}
 use Rattle.trace.proofs.Printing.{append_nothing, no_records}
-use Rattle.world.specs.World.{Setup, World, opening, version_of}
+use Rattle.world.specs.Beginning.{Begins}
+use Rattle.world.specs.World.{Setup, World, beginning, version_of}
 use Rattle.world.specs.WorldRun.{WorldRun}
 use Rattle.world.specs.Event.{Event, Reply}
 use Rattle.world.specs.Flat.{events_of, flat}
@@ -33,25 +35,22 @@ use Rattle.host_live.specs.Telling.{Continues, IsBegun, IsContinued, IsContinued
 -- ---- nothing was asked yet
 
 -- no engine was opened
-abbrev pub begun_unopened : (setup : Setup) (base : Option (List ℕ)) → IsBegun setup base base
-begun_unopened setup base = record {
+abbrev pub begun_unopened : (setup : Setup) (base : Option (List ℕ)) → Begins setup → IsBegun setup base base
+begun_unopened setup base begins = record {
   records = [];
-  totals = totals_in [] (opening setup);
-  sums = (opening setup, refl, refl);
+  totals = totals_in [] (beginning setup);
+  sums = (beginning setup, (begins, refl), refl);
   bytes = header (version_of setup) ++ [];
   is = inr (0, ap (option_append (Some (header (version_of setup)))) (no_records (version_of setup)));
   front = record { handed = []; rest = header (version_of setup) ++ []; whole = refl; told = Appends-nil base };
 }
-
-pub opened_behind : (setup : Setup) → IsBehind [] (opened_numbered setup)
-opened_behind setup = record { world = opening setup; leads = refl; is = refl }
 
 -- ---- some records were made, and went out as far as they did
 
 clash : {A : Type 0} (b : Bool) → b ≡ false → b ≡ true → A
 clash b is other = absurd (let bad : false ≡ true = sym is ∙ other in cc)
 
-module _ (setup : Setup) (engine : PrintedState) (base at : Option (List ℕ)) (failed fails : ℕ) (made : List Record) (grows : GrowsBy made (opened_printed setup) base failed engine at fails) where
+module _ (setup : Setup) (engine : PrintedState) (base at : Option (List ℕ)) (failed fails : ℕ) (made : List Record) (begins : Begins setup) (grows : GrowsBy made (opened_printed setup) base failed engine at fails) where
   abbrev version : Version
   version = version_of setup
 
@@ -59,7 +58,7 @@ module _ (setup : Setup) (engine : PrintedState) (base at : Option (List ℕ)) (
   sums = sums_behind engine.printed.count engine.engine
 
   behind : IsBehind made engine.engine
-  behind = grows.follows [] (opened_behind setup)
+  behind = grows.follows [] (behind_begun setup begins)
 
   counted : engine.printed.count ≡ length made
   counted = omega (arith, grows.printed.count)
@@ -167,8 +166,8 @@ fails_so (Err fault) failed fails it = it
 -- a front of a history is one
 shorter : (setup : Setup) (xs ys : List Record) → IsHistory setup (xs ++ ys) → IsHistory setup xs
 shorter setup xs ys history =
-    let parts = leads_split setup (opening setup) (flat xs) (flat ys) history.0 (subst (λ (es : List (Event × Reply)). WorldRun setup es history.0) (flat_map-append events_of xs ys) history.1) in
-    (parts.0, parts.1)
+    let parts = leads_split setup (beginning setup) (flat xs) (flat ys) history.0 (subst (λ (es : List (Event × Reply)). WorldRun setup es history.0) (flat_map-append events_of xs ys) history.1).1 in
+    (parts.0, (history.1.0, parts.1))
 
 module _ (start : NumberedState) (count : ℕ) (engine : PrintedState) (base at : Option (List ℕ)) (failed fails : ℕ) (made : List Record) (grows : GrowsBy made (resumed_printed count start) base failed engine at fails) (records : List Record) (behind_start : IsBehind records start) where
   abbrev its : Version
@@ -267,9 +266,9 @@ begun_is : (came : Option CameState) → IfSome came (λ known. (rest : List ℕ
 begun_is None = tt
 begun_is (Some known) = ([], sym (append-nil (all_of known)))
 
-pub unopened_turns : (setup : Setup) (manner : Manner) (came : Option CameState) (base : Option (List ℕ)) (given : Option (List Answer)) → IsServedInPart setup manner came came base base given given
-unopened_turns setup manner came base given = record {
-  out = begun_unopened setup base;
+pub unopened_turns : (setup : Setup) (manner : Manner) (came : Option CameState) (base : Option (List ℕ)) (given : Option (List Answer)) → Begins setup → IsServedInPart setup manner came came base base given given
+unopened_turns setup manner came base given begins = record {
+  out = begun_unopened setup base begins;
   answers = [];
   are_answers = none_given given;
   turned = in_turns (record {

@@ -1,5 +1,5 @@
 -- What a live engine served: of its input, of its answers, and of the trace that is out.
-use Rattle.std.specs.Prelude.{◌≡◌, ◌≢◌, ◌⊎◌, ℕ, Bool, true, false, Option, Some, IfSome, Result, Ok, Err, List, [], ◌++◌, MatchBool, ⊤}
+use Rattle.std.specs.Prelude.{◌≡◌, ◌≢◌, ◌⊎◌, ℕ, Bool, true, false, Option, Some, Result, Ok, Err, List, [], ◌++◌, MatchBool, ⊤}
 use Rattle.world_calls.specs.declared.record.Record.{Record}
 use Rattle.world.specs.World.{Setup, version_of}
 use Rattle.engine_core.specs.ByNumber.{NumberedState, opened_numbered}
@@ -7,7 +7,7 @@ use Rattle.trace.specs.TraceText.{header}
 use Rattle.host_live.specs.Answering.{Answer, AreBehind, IsLong, with_answers}
 use Rattle.host_live.specs.Drafts.{IsDraftOf}
 use Rattle.host_live.specs.Growth.{GrowsBy, PrintedState}
-use Rattle.host_live.specs.Inputs.{CameState, all_of, known_of}
+use Rattle.host_live.specs.Inputs.{CameState, known_of}
 use Rattle.host_live.specs.LinesCome.{IsAll, Stands}
 use Rattle.host_live.specs.Telling.{IsBegun, IsContinued, IsContinuedInPart, IsOutBehind, IsWrittenOut}
 use Rattle.host_live.specs.Turns.{AreDriven, AreOfRuns, Ends, Follows, IsOfClock, IsReading, OneTurn, Quits, Stops, StopsAt, Turn, TurnInPart, answer_to, is_answered}

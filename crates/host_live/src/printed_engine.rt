@@ -8,6 +8,7 @@ ghost use Rattle.engine_core.specs.ByNumber.{guests_of, sums_behind};
 ghost use Rattle.engine_core.specs.Looking.{HasRunOut, first_out};
 ghost use Rattle.engine_transport.specs.Freezing.{IsNextDue};
 ghost use Rattle.trace.specs.Sinks.{HasFailed};
+ghost use Rattle.world.specs.Beginning.{Begins};
 ghost use Rattle.world.specs.World.{Setup};
 ghost use Rattle.world_calls.specs.declared.record.Record.{Record as TheRecord};
 ghost use Rattle.host_live.specs.Answering.{Answers};
@@ -65,7 +66,8 @@ fn is_exit(entry: &Record) -> bool
 impl<'a> PrintedEngine<'a> {
     /// An engine of which nothing was asked. The first line of its trace waits.
     pub(crate) fn open(alloc: Global, config: &'a Config) -> Result<Self, AllocError>
-        ensures { IfOk result (λ opened. opened ≡ opened_printed config.now) }
+        ensures opened { IfOk result (λ opened. opened ≡ opened_printed config.now) }
+        ensures begins { Begins config.now }
     {
         let engine = NumberedEngine::open(alloc, config)?;
         let printed = Printed::of(Version::of(config.helpers()));
@@ -230,7 +232,7 @@ impl<'a> PrintedEngine<'a> {
 
     /// Prints the last line, hands all on, and says that nothing more comes. It reports a write that fails, or failed before.
     pub(crate) fn end<S: Outlet>(self, out: &mut S) -> Result<(), WriteFailed>
-        ensures told { (setup : Setup) (base : Option (List ℕ)) (failed : ℕ) (records : List TheRecord) → GrowsBy records (opened_printed setup) base failed self.entry (S.bytes out.old) (S.failures out.old) → ServesBy setup base records result (S.bytes out.new) }
+        ensures told { (setup : Setup) (base : Option (List ℕ)) (failed : ℕ) (records : List TheRecord) → Begins setup → GrowsBy records (opened_printed setup) base failed self.entry (S.bytes out.old) (S.failures out.old) → ServesBy setup base records result (S.bytes out.new) }
         ensures failed { (setup : Setup) (base : Option (List ℕ)) (failed : ℕ) (records : List TheRecord) → GrowsBy records (opened_printed setup) base failed self.entry (S.bytes out.old) (S.failures out.old) → IfErr result (λ _. HasFailed failed (S.failures out.new)) }
         ensures answers { S.answers out.new ≡ S.answers out.old }
     {

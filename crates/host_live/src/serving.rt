@@ -4,6 +4,7 @@
 ghost use Rattle.std.specs.Prelude.{◌≡◌, ◌≢◌, ◌<◌, ◌^◌, ◌-◌, ℕ, [], Option, List, Ok, Err, IfErr, IfOk, IsTrue, OnErr, OnOk, false, true};
 ghost use Rattle.engine_core.specs.ByNumber.{IsBehind, NumberedState};
 ghost use Rattle.trace.specs.Sinks.{HasFailed};
+ghost use Rattle.world.specs.Beginning.{Begins};
 ghost use Rattle.world.specs.World.{Setup};
 ghost use Rattle.world_calls.specs.declared.record.Record.{Record as TheRecord};
 ghost use Rattle.host_live.specs.Drafts.{IsDraftOf};
@@ -140,8 +141,8 @@ fn serve_all<I: Input, S: Outlet, N: Reports>(
     out: &mut S,
     reports: &mut N,
 ) -> Result<(), LiveFault>
-    ensures told { (setup : Setup) → host.entry.engine ≡ opened_printed setup → Serves setup (S.bytes out.old) result (S.bytes out.new) }
-    ensures turned { (setup : Setup) → host.entry.engine ≡ opened_printed setup → ServesTurns setup manner (I.came input.old) (I.came input.new) (S.bytes out.old) (S.answers out.old) result (S.bytes out.new) (S.answers out.new) }
+    ensures told { (setup : Setup) → Begins setup → host.entry.engine ≡ opened_printed setup → Serves setup (S.bytes out.old) result (S.bytes out.new) }
+    ensures turned { (setup : Setup) → Begins setup → host.entry.engine ≡ opened_printed setup → ServesTurns setup manner (I.came input.old) (I.came input.new) (S.bytes out.old) (S.answers out.old) result (S.bytes out.new) (S.answers out.new) }
     ensures unread { result ≡ Err Unread → IsTrue (I.has_failed input.new) }
     ensures still { OnOk result (I.has_failed input.new ≡ I.has_failed input.old) }
     ensures ended { manner.is_told ≡ false → OnOk result (IsTrue (I.has_ended input.new)) }
@@ -536,7 +537,7 @@ fn stop<S: Outlet>(host: &mut Host<'_>, out: &mut S, fault: LiveFault) -> LiveFa
 
 // Prints the last line.
 fn end<S: Outlet>(host: Host<'_>, out: &mut S) -> Result<(), LiveFault>
-    ensures told { (setup : Setup) (base : Option (List ℕ)) (failed : ℕ) (records : List TheRecord) → GrowsBy records (opened_printed setup) base failed host.entry.engine (S.bytes out.old) (S.failures out.old) → ServesBy setup base records result (S.bytes out.new) }
+    ensures told { (setup : Setup) (base : Option (List ℕ)) (failed : ℕ) (records : List TheRecord) → Begins setup → GrowsBy records (opened_printed setup) base failed host.entry.engine (S.bytes out.old) (S.failures out.old) → ServesBy setup base records result (S.bytes out.new) }
     ensures answers { S.answers out.new ≡ S.answers out.old }
     ensures failed { IfErr result (λ fault. fault ≡ Unwritten) }
     ensures unwritten { (setup : Setup) (base : Option (List ℕ)) (failed : ℕ) (records : List TheRecord) → GrowsBy records (opened_printed setup) base failed host.entry.engine (S.bytes out.old) (S.failures out.old) → IfErr result (λ _. HasFailed failed (S.failures out.new)) }

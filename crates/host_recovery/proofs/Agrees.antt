@@ -20,7 +20,7 @@ use Rattle.trace.proofs.FirstFaulty.{one_faulty_line}
 use Rattle.trace.proofs.Printing.{append_nothing}
 use Rattle.trace.proofs.SoFar.{behind_header, one_header}
 use Rattle.replay.specs.declared.fault.ReplayFault.{ReplayFault}
-use Rattle.replay.specs.declared.fault.ReplayFault.TheVariants.{Header, Behind}
+use Rattle.replay.specs.declared.fault.ReplayFault.TheVariants.{Header, Carried, Behind}
 use Rattle.replay.specs.Replaying.{IsFaultyAt, IsFirstFaulty, IsTraceOf}
 use Rattle.replay.proofs.Replayed.{one_behind, sums_are}
 use Rattle.host_recovery.specs.AgreesWithReplay.{AgreesWithReplay, IsVerdictOn}
@@ -81,11 +81,13 @@ module _ (setup : Setup) (trace : Trace) (text : List ℕ) (e : trace_text trace
       let sums : trace.totals ≡ sums_behind (length it.records) recovered.engine = subst (λ (o : Option Totals). AreSums o (length it.records) recovered.engine) (sym whole.sums_are) it.are_sums in
       (whole.version_is, subst (λ (rs : List Record). TotalsOf setup rs trace.totals) (sym whole.records_are) (sums_of_records setup it.records trace.totals recovered.engine it.setup_is it.behind sums))
 
-  unfollowed_so : (version : Version) (records : List Record) (sums : Option Totals) (torn : List ℕ) (fault : ReplayFault) → IsSegment version text records sums torn → IsUnfollowed setup version records sums fault → IsFaultyAt setup trace fault
+  unfollowed_so : (version : Version) (records : List Record) (sums : Option Totals) (torn : List ℕ) (fault : ReplayFault) → IsSegment version text records sums torn → IsUnfollowed setup version records sums fault → IsFaultyAt setup 0 trace fault
   unfollowed_so version records sums torn Header segment differs = λ same. differs (sym (whole_of version records sums torn segment).version_is ∙ same)
-  unfollowed_so version records sums torn (Behind count) segment stops =
+  unfollowed_so version records sums torn (Carried count) segment stops = stops
+  unfollowed_so version records sums torn (Behind carried count) segment stops =
       let whole = whole_of version records sums torn segment in (
         whole.version_is ∙ stops.0,
+        stops.2,
         first_faulty setup trace.records.items trace.totals count
             (subst (λ (rs : List Record). StopsBehind setup rs (Some trace.totals) count) (sym whole.records_are)
             (subst (λ (o : Option Totals). StopsBehind setup records o count) (sym whole.sums_are) stops.1)),

@@ -26,7 +26,7 @@ use Rattle.trace.proofs.Printing.{append_three, append_nothing, no_records, noth
 use Rattle.trace.proofs.Shown.{lines_are_short}
 use Rattle.trace.proofs.SoFar.{begin, cut_line, not_ended, one_header}
 use Rattle.replay.specs.declared.fault.ReplayFault.{ReplayFault}
-use Rattle.replay.specs.declared.fault.ReplayFault.TheVariants.{Header, Behind}
+use Rattle.replay.specs.declared.fault.ReplayFault.TheVariants.{Header, Carried, Behind}
 use Rattle.replay.proofs.OneVerdict.{shorter}
 use Rattle.host_recovery.specs.AnyFront.{IsBehindWhole, IsTakenUp, RecoversFromAnyFront}
 use Rattle.host_recovery.specs.Recovering.{IsBroken, IsItsOwn, IsRecovered, IsSegment, IsUnfollowed, MayBeLeft, Recovers, StopsBehind, at_record, at_end}
@@ -284,7 +284,8 @@ module _ (setup : Setup) (records : List Record) (totals : Totals) (front lines 
 
   not_unfollowed : (its : Version) (others : List Record) (other : Option Totals) (left : List ℕ) (fault : ReplayFault) → IsSegment its front others other left → IsUnfollowed setup its others other fault → ⊥
   not_unfollowed its others other left Header segment differs = differs (segment_way its others other left segment).0
-  not_unfollowed its others other left (Behind count) segment stops =
+  not_unfollowed its others other left (Carried count) segment stops = stops
+  not_unfollowed its others other left (Behind carried count) segment stops =
       let way = segment_way its others other left segment in
       stops_nowhere others other count (records_are its others other left segment) (way.1.sums_are segment.own_sums) stops.1
 

@@ -6,7 +6,7 @@ use Rattle.world_calls.specs.declared.trace.Version.{Version}
 use Rattle.world.specs.World.{Setup}
 use Rattle.engine_core.specs.ByNumber.{NumberedState, IsHistory, sums_behind}
 use Rattle.replay.specs.declared.fault.ReplayFault.{ReplayFault}
-use Rattle.replay.specs.declared.fault.ReplayFault.TheVariants.{Header, Behind}
+use Rattle.replay.specs.declared.fault.ReplayFault.TheVariants.{Header, Carried, Behind}
 use Rattle.replay.specs.Replaying.{FollowsIf}
 use Rattle.replay.proofs.Replayed.{history_behind, refuses}
 use Rattle.host_recovery.specs.Recovering.{at_record, at_end, IsUnfollowed}
@@ -16,23 +16,27 @@ use Rattle.host_recovery.specs.Reads.{Leads}
 
 more_records : (setup : Setup) (version : Version) (records : List Record) (entry : Record) (fault : ReplayFault) → IsUnfollowed setup version records None fault → IsUnfollowed setup version (records ++ entry ∷ []) None fault
 more_records setup version records entry Header is = is
-more_records setup version records entry (Behind count) is = (
+more_records setup version records entry (Carried count) is = is
+more_records setup version records entry (Behind carried count) is = (
   is.0,
   elim is.1 [
     | at_record front told more whole place lead none ↦
         at_record front told (more ++ entry ∷ []) (ap (λ (rs : List Record). rs ++ entry ∷ []) whole ∙ append_assoc front (told ∷ more) (entry ∷ [])) place lead none
     | at_end totals sums place lead none ↦ absurd (let bad : None ≡ Some totals = sums in cc)
   ],
+  is.2,
 )
 
 then_end : (setup : Setup) (version : Version) (records : List Record) (totals : Totals) (fault : ReplayFault) → IsUnfollowed setup version records None fault → IsUnfollowed setup version records (Some totals) fault
 then_end setup version records totals Header is = is
-then_end setup version records totals (Behind count) is = (
+then_end setup version records totals (Carried count) is = is
+then_end setup version records totals (Behind carried count) is = (
   is.0,
   elim is.1 [
     | at_record front told more whole place lead none ↦ at_record front told more whole place lead none
     | at_end others sums place lead none ↦ absurd (let bad : None ≡ Some others = sums in cc)
   ],
+  is.2,
 )
 
 -- a line did not follow before
@@ -80,13 +84,14 @@ module _ (setup : Setup) (version : Version) (records : List Record) (fault : Op
   follows_so entry false is follows same after still = absurd (let bad : false ≡ true = is in cc)
 
   -- or it does not
-  pub stops_so : (entry : Record) (yes : Bool) (count : ℕ) → yes ≡ false → FollowsIf yes old entry new → count ≡ length records → (after : Option ReplayFault) → after ≡ Some (Behind count) → Leads setup version (records ++ entry ∷ []) None after new
+  pub stops_so : (entry : Record) (yes : Bool) (count : ℕ) → yes ≡ false → FollowsIf yes old entry new → count ≡ length records → (after : Option ReplayFault) → after ≡ Some (Behind 0 count) → Leads setup version (records ++ entry ∷ []) None after new
   stops_so entry true count is follows counted after still = absurd (let bad : true ≡ false = is in cc)
   stops_so entry false count is cannot counted after still =
       subst (λ (o : Option ReplayFault). Leads setup version (records ++ entry ∷ []) None o new) (sym still) (
         lead.0,
         at_record records entry [] refl counted (history_behind setup old records lead.1 lead.2)
             (λ history. cannot records lead.2 (subst (λ (s : Setup). IsHistory s (records ++ entry ∷ [])) (sym lead.1) history)),
+        refl,
       )
 
   -- the last line has their sums
@@ -96,9 +101,10 @@ module _ (setup : Setup) (version : Version) (records : List Record) (fault : Op
       (lead.0, lead.1, lead.2, is ∙ ap (λ (n : ℕ). sums_behind n old) counted)
 
   -- or it has not
-  pub no_sums_so : (totals : Totals) (count : ℕ) → count ≡ length records → (sums_behind count old ≡ totals → ⊥) → (after : Option ReplayFault) → after ≡ Some (Behind count) → Leads setup version records (Some totals) after old
+  pub no_sums_so : (totals : Totals) (count : ℕ) → count ≡ length records → (sums_behind count old ≡ totals → ⊥) → (after : Option ReplayFault) → after ≡ Some (Behind 0 count) → Leads setup version records (Some totals) after old
   no_sums_so totals count counted differ after still =
       subst (λ (o : Option ReplayFault). Leads setup version records (Some totals) o old) (sym still) (
         lead.0,
         at_end totals refl counted (history_behind setup old records lead.1 lead.2) (refuses setup old records count totals lead.2 lead.1 counted differ),
+        refl,
       )

@@ -9,9 +9,11 @@ use Rattle.base.specs.declared.or_memory.OrMemory.TheVariants.{Fault}
 use Rattle.world_calls.specs.declared.record.Record.{Record}
 use Rattle.world_calls.specs.declared.totals.Totals.{Totals}
 use Rattle.world_calls.specs.declared.trace.Version.{Version}
-use Rattle.world.specs.World.{Setup, opening, version_of}
+use Rattle.world.specs.Beginning.{Begins}
+use Rattle.world.specs.World.{Setup, version_of}
 use Rattle.world.specs.Lawful.{IsLawful}
 use Rattle.engine_core.specs.ByNumber.{NumberedState, IsBehind, opened_numbered}
+use Rattle.engine_core.proofs.Numbered.{behind_begun}
 use Rattle.trace_lines.specs.Written.{Reads}
 use Rattle.trace_lines.proofs.Tests.{parts_of, same_text}
 use Rattle.trace.specs.Reading.{HasNoLine, MayNotFollow, front_lines, front_text}
@@ -24,7 +26,7 @@ use Rattle.trace.proofs.Printing.{append_three, no_records, records_push}
 use Rattle.trace.proofs.SoFar.{begin, not_a_line, not_ended}
 use Rattle.host_recovery.specs.Sources.{IsAll}
 use Rattle.replay.specs.declared.fault.ReplayFault.{ReplayFault}
-use Rattle.replay.specs.declared.fault.ReplayFault.TheVariants.{Header, Behind}
+use Rattle.replay.specs.declared.fault.ReplayFault.TheVariants.{Header, Carried, Behind}
 use Rattle.host_recovery.specs.Recovering.{Answers, AreSums, IsItsOwn, IsSegment, IsUnfollowed, MayBeLeft}
 use Rattle.host_recovery.specs.Reads.{IsDone, IsFirstFault, Leads, ReadingState, StandsAt, TookRecord, TookEnd}
 use Rattle.host_recovery.specs.declared.fault.RecoveryFault.{RecoveryFault}
@@ -262,19 +264,20 @@ took_end setup from now line ahead old new stands took = record {
 
 -- ---- the first line was read
 
-first_leads : (setup : Setup) (version its : Version) (fault : Option ReplayFault) (engine : NumberedState) → IsFirstFault version its fault → its ≡ version_of setup → engine ≡ opened_numbered setup → Leads setup version [] None fault engine
-first_leads setup version its None engine is same opened = (
+first_leads : (setup : Setup) (version its : Version) (fault : Option ReplayFault) (engine : NumberedState) → Begins setup → IsFirstFault version its fault → its ≡ version_of setup → engine ≡ opened_numbered setup → Leads setup version [] None fault engine
+first_leads setup version its None engine begins is same opened = (
   is ∙ same,
   ap (λ (e : NumberedState). e.setup) opened,
-  subst (IsBehind []) (sym opened) (record { world = opening setup; leads = refl; is = refl }),
+  subst (IsBehind []) (sym opened) (behind_begun setup begins),
   tt,
 )
-first_leads setup version its (Some Header) engine is same opened = λ e. is (e ∙ sym same)
-first_leads setup version its (Some (Behind count)) engine is same opened = absurd is
+first_leads setup version its (Some Header) engine begins is same opened = λ e. is (e ∙ sym same)
+first_leads setup version its (Some (Carried count)) engine begins is same opened = absurd is
+first_leads setup version its (Some (Behind carried count)) engine begins is same opened = absurd is
 
-pub stands_first : (setup : Setup) (from now : Option (List ℕ)) (its : Version) (ahead : List ℕ) (reading : ReadingState) → IsLawful setup → Consumes from now (header reading.version ++ ahead)
+pub stands_first : (setup : Setup) (from now : Option (List ℕ)) (its : Version) (ahead : List ℕ) (reading : ReadingState) → IsLawful setup → Begins setup → Consumes from now (header reading.version ++ ahead)
     → IsFirstFault reading.version its reading.fault → its ≡ version_of setup → reading.engine ≡ opened_numbered setup → reading.count ≡ 0 → reading.whole ≡ length (header reading.version) → StandsAt setup from now None ahead reading
-stands_first setup from now its ahead reading lawful consumed fault same opened none whole = record {
+stands_first setup from now its ahead reading lawful begins consumed fault same opened none whole = record {
   lawful = lawful;
   records = [];
   read = header reading.version;
@@ -284,5 +287,5 @@ stands_first setup from now its ahead reading lawful consumed fault same opened 
   consumed = consumed;
   count = none;
   whole = whole;
-  leads = first_leads setup reading.version its reading.fault reading.engine fault same opened;
+  leads = first_leads setup reading.version its reading.fault reading.engine begins fault same opened;
 }

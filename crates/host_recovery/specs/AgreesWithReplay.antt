@@ -20,7 +20,7 @@ IsVerdictOn setup trace (Err OutOfMemory) = Unit {0}
 IsVerdictOn setup trace (Err (Fault Unread)) = Unit {0}
 IsVerdictOn setup trace (Err (Fault TooLong)) = Unit {0}
 IsVerdictOn setup trace (Err (Fault (Form fault))) = ⊥
-IsVerdictOn setup trace (Err (Fault (Unfollowed fault))) = IsFaultyAt setup trace fault
+IsVerdictOn setup trace (Err (Fault (Unfollowed fault))) = IsFaultyAt setup 0 trace fault
 
 -- Of the text of a trace recovery says what a replay of the trace says; and a line that is not of the form is told with the number that a
 -- reader of the text tells.

@@ -14,7 +14,7 @@ use Rattle.trace_lines.specs.Written.{Reads}
 use Rattle.trace.specs.Reading.{front_text}
 use Rattle.trace.specs.TraceText.{entry_text, header, sums_text}
 use Rattle.replay.specs.declared.fault.ReplayFault.{ReplayFault}
-use Rattle.replay.specs.declared.fault.ReplayFault.TheVariants.{Header, Behind}
+use Rattle.replay.specs.declared.fault.ReplayFault.TheVariants.{Header, Carried, Behind}
 use Rattle.host_recovery.specs.Recovering.{Answers, AreSums, IsItsOwn, IsUnfollowed, MayBeLeft}
 use Rattle.host_recovery.specs.declared.fault.RecoveryFault.{RecoveryFault}
 use Rattle.host_recovery.specs.declared.reading.Took.{Took}
@@ -34,7 +34,8 @@ pub record ReadingState : Type 0 where
 abbrev pub IsFirstFault : Version → Version → Option ReplayFault → Type 0
 IsFirstFault version its None = version ≡ its
 IsFirstFault version its (Some Header) = version ≢ its
-IsFirstFault version its (Some (Behind count)) = ⊥
+IsFirstFault version its (Some (Carried count)) = ⊥
+IsFirstFault version its (Some (Behind carried count)) = ⊥
 
 -- the records lead, and the engine is behind them; or which line is the first that does not follow
 abbrev pub Leads : Setup → Version → List Record → Option Totals → Option ReplayFault → NumberedState → Type 0

@@ -17,7 +17,7 @@ use Rattle.trace.specs.Sinks.{HasFailed}
 use Rattle.trace.specs.TraceText.{entry_text, header, sums_text}
 use Rattle.trace.specs.declared.fault.TraceFault.TheVariants.{Header as NoHeader, Line}
 use Rattle.replay.specs.declared.fault.ReplayFault.{ReplayFault}
-use Rattle.replay.specs.declared.fault.ReplayFault.TheVariants.{Header, Behind}
+use Rattle.replay.specs.declared.fault.ReplayFault.TheVariants.{Header, Carried, Behind}
 use Rattle.host_recovery.specs.Sources.{IsAll}
 use Rattle.host_recovery.specs.declared.recovering.TheConstants.{MOST_WHOLE}
 use Rattle.host_recovery.specs.declared.recovering.Recovered.{Recovered}
@@ -56,7 +56,8 @@ pub data StopsBehind (setup : Setup) (records : List Record) (sums : Option Tota
 -- this line is the first that does not follow: the first of all, which is of another version; or one behind it
 abbrev pub IsUnfollowed : Setup → Version → List Record → Option Totals → ReplayFault → Type 0
 IsUnfollowed setup version records sums Header = version ≢ version_of setup
-IsUnfollowed setup version records sums (Behind count) = (version ≡ version_of setup) × StopsBehind setup records sums count
+IsUnfollowed setup version records sums (Carried count) = ⊥
+IsUnfollowed setup version records sums (Behind carried count) = (version ≡ version_of setup) × StopsBehind setup records sums count × (carried ≡ 0)
 
 -- the last line, if it is there, has the sums behind so many records
 abbrev pub AreSums : Option Totals → ℕ → NumberedState → Type 0

@@ -145,7 +145,10 @@ impl<'a> Reading<'a> {
         if follows(&mut self.engine, entry)? {
             return Ok(());
         }
-        self.fault = Some(ReplayFault::Behind(self.count));
+        self.fault = Some(ReplayFault::Behind {
+            carried: 0,
+            records: self.count,
+        });
         Ok(())
     }
 
@@ -160,7 +163,10 @@ impl<'a> Reading<'a> {
         if is_same(self.engine.totals(self.count as u64), totals) {
             return;
         }
-        self.fault = Some(ReplayFault::Behind(self.count));
+        self.fault = Some(ReplayFault::Behind {
+            carried: 0,
+            records: self.count,
+        });
     }
 
     /// The engine that stands behind all lines, unless one did not follow.

@@ -9,7 +9,7 @@ use Rattle.host_journal.proofs.Started.{opened_stands}
 use Rattle.host_journal.proofs.opening.make.Goals as goal
 
 pub returns-in-Ok-make_segment-clause-behind : goal.returns-in-Ok-make_segment-clause-behind
-returns-in-Ok-make_segment-clause-behind g c = opened_stands c.args.begun.now.config c.in-Ok.engine c.in-Ok.ensures.opened
+returns-in-Ok-make_segment-clause-behind g c = opened_stands c.args.begun.now.config c.in-Ok.engine c.open.ensures.begins c.in-Ok.ensures.opened
 
 pub returns-in-Err-make_manifest-clause-opens : goal.returns-in-Err-make_manifest-clause-opens
 returns-in-Err-make_manifest-clause-opens g c =

@@ -1,8 +1,8 @@
 use Rattle.std.proofs.Common.{◌≡◌, false, true, [], rules}
-use Rattle.host_live.proofs.Growing.{as_none, as_these}
+use Rattle.host_live.proofs.Growing.{as_none}
 use Rattle.host_live.specs.Turns.{is_of_steps}
 use Rattle.host_live.specs.declared.host.HostFault.{HostFault}
-use Rattle.host_live.proofs.Turning.{acts_here, elsewhere_so, read_none, read_these}
+use Rattle.host_live.proofs.Turning.{elsewhere_so, read_none}
 use Rattle.host_live.proofs.host.Host.act_here.Goals as goal
 
 pub returns-then-is_of_steps-clause-grown : goal.returns-then-is_of_steps-clause-grown

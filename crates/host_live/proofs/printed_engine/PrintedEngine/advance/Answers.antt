@@ -2,7 +2,7 @@ use Rattle.std.proofs.Common.{◌∷◌, [], Option, refl, subst}
 use Rattle.world_calls.specs.declared.record.Record.{Record}
 use Rattle.engine_core.specs.ByNumber.{Advances}
 use Rattle.host_live.proofs.Growing.{by_none, by_one, by_still}
-use Rattle.host_live.proofs.Underway.{told_has}
+use Rattle.host_live.proofs.Underway.{told_has, underway_on}
 use Rattle.host_live.proofs.printed_engine.PrintedEngine.advance.Goals as goal
 
 pub print-requires-clause-spelled : goal.print-requires-clause-spelled
@@ -30,3 +30,13 @@ returns-in-Ok-None-clause-made g c =
 
 pub returns-clause-refused : goal.returns-clause-refused
 returns-clause-refused g c = rw (← c.self.view_is) (by_still c.self.inside.engine c.advance.new.self c.self.inside.printed _ _ c.in-Err.ensures.refused.0)
+
+pub invariant_of-self : goal.invariant_of-self
+invariant_of-self g c =
+    let told = subst (λ (o : Option Record). Advances c.self.inside.engine c.args.run o c.advance.new.self) c.in-Ok-Some.field-0-is c.in-Ok-Some.ensures.advanced in
+    underway_on c.self.inside.engine c.advance.new.self c.self.inside.printed c.print.new.self c.in-Ok-Some.entry c.self.invariant told.1 c.advance.ensures.setup c.print.ensures.printed.version
+
+pub invariant_of-self-in-Ok-Some : goal.invariant_of-self-in-Ok-Some
+invariant_of-self-in-Ok-Some g c =
+    let told = subst (λ (o : Option Record). Advances c.self.inside.engine c.args.run o c.advance.new.self) c.in-Ok-Some.field-0-is c.in-Ok-Some.ensures.advanced in
+    underway_on c.self.inside.engine c.advance.new.self c.self.inside.printed c.print.new.self c.in-Ok-Some.entry c.self.invariant told.1 c.advance.ensures.setup c.print.ensures.printed.version

@@ -50,3 +50,13 @@ returns-in-Err-clause-grown g c =
       | in-Submit-3 w ↦ w.self-is
     ] in
     rw (same, ← c.self.view_is) (by_still c.self.inside.engine c.call-2.new.self c.self.inside.printed _ _ c.in-Err.ensures.refused)
+
+pub invariant_of-self-in-Ok-Some-2 : goal.invariant_of-self-in-Ok-Some-2
+invariant_of-self-in-Ok-Some-2 g c =
+    let follows = subst (λ (o : Option CallAnswer). AnswersCall c.self.inside.engine c.args.call o c.call-2.new.self) c.in-Ok-Some.field-0-is c.in-Ok-Some.ensures.answered in
+    underway_on c.self.inside.engine c.call-2.new.self c.self.inside.printed c.print.new.self (Called c.in-Ok-Some.answer c.args.call) c.self.invariant follows c.call-2.ensures.setup c.print.ensures.printed.version
+
+pub invariant_of-self-in-Ok-Some-3 : goal.invariant_of-self-in-Ok-Some-3
+invariant_of-self-in-Ok-Some-3 g c =
+    let follows = subst (λ (o : Option CallAnswer). AnswersCall c.self.inside.engine c.args.call o c.call-2.new.self) c.in-Ok-Some.field-0-is c.in-Ok-Some.ensures.answered in
+    underway_on c.self.inside.engine c.call-2.new.self c.self.inside.printed c.print.new.self (Called c.in-Ok-Some.answer c.args.call) c.self.invariant follows c.call-2.ensures.setup c.print.ensures.printed.version

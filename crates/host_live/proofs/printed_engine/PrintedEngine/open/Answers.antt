@@ -7,5 +7,5 @@ use Rattle.host_live.proofs.printed_engine.PrintedEngine.open.Goals as goal
 pub invariant_of-result : goal.invariant_of-result
 invariant_of-result c =
     let version : c.of.result ≡ version_of c.args.config.now = search rules in
-    underway_first c.args.config.now c.in_ok-engine.engine c.of-printed.result c.open.ensures.lawful c.in_ok-engine.ensures.opened
+    underway_first c.args.config.now c.in_ok-engine.engine c.of-printed.result c.open.ensures.lawful c.open.ensures.begins c.in_ok-engine.ensures.opened
     (ap (λ (p : Printed). p.lines.version) c.of-printed.ensures ∙ version)

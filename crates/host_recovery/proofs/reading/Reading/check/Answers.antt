@@ -30,4 +30,4 @@ returns-clause-follows c = λ setup records counted leads.
     let made : c.totals.result ≡ c.args.totals = c.totals.ensures ∙ (ap (λ (e : NumberedState). sums_behind c.self.inside.count e) engine ∙ is) in
     let bad : false ≡ true = sym c.if-is_same.false ∙ c.is_same.ensures.1 made in
     cc)
-    (Some (Behind c.self.inside.count)) refl
+    (Some (Behind 0 c.self.inside.count)) refl

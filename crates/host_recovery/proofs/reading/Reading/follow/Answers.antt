@@ -18,4 +18,4 @@ returns-clause-follows c = λ setup records counted leads.
     let engine : c.self.inside.engine ≡ c.args.self.now.engine = cc (ap (λ (r : ReadingState). r.engine) c.self.view_is) in
     let cannot = subst (λ (e : NumberedState). FollowsIf c.in_ok-follows.field-0 e c.args.entry.now c.follows.new.engine) engine c.in_ok-follows.ensures.follows in
     stops_so setup c.args.self.now.version records c.args.self.now.fault c.args.self.now.engine c.follows.new.engine (none_of c.args.self.now.fault (cc (same, c.is_some.ensures, c.if-is_some.false))) leads
-    c.args.entry.now c.in_ok-follows.field-0 c.self.inside.count c.if-branch.false cannot (cc (count, counted)) (Some (Behind c.self.inside.count)) refl
+    c.args.entry.now c.in_ok-follows.field-0 c.self.inside.count c.if-branch.false cannot (cc (count, counted)) (Some (Behind 0 c.self.inside.count)) refl

@@ -180,6 +180,172 @@ static void parks(void)
     camr_run_free(again);
 }
 
+/* One queue, under no controller. */
+static const char alone[] =
+    "version = 1\n"
+    "[[queue]]\n"
+    "openings = 1\n"
+    "program = \"p1\"\n"
+    "[[program]]\n"
+    "name = \"p1\"\n"
+    "asm = \"\"\"\n"
+    "jeq r2, 0, requeue\n"
+    "mov64 r1, r2\n"
+    "call 2\n"
+    "requeue:\n"
+    "mov64 r1, 1\n"
+    "call 4\n"
+    "mov64 r0, 7\n"
+    "exit\n"
+    "\"\"\"\n";
+
+static const char same[] =
+    "camr-trace 2 continued\n"
+    "numbers 3 2 0\n"
+    "clock 9\n"
+    "openings 0 1\n"
+    "ccb 2 0 0 1 1 active\n"
+    "ccb 3 0 0 0 0 waiting\n"
+    "freeze 2 controller 0 guest 6\n";
+
+static const char fresh[] =
+    "camr-trace 2 continued\n"
+    "numbers 2 1 0\n"
+    "clock 9\n"
+    "openings 0 1\n"
+    "ccb 1 0 0 1 1 active\n"
+    "ccb 2 0 0 0 0 waiting\n"
+    "freeze 1 controller 0 guest 6\n";
+
+/* An engine that ended CCB 1, with CCB 2 active and CCB 3 waiting, whose controller a guest has frozen. */
+static camr_engine *held(void)
+{
+    camr_engine *engine = opened();
+    camr_run *run;
+    uint32_t it;
+    WANT(camr_submit(engine, 0, 0, 1, &it) == CAMR_DONE && camr_dispatch(engine, 0, &it) == CAMR_DONE && it == 1);
+    WANT(camr_complete(engine, 1, CAMR_REQ_CMP, 0, NULL, 0, &run) == CAMR_DONE && run == NULL);
+    WANT(camr_submit(engine, 0, 0, 1, &it) == CAMR_DONE && camr_dispatch(engine, 0, &it) == CAMR_DONE && it == 2);
+    WANT(camr_submit(engine, 0, 0, 0, &it) == CAMR_DONE && it == 3);
+    WANT(camr_guest_freeze(engine, 0, 5, &it) == CAMR_DONE && camr_guest_release(engine, 1, &it) == CAMR_DONE);
+    WANT(camr_guest_freeze_controller(engine, 0, 6, &it) == CAMR_DONE && it == 2);
+    WANT(camr_clock(engine, 9, &it) == CAMR_DONE);
+    return engine;
+}
+
+/* The carried lines are these, in a buffer of any size that has room for each. */
+static void has_carried(camr_engine *engine, const char *text, size_t length)
+{
+    char all[512], place[512];
+    size_t written, sum;
+    uint64_t next;
+    for (size_t room = 37; room < length + 2; room++) {
+        memset(place, '#', sizeof place);
+        next = sum = 0;
+        do {
+            WANT(camr_carried(engine, next, place, room, &written, &next) == CAMR_DONE && written <= room);
+            WANT(sum + written <= length && place[room] == '#');
+            memcpy(all + sum, place, written);
+            sum += written;
+        } while (written != 0);
+        WANT(next == 6 && sum == length && memcmp(all, text, length) == 0);
+    }
+    WANT(camr_carried(engine, 0, place, 36, &written, &next) == CAMR_NO_ROOM && written == 0 && next == 0);
+    WANT(camr_carried(engine, 0, NULL, 0, &written, &next) == CAMR_NO_ROOM);
+}
+
+/* The active CCB ends, and the other one starts once the guest's freeze is given back. */
+static void goes_on(camr_engine *engine, uint32_t active, uint32_t waiting, uint32_t freeze)
+{
+    camr_run *run;
+    uint32_t it;
+    uint64_t next;
+    char place[64];
+    size_t written;
+    WANT(camr_dispatch(engine, 0, &it) == CAMR_NO_OPENING);
+    WANT(camr_carried(engine, 0, place, sizeof place, &written, &next) == CAMR_TAKEN && written == 0 && next == 0);
+    WANT(camr_trace(engine, 0, place, sizeof place, &written, &next) == CAMR_DONE && memcmp(place, "dispatch 0 = Q3\n", written) == 0);
+    WANT(camr_take(engine, place, sizeof place, &written) == CAMR_DONE && written == 16 && memcmp(place, "dispatch 0 = Q3\n", 16) == 0);
+    WANT(camr_complete(engine, active, CAMR_REQ_CMP, 0, NULL, 0, &run) == CAMR_DONE && run == NULL);
+    WANT(camr_dispatch(engine, 0, &it) == CAMR_CONTROLLER_FROZEN);
+    WANT(camr_guest_release(engine, freeze, &it) == CAMR_DONE && it == 0);
+    WANT(camr_guest_release(engine, freeze, &it) == CAMR_NO_TOKEN);
+    WANT(camr_dispatch(engine, 0, &it) == CAMR_DONE && it == waiting);
+}
+
+static void follows(void)
+{
+    camr_engine *engine = held();
+    camr_totals_t totals;
+    uint64_t next;
+    size_t written;
+    char place[64];
+    WANT(camr_carried(engine, 0, place, sizeof place, &written, &next) == CAMR_TAKEN && written == 0);
+    WANT(camr_succeed(&engine, NULL, 0, false, NULL, 0) == CAMR_DONE && engine != NULL);
+    has_carried(engine, same, sizeof same - 1);
+    WANT(camr_totals(engine, &totals) == CAMR_DONE && totals.history == 0 && totals.frozen == 1 && totals.active == 1 && totals.runs == 0);
+    WANT(camr_succeed(&engine, manifest, sizeof manifest - 1, false, NULL, 0) == CAMR_DONE);
+    has_carried(engine, same, sizeof same - 1);
+    goes_on(engine, 2, 3, 2);
+    camr_close(engine);
+    engine = held();
+    WANT(camr_succeed(&engine, NULL, 0, true, NULL, 0) == CAMR_DONE);
+    has_carried(engine, fresh, sizeof fresh - 1);
+    goes_on(engine, 1, 2, 1);
+    camr_close(engine);
+}
+
+static void follows_not(void)
+{
+    camr_engine *engine = opened(), *none = NULL;
+    camr_run *run = failed(engine);
+    char fault[8];
+    uint32_t it;
+    uint64_t r0;
+    bool ended;
+    WANT(camr_succeed(&engine, NULL, 0, false, NULL, 0) == CAMR_RUNS_LIVE);
+    WANT(camr_succeed(&engine, "\xff", 1, false, NULL, 0) == CAMR_RUNS_LIVE);
+    WANT(camr_park(engine, run) == CAMR_DONE && camr_succeed(&engine, NULL, 0, true, NULL, 0) == CAMR_RUNS_LIVE);
+    camr_run_free(run);
+    WANT(camr_resume(engine, 1, &run) == CAMR_DONE && camr_drive(engine, run, &r0, &ended) == CAMR_DONE && ended);
+    camr_run_free(run);
+    WANT(camr_succeed(&engine, NULL, 0, false, NULL, 0) == CAMR_DONE);
+    camr_close(engine);
+    engine = held();
+    WANT(camr_succeed(&engine, "version = 3", 11, false, fault, sizeof fault) == CAMR_FAULTY && strcmp(fault, "M2") == 0);
+    WANT(camr_succeed(&engine, "version = 3", 11, false, fault, 1) == CAMR_FAULTY && fault[0] == '\0');
+    WANT(camr_succeed(&engine, "", 0, false, NULL, 0) == CAMR_FAULTY);
+    WANT(camr_succeed(&engine, "\xff", 1, false, NULL, 0) == CAMR_NOT_UTF8);
+    WANT(camr_succeed(&engine, alone, sizeof alone - 1, false, NULL, 0) == CAMR_DOES_NOT_FIT);
+    WANT(camr_succeed(NULL, NULL, 0, false, NULL, 0) == CAMR_NULL && camr_succeed(&none, NULL, 0, false, NULL, 0) == CAMR_NULL);
+    WANT(camr_succeed(&engine, NULL, 1, false, NULL, 0) == CAMR_NULL && camr_succeed(&engine, NULL, 0, false, NULL, 1) == CAMR_NULL);
+    WANT(camr_succeed(&engine, alone, (size_t)PTRDIFF_MAX + 1, false, NULL, 0) == CAMR_TOO_LONG);
+    WANT(camr_guest_release(engine, 2, &it) == CAMR_DONE && it == 0);
+    WANT(camr_succeed(&engine, alone, sizeof alone - 1, false, NULL, 0) == CAMR_DONE);
+    camr_close(engine);
+}
+
+static void ccbs(void)
+{
+    camr_engine *engine = held();
+    camr_run *run;
+    uint32_t numbers[3] = {9, 9, 9}, states[3] = {9, 9, 9};
+    size_t count;
+    WANT(camr_ccbs(engine, 0, numbers, states, 3, &count) == CAMR_DONE && count == 2);
+    WANT(numbers[0] == 2 && states[0] == CAMR_ACTIVE && numbers[1] == 3 && states[1] == CAMR_WAITING);
+    WANT(numbers[2] == 9 && states[2] == 9);
+    WANT(camr_ccbs(engine, 3, numbers, states, 1, &count) == CAMR_DONE && count == 1 && numbers[0] == 3 && numbers[1] == 3);
+    WANT(camr_ccbs(engine, 2, numbers, states, 1, &count) == CAMR_DONE && count == 1 && numbers[0] == 2);
+    WANT(camr_ccbs(engine, 4, numbers, states, 3, &count) == CAMR_DONE && count == 0 && numbers[0] == 2);
+    WANT(camr_ccbs(engine, 0, NULL, NULL, 0, &count) == CAMR_DONE && count == 0);
+    WANT(camr_ccbs(NULL, 0, numbers, states, 3, &count) == CAMR_NULL && camr_ccbs(engine, 0, numbers, NULL, 3, &count) == CAMR_NULL);
+    WANT(camr_ccbs(engine, 0, numbers, states, SIZE_MAX / 4, &count) == CAMR_TOO_LONG && count == 0);
+    WANT(camr_complete(engine, 2, CAMR_CMD_TIMEOUT, 0, NULL, 0, &run) == CAMR_DONE && run != NULL);
+    WANT(camr_ccbs(engine, 0, numbers, states, 3, &count) == CAMR_DONE && count == 2 && states[0] == CAMR_IN_RECOVERY);
+    camr_run_free(run);
+    camr_close(engine);
+}
+
 static void nulls_and_faults(void)
 {
     camr_engine *engine = opened(), *none;
@@ -203,9 +369,9 @@ static void nulls_and_faults(void)
     WANT(camr_resume(NULL, 1, &run) == CAMR_NULL && run == NULL);
     WANT(camr_stretch(NULL) == CAMR_NULL && camr_advance(engine, NULL, &r0, &ended) == CAMR_NULL);
     WANT(camr_trace(engine, 0, NULL, 9, &written, &r0) == CAMR_NULL);
-    for (camr_result result = 0; result <= CAMR_TAKEN; result++)
+    for (camr_result result = 0; result <= CAMR_DOES_NOT_FIT; result++)
         WANT(camr_result_text(result, fault, sizeof fault, &written) == CAMR_DONE && written >= 4);
-    WANT(camr_result_text(23, fault, sizeof fault, &written) == CAMR_UNKNOWN && written == 0);
+    WANT(camr_result_text(25, fault, sizeof fault, &written) == CAMR_UNKNOWN && written == 0);
     camr_run_free(NULL);
     camr_close(NULL);
     camr_close(engine);
@@ -217,6 +383,9 @@ int main(void)
     refuses();
     freezes();
     parks();
+    follows();
+    follows_not();
+    ccbs();
     nulls_and_faults();
     streams();
     return 0;

@@ -7,7 +7,7 @@
  * `pkg-config --cflags --libs camr` prints the options for a compiler. The manual page is camr_engine(3).
  *
  * RESULTS. A call returns a camr_result.
- *   - CAMR_DONE: the call was carried out. It is recorded if it changes what the engine holds.
+ *   - CAMR_DONE: the call was carried out. It is recorded if it changes what the engine holds; camr_succeed begins another history.
  *   - CAMR_UNKNOWN to CAMR_CONTROLLER_FROZEN: the call was refused, and the refusal is recorded. Nothing else changed.
  *   - Every other result: the engine is as before, and nothing is recorded. There is one exception: camr_drive that returns
  *     CAMR_OUT_OF_MEMORY has recorded the stops that the run reached before.
@@ -15,9 +15,9 @@
  * A null pointer gives CAMR_NULL, and a length that no object has gives CAMR_TOO_LONG; the comments below do not repeat it. No call
  * ends the process, and none waits.
  *
- * HANDLES. A camr_engine comes from camr_open and goes with camr_close. A camr_run comes from camr_complete or camr_resume and goes
- * with camr_run_free, always, also when the run has ended or is parked. Only the library looks into a handle. A guest's freeze is a
- * number, for which the engine keeps the one token that gives it back.
+ * HANDLES. A camr_engine comes from camr_open and goes with camr_close; camr_succeed makes it the handle of another engine. A camr_run
+ * comes from camr_complete or camr_resume and goes with camr_run_free, always, also when the run has ended or is parked. Only the library
+ * looks into a handle. A guest's freeze is a number, for which the engine keeps the one token that gives it back.
  *
  * THREADS. The library starts no thread and takes no lock. A handle is used by one call at a time. The calls that are given an engine
  * are made under a lock of the host's. camr_stretch and camr_run_numbers are given a run alone and need no lock: the private
@@ -80,7 +80,16 @@ enum {
     CAMR_NO_TEXT = 19,            /* a record has no text: none of an engine's records is such */
     CAMR_NULL = 20,               /* a pointer is null */
     CAMR_TOO_LONG = 21,           /* a length is greater than that of any object */
-    CAMR_TAKEN = 22               /* the record was taken before */
+    CAMR_TAKEN = 22,              /* the record was taken before */
+    CAMR_RUNS_LIVE = 23,          /* a run is live: no engine can follow */
+    CAMR_DOES_NOT_FIT = 24        /* a live CCB or a freeze is of a queue or a controller that the new manifest does not have */
+};
+
+/* What camr_ccbs reports of a live CCB. */
+enum {
+    CAMR_WAITING = 1,             /* it waits for its start */
+    CAMR_ACTIVE = 2,              /* a device works on it */
+    CAMR_IN_RECOVERY = 3          /* its completion failed, and a run decides what becomes of it */
 };
 
 /* CAM statuses that a device may report. */
@@ -136,6 +145,12 @@ void camr_raw_totals(camr_engine **engine, camr_totals_t *sums);
 uint32_t camr_raw_trace(camr_engine **engine, uint64_t from, uint8_t *place, size_t length, size_t *written, uint64_t *next);
 uint32_t camr_raw_take(camr_engine **engine, uint8_t *place, size_t length, size_t *written);
 uint32_t camr_raw_trace_end(camr_engine **engine, uint8_t *place, size_t length, size_t *written);
+uint32_t camr_raw_succeed(camr_engine **engine, const uint8_t *manifest, size_t length, bool fresh, uint8_t *fault,
+                          size_t fault_length, size_t *written);
+uint32_t camr_raw_renew(camr_engine **engine, bool fresh);
+uint32_t camr_raw_carried(camr_engine **engine, uint64_t from, uint8_t *place, size_t length, size_t *written, uint64_t *next);
+void camr_raw_ccbs(camr_engine **engine, uint32_t from, uint32_t *numbers, size_t numbers_length, uint32_t *states,
+                   size_t states_length, size_t *count);
 bool camr_raw_result_text(uint32_t result, uint8_t *place, size_t length, size_t *written);
 
 /* Whether there can be so many bytes at a place. */
@@ -278,11 +293,12 @@ static inline camr_result camr_totals(camr_engine *engine, camr_totals_t *totals
 
 /*
  * Puts whole lines of the trace into a buffer, as many as find room, and takes none: those of the records from number `from` on, counted
- * from 0, and before that of record 0 the first line of a trace. *written is the number of bytes. *next is, with each result, the
- * record from which to go on; if it is the number of records, or more, there is no more. If there is no record yet, the first line is
- * put by itself, and *next stays 0. A line has at most 361 bytes, with its line feed, and the first line has 13. With each result the
- * buffer is as before from *written on. Results: CAMR_NO_ROOM if no line finds room, for record 0 together with the first line;
- * CAMR_TAKEN if the record of that number was taken; CAMR_NO_TEXT.
+ * from 0, and before that of record 0 the first line of a trace. An engine that follows another one has its first line with its carried
+ * lines (camr_carried), and none here. *written is the number of bytes. *next is, with each result, the record from which to go on; if it
+ * is the number of records, or more, there is no more. If there is no record yet, the first line is put by itself, and *next stays 0. A
+ * line has at most 361 bytes, with its line feed, and the first line has 13. With each result the buffer is as before from *written on.
+ * Results: CAMR_NO_ROOM if no line finds room, for record 0 together with the first line; CAMR_TAKEN if the record of that number was
+ * taken; CAMR_NO_TEXT.
  */
 static inline camr_result camr_trace(camr_engine *engine, uint64_t from, char *buffer, size_t length, size_t *written,
                                      uint64_t *next)
@@ -298,11 +314,11 @@ static inline camr_result camr_trace(camr_engine *engine, uint64_t from, char *b
 
 /*
  * Takes whole lines of the trace into a buffer, as many as find room: those of the records that were not taken yet, in their order, and
- * before that of record 0 the first line of a trace. *written is the number of bytes. The engine forgets these records, and gives their
- * memory back or fills it anew; its sums count them still. If no record is left, *written is 0. The first line is not put either then:
- * a host that ends an engine without a record asks camr_trace from 0 for it. A buffer of 720 bytes has room for one line at least. With
- * each result the buffer is as before from *written on. Results: CAMR_NO_ROOM if the next line finds no room, and then nothing is taken;
- * CAMR_NO_TEXT.
+ * before that of record 0 the first line of a trace, unless the engine follows another one. *written is the number of bytes. The engine
+ * forgets these records, and gives their memory back or fills it anew; its sums count them still. If no record is left, *written is 0.
+ * The first line is not put either then: a host that ends an engine without a record asks camr_trace from 0 for it. A buffer of 720 bytes
+ * has room for one line at least. With each result the buffer is as before from *written on. Results: CAMR_NO_ROOM if the next line finds
+ * no room, and then nothing is taken; CAMR_NO_TEXT.
  */
 static inline camr_result camr_take(camr_engine *engine, char *buffer, size_t length, size_t *written)
 {
@@ -315,7 +331,7 @@ static inline camr_result camr_take(camr_engine *engine, char *buffer, size_t le
 }
 
 /* Puts the last line of the trace, the sums so far, into a buffer. A trace that `camr replay` accepts is the lines of all records and
- * this one. The buffer is as before from *written on. Results: CAMR_NO_ROOM. */
+ * this one, after the carried lines if the engine follows another one. The buffer is as before from *written on. Results: CAMR_NO_ROOM. */
 static inline camr_result camr_trace_end(camr_engine *engine, char *buffer, size_t length, size_t *written)
 {
     uint8_t none = 0;
@@ -324,6 +340,81 @@ static inline camr_result camr_trace_end(camr_engine *engine, char *buffer, size
     camr_result place = camr_place_(buffer, length);
     if (place != CAMR_DONE) return place;
     return camr_raw_trace_end(&engine, length != 0 ? (uint8_t *)buffer : &none, length, written);
+}
+
+/* ---- an engine that follows another one -------------------------------------------------------------------------------------- */
+
+/*
+ * Ends an engine without a live run, and begins another one in its place, which takes over its live CCBs, its freezes, its openings, the
+ * words of its tables, and its clock. *engine is then the handle of the new engine, and keeps the tokens of its guests' freezes. The
+ * manifest of the new engine has `length` bytes; NULL is the one in force, and `length` is 0 then. A queue keeps its present openings if
+ * both manifests give it the same number, and a table its words if both give it the same length; otherwise they are those of the new one.
+ *
+ * Without `fresh`, numbers go on from the greatest ones given. With it, the CCBs, and likewise the freezes, are numbered 1, 2, 3 and so on
+ * in the order of their old numbers, and runs begin at 1: from then on calls name the new numbers. camr_carried reports them.
+ *
+ * Records that were not taken, and the sums of the old engine, are gone: a host takes them, and the last line, before. The history of the
+ * new engine is empty.
+ *
+ * Results, of which the first that holds is returned: CAMR_RUNS_LIVE, also for a parked run, and then the manifest is not read;
+ * CAMR_NOT_UTF8 and CAMR_FAULTY, as for camr_open, with the text of the fault in `fault`; CAMR_DOES_NOT_FIT if a live CCB or a freeze is of
+ * a queue or a controller that the new manifest does not have, which the one in force always has; CAMR_OUT_OF_MEMORY. Whichever it is, the
+ * engine is as before, and *engine is its handle.
+ */
+static inline camr_result camr_succeed(camr_engine **engine, const char *manifest, size_t length, bool fresh, char *fault,
+                                       size_t fault_length)
+{
+    uint8_t none = 0;
+    size_t written = 0;
+    if (engine == NULL || *engine == NULL) return CAMR_NULL;
+    camr_result place = camr_place_(manifest, length);
+    if (place != CAMR_DONE) return place;
+    place = camr_place_(fault, fault_length);
+    if (place != CAMR_DONE) return place;
+    if (fault_length != 0) fault[0] = '\0';
+    if (manifest == NULL) return camr_raw_renew(engine, fresh);
+    camr_result result = camr_raw_succeed(engine, length != 0 ? (const uint8_t *)manifest : &none, length, fresh,
+                                          fault_length != 0 ? (uint8_t *)fault : &none, fault_length != 0 ? fault_length - 1 : 0,
+                                          &written);
+    if (fault_length != 0) fault[written] = '\0';
+    return result;
+}
+
+/*
+ * Puts the lines with which the trace of an engine begins that follows another one into a buffer, as whole lines and as many as find room:
+ * those from line `from` on, counted from 0, and before line 0 the first line of that trace, `camr-trace V continued`. *written is the
+ * number of bytes. *next is, with each result, the line from which to go on; after the last one *written is 0. A line has at most 67 bytes,
+ * with its line feed, and the first line has 23: a buffer of 720 bytes has room for one line at least. With each result the buffer is as
+ * before from *written on. The lines are there until the engine has a record, so a host asks for them directly after camr_succeed.
+ * Results: CAMR_NO_ROOM if no line finds room, for line 0 together with the first line; CAMR_TAKEN if the engine has a record, or is one
+ * that camr_open opened, which has no such lines.
+ */
+static inline camr_result camr_carried(camr_engine *engine, uint64_t from, char *buffer, size_t length, size_t *written,
+                                       uint64_t *next)
+{
+    uint8_t none = 0;
+    if (written != NULL) *written = 0;
+    if (next != NULL) *next = from;
+    if (engine == NULL || written == NULL || next == NULL) return CAMR_NULL;
+    camr_result place = camr_place_(buffer, length);
+    if (place != CAMR_DONE) return place;
+    return camr_raw_carried(&engine, from, length != 0 ? (uint8_t *)buffer : &none, length, written, next);
+}
+
+/* Lists the live CCBs whose number is `from` or a greater one, by rising number, as many as find room in two arrays of `capacity`
+ * elements: numbers[i] is the number of a CCB, and states[i] says where it is: CAMR_WAITING, CAMR_ACTIVE or CAMR_IN_RECOVERY. *count is
+ * how many are listed; if that is `capacity` there may be more, and the host goes on from the last number and 1. There are at most 4,096.
+ * The arrays are as before from *count on. The call is not recorded. */
+static inline camr_result camr_ccbs(camr_engine *engine, uint32_t from, uint32_t *numbers, uint32_t *states, size_t capacity,
+                                    size_t *count)
+{
+    uint32_t none[2] = {0, 0};
+    if (count != NULL) *count = 0;
+    if (engine == NULL || count == NULL) return CAMR_NULL;
+    if ((numbers == NULL || states == NULL) && capacity != 0) return CAMR_NULL;
+    if (capacity > (size_t)PTRDIFF_MAX / sizeof *numbers) return CAMR_TOO_LONG;
+    camr_raw_ccbs(&engine, from, capacity != 0 ? numbers : &none[0], capacity, capacity != 0 ? states : &none[1], capacity, count);
+    return CAMR_DONE;
 }
 
 /* ---- a run ---------------------------------------------------------------------------------------------------------------- */

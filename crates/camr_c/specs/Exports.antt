@@ -12,7 +12,10 @@ use Rattle.world_calls.specs.declared.call.Call.{Call}
 use Rattle.world_calls.specs.declared.call.Call.TheVariants.{Complete}
 use Rattle.world_calls.specs.declared.call_answer.CallAnswer.{CallAnswer}
 use Rattle.world_calls.specs.declared.totals.Totals.{Totals}
+use Rattle.engine_carried.specs.declared.numbering.Numbering.{Numbering}
+use Rattle.engine_carried.specs.declared.numbering.Numbering.TheVariants.{Fresh, Same}
 use Rattle.engine_core.specs.EngineState.{EngineState}
+use Rattle.manifest.specs.declared.fault.ManifestFault.{ManifestFault}
 use Rattle.host_embedding.specs.declared.call_result.CallResult.{CallResult}
 use Rattle.host_embedding.specs.declared.call_result.CallResult.TheVariants.{Done, OutOfMemory, NoCompletion, NotUtf8, Faulty}
 use Rattle.host_embedding.specs.declared.run_handle.HeldRun.{HeldRun}
@@ -84,6 +87,17 @@ TellsDue freezes false due = some_timer freezes ≡ false
 -- the sums as C has them
 abbrev pub sums_of : Totals → Sums
 sums_of totals = record { history = totals.history; frozen = totals.frozen; active = totals.active; runs = totals.runs }
+
+-- ---- an engine that follows another one
+
+abbrev pub numbering_of : Bool → Numbering
+numbering_of true = Fresh
+numbering_of false = Same
+
+-- the number of a result, or of a fault of the manifest's text
+abbrev pub IsNumberOf : Result CallResult ManifestFault → ℕ → Type 0
+IsNumberOf (Ok its) number = number ≡ number_of its
+IsNumberOf (Err fault) number = number ≡ number_of Faulty
 
 -- ---- calls with a run
 

@@ -8,4 +8,5 @@ mod raw_box;
 mod result_exports;
 mod run_exports;
 mod run_slot;
+mod succession_exports;
 mod trace_exports;

@@ -13,7 +13,7 @@ use Rattle.ccb.specs.declared.call_refusal.CallRefusal.{CallRefusal}
 use Rattle.world_calls.specs.declared.record.Record.{Record}
 use Rattle.world_calls.specs.declared.record.Record.TheVariants.{Called, Advance}
 use Rattle.world_calls.specs.declared.record.StoppedAt.{StoppedAt}
-use Rattle.world.specs.World.{Setup, World, opening}
+use Rattle.world.specs.World.{Setup, World, beginning}
 use Rattle.world.specs.Lawful.{IsLawful}
 use Rattle.world.specs.WorldRun.{WorldRun}
 use Rattle.world.specs.Event.{Event, Reply, called, refused, replies}
@@ -51,7 +51,7 @@ run_more : (old new : EngineState) (told : Record) → IsRun old → Records old
 run_more old new told is records =
     let run : WorldRun old.setup (flat new.history) new.world =
     subst (λ (xs : List (Event × Reply)). WorldRun old.setup xs new.world) (sym (ap flat records.history ∙ flat_push old.history told))
-    (leads_append old.setup (opening old.setup) (flat old.history) (events_of told) old.world new.world is.run records.step) in
+    (is.run.0, leads_append old.setup (beginning old.setup) (flat old.history) (events_of told) old.world new.world is.run.1 records.step) in
     record { lawful = subst IsLawful (sym records.setup) is.lawful; run = subst (λ (s : Setup). WorldRun s (flat new.history) new.world) (sym records.setup) run }
 
 pub begins : (state : EngineState) (tokens : List Freeze) → IsRun state → guests_of state.world.transport.freezes ≡ [] → tokens ≡ [] → HasGuests state tokens

@@ -1,6 +1,10 @@
+pub mod Again
+pub mod Beginning
 pub mod Driving
+pub mod Following
 pub mod Going
 pub mod Lines
+pub mod Listing
 pub mod Guests
 pub mod Handing
 pub mod Taking

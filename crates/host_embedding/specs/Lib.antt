@@ -3,3 +3,6 @@ pub mod Calls
 pub mod Held
 pub mod Lines
 pub mod Guests
+pub mod Beginning
+pub mod Succession
+pub mod Ccbs

@@ -11,7 +11,7 @@ use Rattle.engine_core.specs.declared.answers.ReleaseFault.TheVariants as releas
 use Rattle.engine_core.specs.declared.answers.AdvanceFault.{AdvanceFault}
 use Rattle.engine_core.specs.declared.answers.AdvanceFault.TheVariants as advance
 use Rattle.host_embedding.specs.declared.call_result.CallResult.{CallResult}
-use Rattle.host_embedding.specs.declared.call_result.CallResult.TheVariants.{Done, OutOfMemory, Refused, NotOut, NotHeld, NoToken, NoCompletion, Spent, NotStretched, NotUtf8, Faulty, NoRoom, NoText, Null, TooLong, Taken}
+use Rattle.host_embedding.specs.declared.call_result.CallResult.TheVariants.{Done, OutOfMemory, Refused, NotOut, NotHeld, NoToken, NoCompletion, Spent, NotStretched, NotUtf8, Faulty, NoRoom, NoText, Null, TooLong, Taken, RunsLive, DoesNotFit}
 
 -- the number of a refusal stands in its row
 abbrev pub number_of_refusal : CallRefusal → ℕ
@@ -38,6 +38,8 @@ number_of NoText = 19
 number_of Null = 20
 number_of TooLong = 21
 number_of Taken = 22
+number_of RunsLive = 23
+number_of DoesNotFit = 24
 
 -- the text of a result
 abbrev pub text_of : CallResult → List ℕ
@@ -57,6 +59,8 @@ text_of NoText = codes "a record has no text"
 text_of Null = codes "a pointer is null"
 text_of TooLong = codes "a length is greater than any object's"
 text_of Taken = codes "the record was taken before"
+text_of RunsLive = codes "a run is live"
+text_of DoesNotFit = codes "the manifest does not fit what is held"
 
 abbrev pub result_of : CallFault → CallResult
 result_of fault.OutOfMemory = OutOfMemory

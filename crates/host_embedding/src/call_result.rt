@@ -8,7 +8,7 @@ use ccb::{CallRefusal, REFUSALS};
 use engine_core::{AdvanceFault, CallFault, ReleaseFault};
 
 /// How many results there are.
-pub const RESULTS: u32 = 23;
+pub const RESULTS: u32 = 25;
 
 /// What a call answers.
 #[derive(Clone, Copy, Debug, PartialEq, Eq)]
@@ -45,6 +45,10 @@ pub enum CallResult {
     TooLong,
     /// The record was handed on, and is kept no more. Nothing changed.
     Taken,
+    /// A run is live, so that no engine can follow. Nothing changed.
+    RunsLive,
+    /// A live CCB or a freeze is of a queue or a controller that the new manifest does not have. Nothing changed.
+    DoesNotFit,
 }
 
 // Whether the refusal's row has that number.
@@ -88,6 +92,8 @@ impl CallResult {
             CallResult::Null => 20,
             CallResult::TooLong => 21,
             CallResult::Taken => 22,
+            CallResult::RunsLive => 23,
+            CallResult::DoesNotFit => 24,
         }
     }
 
@@ -111,6 +117,8 @@ impl CallResult {
             20 => CallResult::Null,
             21 => CallResult::TooLong,
             22 => CallResult::Taken,
+            23 => CallResult::RunsLive,
+            24 => CallResult::DoesNotFit,
             _ => match refusal_numbered(number) {
                 Some(refusal) => CallResult::Refused(refusal),
                 None => return None,
@@ -139,6 +147,8 @@ impl CallResult {
             CallResult::Null => "a pointer is null",
             CallResult::TooLong => "a length is greater than any object's",
             CallResult::Taken => "the record was taken before",
+            CallResult::RunsLive => "a run is live",
+            CallResult::DoesNotFit => "the manifest does not fit what is held",
         }
     }
 

@@ -1,7 +1,7 @@
-// An engine with the tokens of all its guests' freezes, which are found by their freezes' numbers. It relies on `engine_core` for
-// each call and for tokens.
+// An engine with the tokens of all its guests' freezes, which are found by their freezes' numbers, and with what is kept of its beginning.
+// It relies on `engine_core` for each call and for tokens.
 
-ghost use Rattle.std.specs.Prelude.{◌≡◌, ◌≢◌, ◌↔◌, [], false, IfSome, IsNone};
+ghost use Rattle.std.specs.Prelude.{◌≡◌, ◌≢◌, ◌↔◌, [], false, IfSome, IsNone, None};
 ghost use Rattle.freeze_ledger.specs.Deadlines.{some_timer};
 ghost use Rattle.engine_transport.specs.Freezing.{IsNextDue};
 ghost use Rattle.world_calls.specs.declared.call.Call.TheVariants.{Submit, Dispatch, Clock};
@@ -10,19 +10,25 @@ ghost use Rattle.world.specs.TotalsOf.{totals_in};
 ghost use Rattle.engine_core.specs.EngineState.{IsRun};
 ghost use Rattle.engine_core.specs.ByNumber.{guests_of};
 ghost use Rattle.host_embedding.specs.Calls.{IsCalled, IsFrozen, IsReleased};
+ghost use Rattle.host_embedding.specs.Lines.{front_of};
 
 use crate::call_result::CallResult;
 use ccb::{CcbId, Place, QueueId};
 use engine_core::{Engine, GuestToken, Totals, put_token, take_token};
 use std::alloc::Global;
 use std::marker::Model;
+use trace::header;
+use world_calls::CarriedLine;
 
 /// An engine with the tokens of all its guests' freezes: a number stands for one of them exactly where a guest holds a freeze of
-/// it. Contracts see the engine. Where it is dropped what is still frozen is forfeited.
+/// it. It also knows whether the engine follows another one, and keeps the lines of what that one left until a record is taken. Contracts
+/// see the engine. Where it is dropped what is still frozen is forfeited.
 #[derive(Drop)]
 pub struct EngineHandle {
     pub(crate) engine: Engine,
-    tokens: Vec<GuestToken>,
+    pub(crate) tokens: Vec<GuestToken>,
+    pub(crate) is_continued: bool,
+    pub(crate) lines: Vec<CarriedLine>,
 }
 
 impl Model for EngineHandle {
@@ -33,26 +39,41 @@ impl Model for EngineHandle {
     ghost view = { λ handle. handle.engine };
 
     ghost use Rattle.host_embedding.specs.Guests.{HasGuests};
+    ghost use Rattle.host_embedding.specs.Beginning.{KnowsBeginning};
 
-    ghost invariant = { λ handle. HasGuests handle.engine handle.tokens.items };
+    ghost invariant = { λ handle. HasGuests handle.engine handle.tokens.items × KnowsBeginning handle.engine handle.is_continued handle.lines.items };
 }
 
 impl EngineHandle {
-    /// The engine, of which no guest holds a freeze.
-    #[tactic(auto, using(crate::proofs::Guests::begins))]
+    /// The engine, which follows no other one, and of which no guest holds a freeze.
+    #[tactic(auto, using(crate::proofs::Guests::begins, crate::proofs::Beginning::alone))]
     pub fn new(alloc: Global, engine: Engine) -> Self
-        requires { guests_of engine.world.transport.freezes ≡ [] }
+        requires guests { guests_of engine.world.transport.freezes ≡ [] }
+        requires alone { engine.setup.carried ≡ None }
         ensures { result ≡ engine }
     {
         let _records = engine.records();
         EngineHandle {
             engine,
             tokens: Vec::new(alloc),
+            is_continued: false,
+            lines: Vec::new(alloc),
+        }
+    }
+
+    /// What stands before the line of record 0: the first line of a trace, and nothing if the engine follows another one.
+    pub(crate) fn front(&self) -> &'static str
+        ensures { result.now ≡ front_of self.now.setup }
+    {
+        if self.is_continued {
+            ""
+        } else {
+            header(self.engine.version())
         }
     }
 
     /// Submits a CCB to a queue: its number. The lowest priority number starts first; it may be tried again so many times.
-    #[tactic(auto, using(crate::proofs::Guests::stay, crate::proofs::Guests::stay_faulted))]
+    #[tactic(auto, using(crate::proofs::Guests::stay, crate::proofs::Guests::stay_faulted, crate::proofs::Beginning::recorded, crate::proofs::Beginning::faulted))]
     pub fn submit(&mut self, queue: u32, priority: u32, retries: u32, ccb: &mut u32) -> CallResult
         ensures recorded { IsCalled result self.old self.new (answers.Ccb (record { 0 = ccb.new })) (Submit (record { 0 = queue }) priority retries) }
         ensures kept { result ≢ CallResult.Done → ccb.new ≡ ccb.old }
@@ -67,7 +88,7 @@ impl EngineHandle {
     }
 
     /// Starts the waiting CCB of a queue that goes first: its number.
-    #[tactic(auto, using(crate::proofs::Guests::stay, crate::proofs::Guests::stay_faulted))]
+    #[tactic(auto, using(crate::proofs::Guests::stay, crate::proofs::Guests::stay_faulted, crate::proofs::Beginning::recorded, crate::proofs::Beginning::faulted))]
     pub fn dispatch(&mut self, queue: u32, ccb: &mut u32) -> CallResult
         ensures recorded { IsCalled result self.old self.new (answers.Ccb (record { 0 = ccb.new })) (Dispatch (record { 0 = queue })) }
         ensures kept { result ≢ CallResult.Done → ccb.new ≡ ccb.old }
@@ -82,7 +103,7 @@ impl EngineHandle {
     }
 
     /// Reads the clock, in milliseconds: how many freezes went since their timers were due.
-    #[tactic(auto, using(crate::proofs::Guests::stay, crate::proofs::Guests::stay_faulted))]
+    #[tactic(auto, using(crate::proofs::Guests::stay, crate::proofs::Guests::stay_faulted, crate::proofs::Beginning::recorded, crate::proofs::Beginning::faulted))]
     pub fn clock(&mut self, reading: u64, removed: &mut u32) -> CallResult
         ensures recorded { IsCalled result self.old self.new (answers.Removed removed.new) (Clock reading) }
         ensures kept { result ≢ CallResult.Done → removed.new ≡ removed.old }
@@ -97,7 +118,7 @@ impl EngineHandle {
     }
 
     /// Freezes a place for a guest: the freeze's number, for which its token is kept here. No freeze has had it before.
-    #[tactic(auto, using(crate::proofs::Guests::same, crate::proofs::Guests::frozen, crate::proofs::Guests::is_fresh, crate::proofs::Guests::stay_unfrozen))]
+    #[tactic(auto, using(crate::proofs::Guests::same, crate::proofs::Guests::frozen, crate::proofs::Guests::is_fresh, crate::proofs::Guests::stay_unfrozen, crate::proofs::Beginning::same, crate::proofs::Beginning::recorded, crate::proofs::Beginning::faulted))]
     pub fn guest_freeze(&mut self, place: Place, guest: u32, freeze: &mut u32) -> CallResult
         ensures recorded { IsFrozen result self.old self.new freeze.new place guest }
         ensures kept { result ≢ CallResult.Done → freeze.new ≡ freeze.old }
@@ -117,7 +138,7 @@ impl EngineHandle {
 
     /// Gives the freeze of that number back: how many freezes its place has then. There is no token of the number exactly where no
     /// guest holds a freeze of it. Where memory is refused its token is still here.
-    #[tactic(auto, using(crate::proofs::Guests::rise, crate::proofs::Guests::same, crate::proofs::Guests::released, crate::proofs::Guests::put_back))]
+    #[tactic(auto, using(crate::proofs::Guests::rise, crate::proofs::Guests::same, crate::proofs::Guests::released, crate::proofs::Guests::put_back, crate::proofs::Beginning::same, crate::proofs::Beginning::recorded))]
     pub fn guest_release(&mut self, freeze: u32, left: &mut u32) -> CallResult
         ensures recorded { IsReleased result self.old self.new left.new freeze }
         ensures kept { result ≢ CallResult.Done → left.new ≡ left.old }

@@ -16,7 +16,7 @@ use std::alloc::Global;
 impl EngineHandle {
     /// Takes a completion of an active CCB. With REQ_CMP the CCB is finished and gone; with any other status a run of the queue's
     /// program starts, which goes out. Its handle's place is made first: where memory for it is refused, the engine is not asked.
-    #[tactic(auto, using(crate::proofs::Guests::stay, crate::proofs::Guests::stay_faulted))]
+    #[tactic(auto, using(crate::proofs::Guests::stay, crate::proofs::Guests::stay_faulted, crate::proofs::Beginning::recorded, crate::proofs::Beginning::faulted))]
     pub fn complete(
         &mut self,
         alloc: Global,
@@ -111,7 +111,7 @@ impl EngineHandle {
 
     /// Parks a run: it takes no step until it is resumed, and is spent here. What it did since its last stop is forgotten. Where
     /// it is not out in this engine it is back where it was.
-    #[tactic(auto, using(crate::proofs::Guests::stay))]
+    #[tactic(auto, using(crate::proofs::Guests::stay, crate::proofs::Beginning::same, crate::proofs::Beginning::recorded))]
     pub fn park(&mut self, run: &mut RunHandle) -> CallResult
         ensures recorded { IsParked result (out_of run.old.held) run.new.held self.old self.new }
         ensures same { is_same_run run.old run.new }
@@ -129,7 +129,7 @@ impl EngineHandle {
     }
 
     /// Lets a run that is parked go on. Its handle's place is made first: where memory for it is refused, the engine is not asked.
-    #[tactic(auto, using(crate::proofs::Guests::stay, crate::proofs::Guests::stay_faulted))]
+    #[tactic(auto, using(crate::proofs::Guests::stay, crate::proofs::Guests::stay_faulted, crate::proofs::Beginning::recorded, crate::proofs::Beginning::faulted))]
     pub fn resume(&mut self, alloc: Global, run: u32) -> Result<Box<RunHandle>, CallResult>
         ensures recorded { IsResumed result self.old self.new run }
     {

@@ -3,14 +3,13 @@
 ghost use Rattle.std.specs.Prelude.{◌≡◌, ◌≢◌, ◌+◌, ◌++◌, ◌≤◌, ◌<◌, None, Some, IfSome, IfNone, true, false, drop, length, slice_index_or, take};
 ghost use Rattle.std.specs.Fmt.{with_newline};
 ghost use Rattle.trace.specs.TraceText.{line_of};
-ghost use Rattle.world.specs.World.{version_of};
 ghost use Rattle.world.specs.TotalsOf.{totals_in};
-ghost use Rattle.host_embedding.specs.Lines.{AddsLines, FindsNoRoom, HasNoLine, IsWithin, PutsLines, PutsSums, TakesLines};
+ghost use Rattle.host_embedding.specs.Lines.{AddsLines, FindsNoRoom, HasNoLine, IsWithin, PutsLines, PutsSums, TakesLines, front_of};
 
 use crate::call_result::CallResult;
 use crate::engine_handle::EngineHandle;
 use engine_core::Engine;
-use trace::{header, print_entry, print_totals};
+use trace::{print_entry, print_totals};
 use trace_lines::{NoText, Text};
 use world_calls::Record;
 
@@ -27,7 +26,7 @@ pub struct PutLines {
 }
 
 // Puts a text behind so many bytes of a place, where it finds room: how many bytes stand there then.
-fn put_behind(text: &[u8], place: &mut [u8], written: usize) -> Option<usize>
+pub(crate) fn put_behind(text: &[u8], place: &mut [u8], written: usize) -> Option<usize>
     requires { written ≤ length place.old }
     ensures put { IfSome result (λ count. (count ≡ written + length text.now) × (count ≤ length place.new) × (take count place.new ≡ take written place.old ++ text.now)) }
     ensures behind { IfSome result (λ count. drop count place.new ≡ drop count place.old) }
@@ -71,8 +70,8 @@ fn entry(engine: &Engine, number: u64) -> &Record
 #[tactic(auto, using(crate::proofs::Lines::finds_some, crate::proofs::Lines::finds_none))]
 fn finds_room(engine: &Engine, place: &[u8], written: usize) -> bool
     requires { engine.now.taken ≡ 0 }
-    ensures room { result ≡ true → 0 < length engine.now.history → FindsNoRoom engine.now.history 0 place.now written → ⊥ }
-    ensures none { result ≡ false → (0 < length engine.now.history) × FindsNoRoom engine.now.history 0 place.now written }
+    ensures room { result ≡ true → 0 < length engine.now.history → FindsNoRoom line_of engine.now.history 0 place.now written → ⊥ }
+    ensures none { result ≡ false → (0 < length engine.now.history) × FindsNoRoom line_of engine.now.history 0 place.now written }
 {
     if engine.recorded() == 0 {
         return true;
@@ -85,18 +84,20 @@ fn finds_room(engine: &Engine, place: &[u8], written: usize) -> bool
 
 impl EngineHandle {
     /// Puts whole lines of the trace into a place, as many as find room: those of the records from this number on, and before
-    /// that of record 0 the first line of a trace. If the record of this number was handed on, or the line of the first of these
-    /// records finds no room, nothing is put, and the place is as it was. What stands after the lines that were put stays as it was.
+    /// that of record 0 the first line of a trace, unless the engine follows another one. If the record of this number was handed on,
+    /// or the line of the first of these records finds no room, nothing is put, and the place is as it was. What stands after the lines
+    /// that were put stays as it was.
     pub fn put_lines(&self, from: u64, place: &mut [u8], put: &mut PutLines) -> CallResult
         ensures room { put.new.written ≤ length place.new }
-        ensures lines { PutsLines result (version_of self.now.setup) self.now.history self.now.taken from place.old place.new put.new.written put.new.next }
+        ensures lines { PutsLines line_of result (front_of self.now.setup) self.now.history self.now.taken from place.old place.new put.new.written put.new.next }
     {
-        put_from(&self.engine, from, place, put)
+        put_from(&self.engine, self.front(), from, place, put)
     }
 
     /// Puts whole lines of the records that were not handed on, as many as find room, and hands those records on: it forgets them.
-    /// Before the line of record 0 stands the first line of a trace. With no record left nothing is put; else a place of LONGEST_TAKEN
-    /// bytes has room for one line at least. What stands after the lines that were put stays as it was.
+    /// Before the line of record 0 stands the first line of a trace, unless the engine follows another one. With no record left nothing
+    /// is put; else a place of LONGEST_TAKEN bytes has room for one line at least. What stands after the lines that were put stays as it
+    /// was.
     pub fn take_lines(&mut self, place: &mut [u8], put: &mut PutLines) -> CallResult
         ensures room { put.new.written ≤ length place.new }
         ensures lines { TakesLines result self.old self.new place.old place.new put.new.written put.new.next }
@@ -110,6 +111,8 @@ impl EngineHandle {
         }
         let result = self.put_lines(from, place, put);
         self.engine.hand_on((put.next - from) as usize);
+        self.lines.clear();
+        self.lines.shrink_to_fit();
         result
     }
 
@@ -132,10 +135,16 @@ impl EngineHandle {
     }
 }
 
-// The same of an engine.
-fn put_from(engine: &Engine, from: u64, place: &mut [u8], put: &mut PutLines) -> CallResult
+// The same of an engine, with what stands before the line of record 0.
+fn put_from(
+    engine: &Engine,
+    first: &str,
+    from: u64,
+    place: &mut [u8],
+    put: &mut PutLines,
+) -> CallResult
     ensures room { put.new.written ≤ length place.new }
-    ensures lines { PutsLines result (version_of engine.now.setup) engine.now.history engine.now.taken from place.old place.new put.new.written put.new.next }
+    ensures lines { PutsLines line_of result first.now engine.now.history engine.now.taken from place.old place.new put.new.written put.new.next }
 {
     put.written = 0;
     put.next = from;
@@ -143,7 +152,7 @@ fn put_from(engine: &Engine, from: u64, place: &mut [u8], put: &mut PutLines) ->
         return CallResult::Taken;
     }
     if from == 0 {
-        let first = header(engine.version()).as_bytes();
+        let first = first.as_bytes();
         if !finds_room(engine, place, first.len()) {
             return CallResult::NoRoom;
         }
@@ -161,14 +170,14 @@ fn put_records(engine: &Engine, place: &mut [u8], put: &mut PutLines) -> CallRes
     requires room { put.old.written ≤ length place.old }
     requires kept { engine.now.taken ≤ put.old.next }
     ensures room { put.new.written ≤ length place.new }
-    ensures lines { result ≢ CallResult.NoRoom → AddsLines engine.now.history (take put.old.written place.old) put.old.next (take put.new.written place.new) put.new.next }
+    ensures lines { result ≢ CallResult.NoRoom → AddsLines line_of engine.now.history (take put.old.written place.old) put.old.next (take put.new.written place.new) put.new.next }
     ensures within { IsWithin engine.now.history put.old.next put.new.next }
     ensures behind { (put.old.written ≤ put.new.written) × (drop put.new.written place.new ≡ drop put.new.written place.old) }
     ensures same { result ≡ CallResult.NoRoom → place.new ≡ place.old }
-    ensures none { result ≡ CallResult.NoRoom → (put.new.written ≡ put.old.written) × (put.new.next ≡ put.old.next) × (put.old.next < length engine.now.history) × FindsNoRoom engine.now.history put.old.next place.new put.old.written }
-    ensures full { result ≡ CallResult.Done → FindsNoRoom engine.now.history put.new.next place.new put.new.written }
+    ensures none { result ≡ CallResult.NoRoom → (put.new.written ≡ put.old.written) × (put.new.next ≡ put.old.next) × (put.old.next < length engine.now.history) × FindsNoRoom line_of engine.now.history put.old.next place.new put.old.written }
+    ensures full { result ≡ CallResult.Done → FindsNoRoom line_of engine.now.history put.new.next place.new put.new.written }
     ensures some { result ≡ CallResult.Done → put.old.next < length engine.now.history → put.old.next < put.new.next }
-    ensures others { result ≢ CallResult.NoRoom → result ≢ CallResult.Done → (result ≡ CallResult.NoText) × HasNoLine engine.now.history put.new.next }
+    ensures others { result ≢ CallResult.NoRoom → result ≢ CallResult.Done → (result ≡ CallResult.NoText) × HasNoLine line_of engine.now.history put.new.next }
 {
     let all = engine.recorded();
     let from = put.next;

@@ -1,11 +1,12 @@
 // An engine of a manifest's text, and the text of a fault in it. It relies on `manifest` for both.
 
 ghost use Rattle.std.specs.Prelude.{◌≤◌, length};
-ghost use Rattle.host_opening.specs.Opened.{Opens};
+ghost use Rattle.host_opening.specs.Opened.{IsRead, Opens, Succeeds};
 
 use base::OrMemory;
+use engine_config::Config;
 use engine_core::Engine;
-use host_embedding::{EngineHandle, put_front};
+use host_embedding::{CallResult, EngineHandle, Numbering, put_front};
 use manifest::{ManifestFault, read};
 use std::alloc::Global;
 
@@ -22,14 +23,7 @@ pub enum OpenFault {
 pub fn open(alloc: Global, text: &[u8]) -> Result<Box<EngineHandle>, OpenFault>
     ensures { Opens text.now result }
 {
-    let Ok(text) = str::from_utf8(text) else {
-        return Err(OpenFault::NotUtf8);
-    };
-    let config = match read(alloc, text) {
-        Ok(manifest) => manifest.config,
-        Err(OrMemory::OutOfMemory) => return Err(OpenFault::OutOfMemory),
-        Err(OrMemory::Fault(fault)) => return Err(OpenFault::Manifest(fault)),
-    };
+    let config = config_of(alloc, text)?;
     let engine = match Engine::open(alloc, config) {
         Ok(engine) => engine,
         Err(_) => return Err(OpenFault::OutOfMemory),
@@ -37,6 +31,41 @@ pub fn open(alloc: Global, text: &[u8]) -> Result<Box<EngineHandle>, OpenFault>
     match Box::new(alloc, EngineHandle::new(alloc, engine)) {
         Ok(handle) => Ok(handle),
         Err(_) => Err(OpenFault::OutOfMemory),
+    }
+}
+
+/// Ends an engine, and begins another one of this manifest's text that takes over what it leaves. If a run is live the text is not read.
+/// A fault of the text comes before what the engine itself is not followed for.
+pub fn succeed(
+    alloc: Global,
+    engine: &mut EngineHandle,
+    text: &[u8],
+    numbering: Numbering,
+) -> Result<CallResult, ManifestFault>
+    ensures { Succeeds numbering text.now result engine.old engine.new }
+{
+    if !engine.has_no_run() {
+        return Ok(CallResult::RunsLive);
+    }
+    match config_of(alloc, text) {
+        Ok(config) => Ok(engine.succeed(alloc, config, numbering)),
+        Err(OpenFault::OutOfMemory) => Ok(CallResult::OutOfMemory),
+        Err(OpenFault::NotUtf8) => Ok(CallResult::NotUtf8),
+        Err(OpenFault::Manifest(fault)) => Err(fault),
+    }
+}
+
+// The configuration that a manifest's text says.
+fn config_of(alloc: Global, text: &[u8]) -> Result<Config, OpenFault>
+    ensures { IsRead text.now result }
+{
+    let Ok(text) = str::from_utf8(text) else {
+        return Err(OpenFault::NotUtf8);
+    };
+    match read(alloc, text) {
+        Ok(manifest) => Ok(manifest.config),
+        Err(OrMemory::OutOfMemory) => Err(OpenFault::OutOfMemory),
+        Err(OrMemory::Fault(fault)) => Err(OpenFault::Manifest(fault)),
     }
 }
 

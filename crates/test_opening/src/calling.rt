@@ -1,8 +1,8 @@
 // The calls of a host as they are, each with what it answers: their clauses stay here, so that the checks are proved without them.
 
 use ccb::{CamStatus, CcbId, Completion, Place, QueueId};
-use host_embedding::{CallResult, EngineHandle, PutLines, RunHandle};
-use host_opening::{OpenFault, open};
+use host_embedding::{CallResult, EngineHandle, Numbering, PutLines, RunHandle};
+use host_opening::{ManifestFault, OpenFault, open};
 use std::alloc::Global;
 
 /// An engine of a manifest's text.
@@ -114,6 +114,36 @@ pub fn take(engine: &mut EngineHandle, place: &mut [u8]) -> (CallResult, PutLine
     };
     let result = engine.take_lines(place, &mut put);
     (result, put)
+}
+
+/// An engine of another manifest's text follows.
+pub fn succeed(
+    alloc: Global,
+    engine: &mut EngineHandle,
+    manifest: &[u8],
+    numbering: Numbering,
+) -> Result<CallResult, ManifestFault> {
+    host_opening::succeed(alloc, engine, manifest, numbering)
+}
+
+/// An engine of the same manifest follows.
+pub fn renew(alloc: Global, engine: &mut EngineHandle, numbering: Numbering) -> CallResult {
+    engine.renew(alloc, numbering)
+}
+
+/// Lines of what was taken over in a place, from that one on.
+pub fn carried(engine: &EngineHandle, from: u64, place: &mut [u8]) -> (CallResult, PutLines) {
+    let mut put = PutLines {
+        written: 0,
+        next: 0,
+    };
+    let result = engine.put_carried(from, place, &mut put);
+    (result, put)
+}
+
+/// How many live CCBs from that number on are in the places.
+pub fn ccbs(engine: &EngineHandle, from: u32, numbers: &mut [u32], states: &mut [u32]) -> usize {
+    engine.list_ccbs(from, numbers, states)
 }
 
 /// The last line in a place.

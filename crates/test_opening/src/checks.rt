@@ -11,7 +11,7 @@ use std::alloc::Global;
 use world_calls::CallRefusal;
 
 /// One queue, under a controller, with the policy of the README.
-const MANIFEST: &str = "version = 2
+pub const MANIFEST: &str = "version = 2
 controllers = 1
 
 [[queue]]
@@ -47,9 +47,9 @@ const END: &str = "end 6 0 0 0
 ";
 
 /// How many results there are.
-const RESULTS: u32 = 23;
+const RESULTS: u32 = 25;
 
-fn engine_of(alloc: Global) -> Option<Box<EngineHandle>> {
+pub fn engine_of(alloc: Global) -> Option<Box<EngineHandle>> {
     match opened(alloc, MANIFEST.as_bytes()) {
         Ok(engine) => Some(engine),
         Err(_) => None,
@@ -68,7 +68,7 @@ fn start(engine: &mut EngineHandle) -> Option<u32> {
 }
 
 // A run of a CCB that timed out.
-fn failed(alloc: Global, engine: &mut EngineHandle) -> Option<Box<RunHandle>> {
+pub fn failed(alloc: Global, engine: &mut EngineHandle) -> Option<Box<RunHandle>> {
     let ccb = start(engine)?;
     match complete(alloc, engine, ccb, CamStatus::CommandTimeout) {
         Ok(run) => run,
@@ -77,12 +77,12 @@ fn failed(alloc: Global, engine: &mut EngineHandle) -> Option<Box<RunHandle>> {
 }
 
 // Whether that is refused so.
-fn is_refused(answer: CallResult, refusal: CallRefusal) -> bool {
+pub fn is_refused(answer: CallResult, refusal: CallRefusal) -> bool {
     answer == CallResult::Refused(refusal)
 }
 
 // Whether so many bytes of the place are that text.
-fn has_text(place: &[u8], count: usize, text: &str) -> bool {
+pub fn has_text(place: &[u8], count: usize, text: &str) -> bool {
     match place.get(..count) {
         Some(front) => *front == *text.as_bytes(),
         None => false,
@@ -192,7 +192,7 @@ fn refuses_first(engine: &mut EngineHandle) -> bool {
 }
 
 // The result of a completion without an error, of which no run starts.
-fn finished(alloc: Global, engine: &mut EngineHandle, ccb: u32) -> CallResult {
+pub fn finished(alloc: Global, engine: &mut EngineHandle, ccb: u32) -> CallResult {
     match complete(alloc, engine, ccb, CamStatus::RequestCompleted) {
         Ok(None) => CallResult::Done,
         Ok(Some(_)) => CallResult::NoCompletion,

@@ -5,6 +5,7 @@
 
 mod calling;
 mod checks;
+mod successions;
 
 use std::alloc::Global;
 use std::io;
@@ -23,10 +24,19 @@ enum Check {
     Parks,
     Manifests,
     Texts,
+    Same,
+    Fresh,
+    Manifest,
+    Unfollowed,
+    LiveRun,
+    Carried,
+    Records,
+    Ccbs,
+    InRecovery,
 }
 
 /// All checks, with their names.
-const CHECKS: [(&str, Check); 9] = [
+const CHECKS: [(&str, Check); 18] = [
     ("handles_go_from_thread_to_thread", Check::Handles),
     ("recovers", Check::Recovery),
     ("lines_go_on", Check::Lines),
@@ -36,6 +46,15 @@ const CHECKS: [(&str, Check); 9] = [
     ("parks", Check::Parks),
     ("faulty_manifests", Check::Manifests),
     ("results_have_texts", Check::Texts),
+    ("follows_under_the_same_numbers", Check::Same),
+    ("follows_under_fresh_numbers", Check::Fresh),
+    ("follows_by_another_manifest", Check::Manifest),
+    ("refused_successions", Check::Unfollowed),
+    ("a_live_run_is_told_first", Check::LiveRun),
+    ("carried_lines_go_on", Check::Carried),
+    ("records_follow_the_carried_lines", Check::Records),
+    ("ccbs_are_listed", Check::Ccbs),
+    ("a_ccb_in_recovery_is_listed", Check::InRecovery),
 ];
 
 impl Check {
@@ -51,6 +70,15 @@ impl Check {
             Check::Parks => checks::parks(alloc),
             Check::Manifests => checks::faulty_manifests(alloc),
             Check::Texts => Some(checks::results_have_texts()),
+            Check::Same => successions::follows_under_the_same_numbers(alloc),
+            Check::Fresh => successions::follows_under_fresh_numbers(alloc),
+            Check::Manifest => successions::follows_by_another_manifest(alloc),
+            Check::Unfollowed => successions::refused_successions(alloc),
+            Check::LiveRun => successions::a_live_run_is_told_first(alloc),
+            Check::Carried => successions::carried_lines_go_on(alloc),
+            Check::Records => successions::records_follow_the_carried_lines(alloc),
+            Check::Ccbs => successions::ccbs_are_listed(alloc),
+            Check::InRecovery => successions::a_ccb_in_recovery_is_listed(alloc),
         }
     }
 }

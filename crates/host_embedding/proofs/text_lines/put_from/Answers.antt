@@ -1,8 +1,8 @@
 use Rattle.std.proofs.Common.{◌≡◌, ◌≢◌, ◌<◌, List, drop, length, rules, arith, refl, ap, subst, sym, inr, ◌∙◌}
-use Rattle.world.specs.World.{version_of}
 use Rattle.world_calls.specs.declared.record.Record.{Record}
 use Rattle.host_embedding.specs.declared.call_result.CallResult.{CallResult}
 use Rattle.host_embedding.specs.declared.call_result.CallResult.TheVariants.{Done, NoRoom, NoText, Taken}
+use Rattle.trace.specs.TraceText.{line_of}
 use Rattle.host_embedding.specs.Lines.{first_line, FindsNoRoom}
 use Rattle.host_embedding.proofs.Lines.{finds_moved, same_behind}
 use Rattle.host_embedding.proofs.text_lines.put_from.Goals.{then-from-eq0+else-not-finds_room+in-Some, else-from-eq0}
@@ -32,7 +32,7 @@ returns-clause-lines c =
                 let none = c.put_records.ensures.none told in
                 let some : 0 < length c.args.engine.now.history = (let within = none.2 in omega (arith, within, number)) in
                 absurd (w.finds_room.ensures.room w.if-not-finds_room.false some
-                (finds_moved c.args.engine.now.history started.next 0 started.written (length first) later c.args.place.now number count size none.3)),
+                (finds_moved line_of c.args.engine.now.history started.next 0 started.written (length first) later c.args.place.now number count size none.3)),
             search rules,
             search rules,
             (let begun : drop started.written before ≡ drop started.written c.args.place.now = search rules in
@@ -45,16 +45,16 @@ returns-clause-lines c =
         λ told.
             let none = c.put_records.ensures.none told in
             let same = c.put_records.ensures.same told in
-            let count : started.written ≡ length (first_line (version_of c.args.engine.now.setup) c.args.from) = search rules in
+            let count : started.written ≡ length (first_line c.args.first.now c.args.from) = search rules in
             let number : started.next ≡ c.args.from = search rules in
             let items : c.args.engine.now.history ≡ c.args.engine.now.history = search rules in
-            let moved = finds_moved c.args.engine.now.history started.next c.args.from started.written (length (first_line (version_of c.args.engine.now.setup) c.args.from)) later later number count refl none.3 in (
+            let moved = finds_moved line_of c.args.engine.now.history started.next c.args.from started.written (length (first_line c.args.first.now c.args.from)) later later number count refl none.3 in (
               search (rules, none),
               search (rules, none, number),
               same ∙ w.place-is,
               inr (
                 (let within = none.2 in omega (arith, within, number, ap length items)),
-                subst (λ (its : List Record). FindsNoRoom its c.args.from later (length (first_line (version_of c.args.engine.now.setup) c.args.from))) items moved,
+                subst (λ (its : List Record). FindsNoRoom line_of its c.args.from later (length (first_line c.args.first.now c.args.from))) items moved,
               ),
             ),
         search rules,

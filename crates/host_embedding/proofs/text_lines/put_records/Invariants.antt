@@ -1,4 +1,5 @@
 use Rattle.std.proofs.Common.{◌≡◌, ◌≤◌, drop, length, take}
+use Rattle.trace.specs.TraceText.{line_of}
 use Rattle.host_embedding.specs.Lines.{AddsLines, IsWithin}
 use Rattle.host_embedding.proofs.text_lines.put_records.Given as goal
 
@@ -7,7 +8,7 @@ invariant-loop-number l = record {
   room : l.put.written ≤ length l.place;
   next : l.put.next ≡ l.number;
   within : IsWithin l.engine.history l.fn.put.next l.number;
-  lines : AddsLines l.fn.engine.history (take l.fn.put.written l.fn.place) l.fn.put.next (take l.put.written l.place) l.put.next;
+  lines : AddsLines line_of l.fn.engine.history (take l.fn.put.written l.fn.place) l.fn.put.next (take l.put.written l.place) l.put.next;
   onward : l.fn.put.written ≤ l.put.written;
   begun : l.number ≡ l.fn.put.next → (l.put.written ≡ l.fn.put.written) × (l.place ≡ l.fn.place);
   behind : drop l.put.written l.place ≡ drop l.put.written l.fn.place;

@@ -1,5 +1,6 @@
 use Rattle.std.proofs.Common.{◌∙◌, ap, sym}
 use Rattle.host_embedding.specs.declared.run_handle.RunHandle.{RunHandle}
+use Rattle.host_embedding.proofs.Beginning.{recorded, same as knows_same}
 use Rattle.host_embedding.proofs.Going.{goes_none, goes_one}
 use Rattle.host_embedding.proofs.Guests.{same, stay_advanced}
 use Rattle.host_embedding.proofs.Taking.{advanced_so, has_ended, is_back, went_on}
@@ -8,9 +9,18 @@ use Rattle.host_embedding.proofs.engine_handle.EngineHandle.advance.Goals.{in-Ok
 
 pub invariant_of-self : goal.invariant_of-self
 invariant_of-self c = elim c.match-go_on.branch [
-  | in-Ok-Goes w ↦ stay_advanced c.self.inside.engine c.go_on.new.self _ _ _ _ c.self.inside.tokens.items c.self.invariant w.in-Ok-Goes.ensures.answered c.go_on.ensures.run
-  | in-Ok-Ended w ↦ stay_advanced c.self.inside.engine c.go_on.new.self _ _ _ _ c.self.inside.tokens.items c.self.invariant w.in-Ok-Ended.ensures.answered c.go_on.ensures.run
-  | in-Err w ↦ same c.self.inside.engine c.go_on.new.self c.self.inside.tokens.items c.self.invariant w.in-Err.ensures.back.1
+  | in-Ok-Goes w ↦ (
+    stay_advanced c.self.inside.engine c.go_on.new.self _ _ _ _ c.self.inside.tokens.items c.self.invariant.0 w.in-Ok-Goes.ensures.answered c.go_on.ensures.run,
+    recorded c.self.inside.engine c.go_on.new.self _ c.self.inside.is_continued c.self.inside.lines.items c.self.invariant.1 w.in-Ok-Goes.ensures.answered,
+  )
+  | in-Ok-Ended w ↦ (
+    stay_advanced c.self.inside.engine c.go_on.new.self _ _ _ _ c.self.inside.tokens.items c.self.invariant.0 w.in-Ok-Ended.ensures.answered c.go_on.ensures.run,
+    recorded c.self.inside.engine c.go_on.new.self _ c.self.inside.is_continued c.self.inside.lines.items c.self.invariant.1 w.in-Ok-Ended.ensures.answered,
+  )
+  | in-Err w ↦ (
+    same c.self.inside.engine c.go_on.new.self c.self.inside.tokens.items c.self.invariant.0 w.in-Err.ensures.back.1,
+    knows_same c.self.inside.engine c.go_on.new.self c.self.inside.is_continued c.self.inside.lines.items c.self.invariant.1 w.in-Err.ensures.back.1,
+  )
 ]
 
 pub returns-after-go_on-clause-goes : goal.returns-after-go_on-clause-goes

@@ -1,0 +1,16 @@
+use Rattle.host_embedding.proofs.Beginning.{faulted, recorded}
+use Rattle.host_embedding.proofs.Guests.{stay, stay_faulted}
+use Rattle.host_embedding.proofs.engine_handle.EngineHandle.clock.Goals as goal
+use Rattle.host_embedding.proofs.engine_handle.EngineHandle.clock.Goals.{in-Ok, in-Err}
+
+pub invariant_of-self : goal.invariant_of-self
+invariant_of-self c = elim c.match-clock.branch [
+  | in-Ok w ↦ (
+    stay c.self.inside.engine c.clock.new.self _ _ c.self.inside.tokens.items c.self.invariant.0 tt w.in-Ok.ensures.answered c.clock.ensures.run,
+    recorded c.self.inside.engine c.clock.new.self _ c.self.inside.is_continued c.self.inside.lines.items c.self.invariant.1 w.in-Ok.ensures.answered,
+  )
+  | in-Err w ↦ (
+    stay_faulted c.self.inside.engine c.clock.new.self _ _ c.self.inside.tokens.items c.self.invariant.0 tt w.in-Err.ensures.fault c.clock.ensures.run,
+    faulted c.self.inside.engine c.clock.new.self _ _ c.self.inside.is_continued c.self.inside.lines.items c.self.invariant.1 w.in-Err.ensures.fault,
+  )
+]

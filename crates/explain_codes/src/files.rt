@@ -146,7 +146,7 @@ pub(crate) const JOURNALS: &[Explanation] = &[
 pub(crate) const TRACES: &[Explanation] = &[
     // X1
     Explanation {
-        meaning: "the text does not begin with `camr-trace 1` or `camr-trace 2` and a line feed",
+        meaning: "the text does not begin with `camr-trace 1` or `camr-trace 2`, alone or with `continued` after a blank, and a line feed",
         cause: "the file is no trace",
         advice: None,
         shown: Shown::Trace,
@@ -170,5 +170,14 @@ pub(crate) const TRACES: &[Explanation] = &[
         shown: Shown::Trace,
         example: "camr-trace 2\nclock 500 = 1\nend 1 0 0 0",
         mended: "camr-trace 2\nclock 500 = 0\nend 1 0 0 0",
+    },
+    // X4
+    Explanation {
+        meaning: "the line is the first of the carried lines with which no engine of the manifest begins after the lines before it; if an `openings` line is missing, it is the line that stands in its place",
+        cause: "the trace is of another manifest, or was changed",
+        advice: None,
+        shown: Shown::Trace,
+        example: "camr-trace 2 continued\nnumbers 0 0 0\nclock 0\nopenings 0 0\nend 0 0 0 0",
+        mended: "camr-trace 2 continued\nnumbers 0 0 0\nclock 0\nopenings 0 1\nend 0 0 0 0",
     },
 ];

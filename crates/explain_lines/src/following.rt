@@ -1,15 +1,19 @@
 // The report of a trace whose lines are of the form, of which one does not follow: the line that would have followed. It relies on
-// `engine_core` and `replay` for the engine behind the lines before, and on `trace` for the texts of lines.
+// `engine_core`, `engine_succession` and `replay` for the engine after the lines before it, and on `trace` and `carried_lines` for the texts
+// of lines.
 
 use crate::lines::{Line, line_of};
 use crate::telling::{put_cause, put_code, put_line};
+use crate::traces::is_continued;
+use carried_lines::{continued_header, read_carried};
 use cli_text_page::Page;
 use engine_core::{Config, NumberedEngine};
+use engine_succession::{BeginFault, begin_numbered};
 use replay::{ReplayFault, follows};
 use std::alloc::{AllocError, Global};
 use trace::{header, print_entry, print_totals, read_record};
 use trace_lines::Text;
-use world_calls::{Call, Record, Totals, Version};
+use world_calls::{Call, CarriedLine, Record, Totals, Version};
 
 /// Puts what there is to say of a trace, its path and text, of which a line does not follow over a configuration. The memory that it takes
 /// does not grow with the trace.
@@ -27,10 +31,20 @@ pub fn put(
             put_code(page, "X3");
             page.text("  = to mend it: give the manifest over which the trace was written\n");
         }
-        ReplayFault::Behind(count) => {
+        ReplayFault::Carried(count) => {
             let line = line_of(path, text, count.saturating_add(2));
             put_line(page, &line, 0, line.line.len());
-            put_next(alloc, text, config, count, line.line, page)?;
+            page.text(
+                "  = here: no engine of the manifest begins with this line after those before it\n",
+            );
+            put_code(page, "X4");
+            put_cause(page, "X4");
+        }
+        ReplayFault::Behind { carried, records } => {
+            let count = carried.saturating_add(records);
+            let line = line_of(path, text, count.saturating_add(2));
+            put_line(page, &line, 0, line.line.len());
+            put_next(alloc, text, config, records, line.line, page)?;
             put_code(page, "X3");
             put_cause(page, "X3");
         }
@@ -69,28 +83,65 @@ fn first_unfollowed(
     text: &str,
     config: &Config,
 ) -> Result<Option<ReplayFault>, AllocError> {
-    if !text.starts_with(header(Version::of(config.helpers()))) {
+    let version = Version::of(config.helpers());
+    if !text.starts_with(header(version)) && !text.starts_with(continued_header(version)) {
         return Ok(Some(ReplayFault::Header));
     }
-    let mut engine = NumberedEngine::open(alloc, config)?;
     let end = text.rfind('\n').unwrap_or(0);
     let whole = text.get(..end).unwrap_or("");
-    first_after(alloc, &mut engine, Version::of(config.helpers()), whole)
+    let carried = carried_of(alloc, whole)?;
+    match begun(alloc, text, config, &carried) {
+        Ok(mut engine) => first_after(alloc, &mut engine, version, whole, carried.len()),
+        Err(BeginFault::DoesNotFit(place)) => Ok(Some(ReplayFault::Carried(place))),
+        Err(BeginFault::OutOfMemory) => Err(AllocError),
+    }
 }
 
-// The same by an engine after which no line was followed yet.
+// The carried lines with which a text begins.
+fn carried_of(alloc: Global, text: &str) -> Result<Vec<CarriedLine>, AllocError> {
+    let mut carried = Vec::new(alloc);
+    if is_continued(text) {
+        for line in text.split('\n').skip(1) {
+            match read_carried(line) {
+                Some(line) => carried.push(line)?,
+                None => break,
+            }
+        }
+    }
+    Ok(carried)
+}
+
+// The engine before the first record of a text, which has these carried lines.
+fn begun<'a>(
+    alloc: Global,
+    text: &str,
+    config: &'a Config,
+    carried: &[CarriedLine],
+) -> Result<NumberedEngine<'a>, BeginFault> {
+    if is_continued(text) {
+        return begin_numbered(alloc, config, carried);
+    }
+    match NumberedEngine::open(alloc, config) {
+        Ok(engine) => Ok(engine),
+        Err(AllocError) => Err(BeginFault::OutOfMemory),
+    }
+}
+
+// Which record's line is the first that does not follow, by an engine after which no line was followed yet. So many carried lines stand
+// before the records.
 fn first_after(
     alloc: Global,
     engine: &mut NumberedEngine<'_>,
     version: Version,
     text: &str,
+    carried: usize,
 ) -> Result<Option<ReplayFault>, AllocError> {
-    let mut count = 0usize;
-    for line in text.split('\n').skip(1) {
+    let mut records = 0usize;
+    for line in text.split('\n').skip(carried.saturating_add(1)) {
         if !is_followed(alloc, engine, version, line)? {
-            return Ok(Some(ReplayFault::Behind(count)));
+            return Ok(Some(ReplayFault::Behind { carried, records }));
         }
-        count = count.saturating_add(1);
+        records = records.saturating_add(1);
     }
     Ok(None)
 }
@@ -121,7 +172,7 @@ fn put_version(line: &Line<'_>, config: &Config, page: &mut Page) {
     page.text("\n");
 }
 
-// Puts the line that would have followed the first line and so many others, if the same was asked as in a line.
+// Puts the line that would have followed so many records, if the same was asked as in a line.
 fn put_next(
     alloc: Global,
     text: &str,
@@ -131,20 +182,29 @@ fn put_next(
     page: &mut Page,
 ) -> Result<(), AllocError> {
     let version = Version::of(config.helpers());
-    let mut engine = NumberedEngine::open(alloc, config)?;
-    follow_first(alloc, &mut engine, version, text, count)?;
-    put_after(alloc, &mut engine, version, count, line, page)
+    let carried = carried_of(alloc, text)?;
+    match begun(alloc, text, config, &carried) {
+        Ok(mut engine) => {
+            let before = carried.len().saturating_add(1);
+            follow_first(alloc, &mut engine, version, text, before, count)?;
+            put_after(alloc, &mut engine, version, count, line, page)
+        }
+        // The fault is then that of a carried line, and no record is asked for.
+        Err(BeginFault::DoesNotFit(_)) => Ok(()),
+        Err(BeginFault::OutOfMemory) => Err(AllocError),
+    }
 }
 
-// Lets an engine follow so many lines after the first.
+// Lets an engine follow the lines of so many records, before which so many lines stand.
 fn follow_first(
     alloc: Global,
     engine: &mut NumberedEngine<'_>,
     version: Version,
     text: &str,
+    before: usize,
     count: usize,
 ) -> Result<(), AllocError> {
-    for line in text.split('\n').skip(1).take(count) {
+    for line in text.split('\n').skip(before).take(count) {
         is_followed(alloc, engine, version, line)?;
     }
     Ok(())

@@ -26,7 +26,7 @@ pub struct Said {
 }
 
 /// The slips, each at its place.
-const SLIPS: [Said; 56] = [
+const SLIPS: [Said; 57] = [
     Said {
         slip: Slip::Mark,
         here: "a byte order mark stands before the line",
@@ -343,6 +343,12 @@ const SLIPS: [Said; 56] = [
         slip: Slip::AfterEnd,
         here: "something follows the last line",
         mending: "leave it out, or take each trace into a file of its own",
+        shows: Shows::Nothing,
+    },
+    Said {
+        slip: Slip::Carried,
+        here: "this is no line of what was carried over, or may not stand here",
+        mending: "",
         shows: Shows::Nothing,
     },
     Said {

@@ -76,6 +76,8 @@ pub enum Slip {
     CutOff,
     NoEnd,
     AfterEnd,
+    /// Of what was carried over: the line is no carried line, or may not stand there.
+    Carried,
     /// Of a trace's first line: it is another one, or of no version.
     NoHeader,
     NoVersion,

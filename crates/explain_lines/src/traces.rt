@@ -7,6 +7,7 @@ use crate::lines::{Line, line_of, without_return};
 use crate::slips::{Found, Slip};
 use crate::stops::first_word;
 use crate::telling::put as put_line_report;
+use carried_lines::{Order, continued_header, read_carried};
 use cli_text_page::Page;
 use std::alloc::{AllocError, Global};
 use trace::{TraceFault, header, read_record, read_totals};
@@ -24,6 +25,17 @@ const SUMS: Slots<Kind> = Slots {
 /// With what the first line of each version begins.
 const FRONT: &str = "camr-trace ";
 
+/// The forms of carried lines, and their order.
+const CARRIED: &str = "\
+  = note: what was carried over is told by these lines, in this order, those of a kind by rising number
+          numbers CCB FREEZE RUN
+          clock T
+          openings Q N, for each queue from 0 on
+          word K I W, for each word that is not 0
+          ccb C Q PRIORITY RETRIES ATTEMPTS, and `waiting` or `active`
+          freeze F, `queue Q` or `controller C`, and `timer T` or `guest G`
+";
+
 /// Puts what there is to say of a text, its path and itself, that is no trace by that fault.
 pub fn put(
     alloc: Global,
@@ -38,6 +50,9 @@ pub fn put(
             let found = faulty_slip(alloc, text, number)?;
             let line = line_of(path, text, number);
             put_line_report(page, &line, &found, Kept::Trace, "X2");
+            if found.slip.is(Slip::Carried) {
+                page.text(CARRIED);
+            }
         }
     }
     Ok(())
@@ -81,7 +96,11 @@ fn header_slip(line: &str) -> Found {
 
 // Whether a line is the first one of a version.
 fn is_header(line: &str) -> bool {
-    header(Version::One).trim_end() == line || header(Version::Two).trim_end() == line
+    is_header_of(line, Version::One) || is_header_of(line, Version::Two)
+}
+
+fn is_header_of(line: &str, version: Version) -> bool {
+    header(version).trim_end() == line || continued_header(version).trim_end() == line
 }
 
 /// Whether a text has that fault since it ends before its last line, at the end of a line or within one.
@@ -115,10 +134,47 @@ fn faulty_slip(alloc: Global, text: &str, number: usize) -> Result<Found, AllocE
         return Ok(Found::of(slip, line.line.len(), line.line.len()));
     }
     let whole = without_return(line.line);
+    if is_among_carried(text, number) {
+        return Ok(Found::of(Slip::Carried, 0, line.line.len()));
+    }
     if first_word(whole) == "end" {
         return Ok(last_slip(whole, line.line));
     }
     line_slip(alloc, line.line, Kept::Trace)
+}
+
+// Whether the line of that number, which is not of the form, stands where a carried line may stand: all before it are carried lines, and
+// more have to follow, or it begins as one.
+fn is_among_carried(text: &str, number: usize) -> bool {
+    if !is_continued(text) {
+        return false;
+    }
+    let mut order = Order::new();
+    for line in text.split('\n').skip(1).take(number.saturating_sub(2)) {
+        match read_carried(line) {
+            Some(line) => {
+                order.take(&line);
+            }
+            None => return false,
+        }
+    }
+    let line = line_of("", text, number).line;
+    !order.is_complete() || is_begun_as_carried(line)
+}
+
+// Whether a line begins as a carried line, and is none of a record.
+fn is_begun_as_carried(line: &str) -> bool {
+    !line.contains(" = ")
+        && matches!(
+            first_word(line),
+            "numbers" | "clock" | "openings" | "word" | "ccb" | "freeze"
+        )
+}
+
+/// Whether a text begins as a continued trace.
+pub fn is_continued(text: &str) -> bool {
+    text.starts_with(continued_header(Version::One))
+        || text.starts_with(continued_header(Version::Two))
 }
 
 // What is against the last line, with and without a carriage return at its end.
@@ -133,12 +189,15 @@ fn last_slip(whole: &str, line: &str) -> Found {
 // Whether a line is that of a record which a text may have that begins so, or has sums.
 fn is_of_form(alloc: Global, text: &str, line: &str) -> Result<bool, AllocError> {
     let version = version_of(text);
+    if is_continued(text) && read_carried(line).is_some() {
+        return Ok(true);
+    }
     Ok(read_totals(line).is_some() || read_record(alloc, version, line)?.is_some())
 }
 
 /// The version that a text's first line says; the second if it says none.
 pub fn version_of(text: &str) -> Version {
-    if text.starts_with(header(Version::One)) {
+    if text.starts_with(header(Version::One)) || text.starts_with(continued_header(Version::One)) {
         Version::One
     } else {
         Version::Two

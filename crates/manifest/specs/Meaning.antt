@@ -122,12 +122,13 @@ abbrev pub setup_of : List Named → QueueLine → Option QueueSetup
 setup_of programs queue = option_map (setup_with queue) (find (is_named queue.program) programs)
 
 -- What a plan is set up as: its controllers, its programs, in the text's order, each accepted under its limits, and its queues
--- with theirs.
+-- with theirs. The engine follows no other.
 pub record IsSetUp (plan : Plan) (setup : Setup) (programs : List Named) : Type 0 where
   pub limits : setup.limits ≡ limits_of plan
   pub controllers : setup.controllers ≡ unwrap_or plan.controllers 0
   pub accepted : AllZip (IsAccepted (limits_of plan)) plan.programs programs
   pub queues : map (setup_of programs) plan.queues ≡ map Some setup.queues
+  pub alone : setup.carried ≡ None
 
 -- The text means this setup and these programs.
 abbrev pub Means : List ℕ → Setup → List Named → Type 0

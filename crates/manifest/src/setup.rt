@@ -30,6 +30,7 @@ pub fn config(
     ensures limits { IfOk result (λ config. config.limits ≡ limits) }
     ensures controllers { IfOk result (λ config. config.controllers ≡ unwrap_or controllers 0) }
     ensures queues { IfOk result (λ config. map (setup_of (map named_seen programs.now)) (map queue_seen queues.now) ≡ map Some config.queues) }
+    ensures alone { IfOk result (λ config. config.carried ≡ None) }
 {
     match controllers {
         None => alone(alloc, queues, limits, programs),
@@ -47,6 +48,7 @@ fn alone(
     ensures limits { IfOk result (λ config. config.limits ≡ limits) }
     ensures controllers { IfOk result (λ config. config.controllers ≡ 0) }
     ensures queues { IfOk result (λ config. map (setup_of (map named_seen programs.now)) (map queue_seen queues.now) ≡ map Some config.queues) }
+    ensures alone { IfOk result (λ config. config.carried ≡ None) }
 {
     let given = given_alone(alloc, queues, programs)?;
     let Some(config) = Config::new(limits, given) else {
@@ -66,6 +68,7 @@ fn under(
     ensures limits { IfOk result (λ config. config.limits ≡ limits) }
     ensures controllers { IfOk result (λ config. config.controllers ≡ controllers) }
     ensures queues { IfOk result (λ config. map (setup_of (map named_seen programs.now)) (map queue_seen queues.now) ≡ map Some config.queues) }
+    ensures alone { IfOk result (λ config. config.carried ≡ None) }
 {
     let given = given_under(alloc, queues, programs)?;
     let Some(config) = Config::with_controllers(limits, controllers, given) else {

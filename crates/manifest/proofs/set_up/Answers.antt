@@ -45,4 +45,5 @@ returns-clause-found c =
       controllers = c.in_ok-config.ensures.controllers;
       accepted = accepted_by plan limits (map program_seen c.deref-2.result.now) programs limits_is (ap (map program_seen) c.deref-2.ensures.value) c.in_ok-programs.ensures.accepted;
       queues = queues_by plan (map queue_seen c.deref-3.result.now) programs (map named_seen c.deref-4.result.now) _ (ap (map queue_seen) c.deref-3.ensures.value) (ap (map named_seen) c.deref-4.ensures.value) c.in_ok-config.ensures.queues;
+      alone = c.in_ok-config.ensures.alone;
     }

@@ -7,7 +7,7 @@ use show_events::{Event, Filter, RefusedFilter, SenseFilter};
 use show_sense::sense_code;
 
 /// Whether the event fits all that is wanted.
-pub(crate) fn fits(filter: &Filter, event: &Event, config: &Config) -> bool {
+pub fn fits(filter: &Filter, event: &Event, config: &Config) -> bool {
     is_wanted(filter.ccb, event.subject.ccb)
         && is_wanted(filter.run, event.subject.run)
         && is_wanted(filter.freeze, event.subject.freeze)

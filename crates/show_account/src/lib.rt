@@ -8,5 +8,8 @@ mod line;
 mod names;
 mod writing;
 
-pub use line::{put_code, put_failure};
+pub use fitting::fits;
+pub use known::{Known, Missing};
+pub use line::{put_code, put_failure, put_why_not};
+pub use names::{name_of_code, status_name};
 pub use writing::account;

@@ -99,8 +99,8 @@ fn put_held(letter: u8, values: &Values, page: &mut Page) {
     }
 }
 
-// Why a call is refused. If something is not there that it names, this says what.
-fn put_why_not(event: &Event, page: &mut Page) {
+/// Puts why a call is refused. If something is not there that it names, this says what.
+pub fn put_why_not(event: &Event, page: &mut Page) {
     if event.values.refusal == CallRefusal::Unknown {
         put_unknown(&event.subject, page);
     } else {

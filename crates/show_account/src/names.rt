@@ -3,7 +3,7 @@
 use ccb::CamStatus;
 
 /// The name of a status, in words.
-pub(crate) fn status_name(status: CamStatus) -> &'static str {
+pub fn status_name(status: CamStatus) -> &'static str {
     match status {
         CamStatus::RequestInProgress => "request in progress",
         CamStatus::RequestCompleted => "request completed",
@@ -35,7 +35,7 @@ pub(crate) fn failure_of(status: CamStatus) -> &'static str {
 }
 
 /// The name of the status that a final code is; nothing if it is none.
-pub(crate) fn name_of_code(code: u8) -> &'static str {
+pub fn name_of_code(code: u8) -> &'static str {
     match CamStatus::from_code(code) {
         Some(status) => status_name(status),
         None => "",

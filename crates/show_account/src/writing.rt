@@ -73,7 +73,7 @@ impl<'a> Telling<'a> {
         if !has_any {
             self.page.text("no event fits\n");
         }
-        self.known.put_missing(filter, self.config, &mut self.page);
+        self.known.missing(filter, self.config).put(&mut self.page);
         if let Ending::Open | Ending::Cut = shown.ending {
             self.page.fill(shown.words(), &[shown.line()]);
             self.page.text("\n");

@@ -2,6 +2,7 @@
 
 use cli_text_page::Page;
 use show_events::{Event, Happening};
+use show_json::Json;
 
 /// How many CCBs are listed.
 const LISTED: usize = 5;
@@ -72,5 +73,20 @@ impl MostTried {
         if self.listed[0].attempts == 0 {
             page.text("  none\n");
         }
+    }
+
+    /// Puts the same as a list.
+    pub(crate) fn put(&self, json: &mut Json) {
+        json.begin_list("most_attempts");
+        for tried in &self.listed {
+            if tried.attempts > 0 {
+                json.begin();
+                json.number("ccb", u64::from(tried.ccb));
+                json.number("queue", u64::from(tried.queue));
+                json.number("attempts", tried.attempts);
+                json.end();
+            }
+        }
+        json.end_list();
     }
 }

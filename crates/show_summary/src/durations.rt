@@ -3,6 +3,7 @@
 
 use cli_text_page::Page;
 use show_events::{Event, Happening};
+use show_json::Json;
 use std::alloc::{AllocError, Global};
 use std::collections::BTreeMap;
 
@@ -47,18 +48,38 @@ impl Durations {
         found
     }
 
+    fn median(&self) -> u64 {
+        self.of_rank(self.all.saturating_add(1) / 2)
+    }
+
+    // The time within which 99 % are.
+    fn almost_most(&self) -> u64 {
+        self.of_rank(self.all.saturating_sub(self.all / 100))
+    }
+
     // Puts the median, the time within which 99 % are, and the longest one.
     fn print(&self, page: &mut Page) {
         if self.all == 0 {
             page.text("never\n");
             return;
         }
-        let median = self.of_rank(self.all.saturating_add(1) / 2);
-        let almost = self.of_rank(self.all.saturating_sub(self.all / 100));
         page.fill(
             "median {} ms, 99 % {} ms, most {} ms\n",
-            &[median, almost, self.most],
+            &[self.median(), self.almost_most(), self.most],
         );
+    }
+
+    // Puts the same under a key; null if there were no times.
+    fn put(&self, key: &str, json: &mut Json) {
+        if self.all == 0 {
+            json.null(key);
+            return;
+        }
+        json.begin_at(key);
+        json.digits("median", self.median());
+        json.digits("within_99_percent", self.almost_most());
+        json.digits("most", self.most);
+        json.end();
     }
 }
 
@@ -97,6 +118,12 @@ impl AllDurations {
         page.text("  active        ");
         print_of(&self.active, queue, page);
     }
+
+    /// Puts the same as two objects.
+    pub(crate) fn put(&self, queue: u32, json: &mut Json) {
+        put_of("waited", &self.waited, queue, json);
+        put_of("active", &self.active, queue, json);
+    }
 }
 
 fn none(alloc: Global, queues: u32) -> Result<Vec<Durations>, AllocError> {
@@ -117,5 +144,11 @@ fn add(all: &mut Vec<Durations>, queue: usize, time: u64) -> Result<(), AllocErr
 fn print_of(all: &Vec<Durations>, queue: u32, page: &mut Page) {
     if let Some(durations) = all.get(queue as usize) {
         durations.print(page);
+    }
+}
+
+fn put_of(key: &str, all: &Vec<Durations>, queue: u32, json: &mut Json) {
+    if let Some(durations) = all.get(queue as usize) {
+        durations.put(key, json);
     }
 }

@@ -3,9 +3,11 @@
 #![tactic(auto)]
 
 mod attempts;
+mod data;
 mod durations;
 mod frozen;
 mod left;
+mod left_data;
 mod openings;
 mod places;
 mod programs;
@@ -17,4 +19,5 @@ mod summary;
 mod sums;
 mod words;
 
+pub use data::write_summary;
 pub use summary::summarise;

@@ -4,6 +4,7 @@ use cli_text_page::Page;
 use engine_config::Config;
 use helpers::HelperEffect;
 use show_events::{Event, Happening};
+use show_json::{Json, OPENINGS};
 
 /// How many changes of a queue are told one by one.
 const TOLD: usize = 8;
@@ -66,6 +67,13 @@ impl AllOpenings {
             openings.print(page);
         }
     }
+
+    /// Puts the same as an object.
+    pub(crate) fn put(&self, queue: u32, json: &mut Json) {
+        if let Some(openings) = self.queues.get(queue as usize) {
+            openings.put(json);
+        }
+    }
 }
 
 impl Openings {
@@ -86,5 +94,26 @@ impl Openings {
         if more > 0 {
             page.fill(", and after {} further changes {}", &[more, self.last]);
         }
+    }
+
+    fn put(&self, json: &mut Json) {
+        json.begin_at(OPENINGS);
+        json.number("first", self.first);
+        json.begin_list("changes");
+        for change in self.changes.iter().take(self.count as usize) {
+            json.begin();
+            json.digits("time", change.clock);
+            json.number(OPENINGS, change.openings);
+            json.end();
+        }
+        json.end_list();
+        json.number("further_changes", self.count.saturating_sub(TOLD as u64));
+        let last = if self.count > 0 {
+            self.last
+        } else {
+            self.first
+        };
+        json.number("last", last);
+        json.end();
     }
 }

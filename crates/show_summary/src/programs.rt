@@ -2,6 +2,7 @@
 
 use cli_text_page::Page;
 use show_events::{Event, Happening, Programs};
+use show_json::Json;
 
 /// Of the runs of a program that ended: how many, and how many instructions they executed, the least, the most and in all.
 #[derive(Clone, Copy, Default)]
@@ -34,6 +35,22 @@ impl Instructions {
                 &[self.least, mean, self.most, u64::from(budget)],
             );
         }
+    }
+
+    /// Puts the same; null for the instructions if no run ended.
+    pub(crate) fn put(&self, runs: u64, budget: u32, json: &mut Json) {
+        json.number("runs", runs);
+        json.number("ended", self.ended);
+        json.number("budget", u64::from(budget));
+        if self.ended == 0 {
+            json.null("instructions");
+            return;
+        }
+        json.begin_at("instructions");
+        json.number("least", self.least);
+        json.number("mean", self.all / self.ended);
+        json.number("most", self.most);
+        json.end();
     }
 }
 

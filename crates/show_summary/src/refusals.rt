@@ -3,6 +3,7 @@
 use ccb::REFUSALS;
 use cli_text_page::Page;
 use show_events::Event;
+use show_json::Json;
 
 /// How many refusals there are.
 const CODES: usize = REFUSALS.len();
@@ -42,6 +43,21 @@ impl Refused {
             }
         }
         page.text(if has_any { "\n" } else { "none\n" });
+    }
+
+    /// Puts the same as a list.
+    pub(crate) fn put(&self, json: &mut Json) {
+        json.begin_list("refused");
+        for row in &REFUSALS {
+            let count = self.of(row.refusal as usize);
+            if count > 0 {
+                json.begin();
+                json.shown("code", &row.refusal);
+                json.number("count", count);
+                json.end();
+            }
+        }
+        json.end_list();
     }
 
     fn of(&self, place: usize) -> u64 {

@@ -3,6 +3,7 @@
 
 use cli_text_page::Page;
 use show_events::Event;
+use show_json::{Json, put_scsi_status as put_status, put_sense_code};
 use show_sense::{SenseCode, put_scsi_status, put_sense, sense_code};
 use std::alloc::{AllocError, Global};
 use std::collections::BTreeMap;
@@ -98,6 +99,37 @@ impl Reports {
         page.text("\n  sense         ");
         self.print_codes(queue, page);
         page.text("\n");
+    }
+
+    /// Puts the same as lists and counts.
+    pub(crate) fn put(&self, queue: u32, json: &mut Json) {
+        json.begin_list("scsi_statuses");
+        for status in 0..=u8::MAX {
+            let count = at(&self.statuses, status_at(queue, status));
+            if count > 0 {
+                json.begin();
+                put_status(status, json);
+                json.number("count", count);
+                json.end();
+            }
+        }
+        json.end_list();
+        self.put_codes(queue, json);
+        json.number("sense_others", at(&self.others, queue as usize));
+        json.number("sense_not_decoded", at(&self.undecoded, queue as usize));
+    }
+
+    fn put_codes(&self, queue: u32, json: &mut Json) {
+        json.begin_list("sense");
+        for (_, reported) in self.codes.iter() {
+            if reported.queue == queue {
+                json.begin();
+                put_sense_code(reported.code, json);
+                json.number("count", reported.count);
+                json.end();
+            }
+        }
+        json.end_list();
     }
 
     fn print_statuses(&self, queue: u32, page: &mut Page) {

@@ -4,6 +4,7 @@ use cli_text_page::Page;
 use engine_config::Config;
 use helpers::HelperEffect;
 use show_events::{Event, Happening};
+use show_json::Json;
 use std::alloc::{AllocError, Global};
 
 /// The tables of a configuration.
@@ -57,6 +58,20 @@ impl Words {
             number = number.saturating_add(1);
         }
     }
+
+    /// Puts the same as a list of tables, each with a list of its words.
+    pub(crate) fn put(&self, json: &mut Json) {
+        json.begin_list("tables");
+        let mut number = 0u64;
+        for words in &self.tables {
+            json.begin();
+            json.number("table", number);
+            put_words(words, json);
+            json.end();
+            number = number.saturating_add(1);
+        }
+        json.end_list();
+    }
 }
 
 fn print_words(words: &[u64], page: &mut Page) {
@@ -72,4 +87,19 @@ fn print_words(words: &[u64], page: &mut Page) {
     if !has_any {
         page.text("  all words are 0\n");
     }
+}
+
+fn put_words(words: &[u64], json: &mut Json) {
+    json.begin_list("words");
+    let mut index = 0u64;
+    for word in words {
+        if *word != 0 {
+            json.begin();
+            json.number("index", index);
+            json.digits("word", *word);
+            json.end();
+        }
+        index = index.saturating_add(1);
+    }
+    json.end_list();
 }

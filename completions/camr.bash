@@ -6,7 +6,7 @@ _camr_options() {
     case $1 in
     run) echo '--workers --strict --watch --watch=lines --watch=terminal' ;;
     live) echo '--clock --step --ack --journal --sync' ;;
-    show) echo '--ccb --queue --run --freeze --from --to --status --sense --refused --summary --svg' ;;
+    show) echo '--ccb --queue --run --freeze --from --to --status --sense --refused --summary --json --svg --perfetto' ;;
     esac
     echo '--help -h'
 }
@@ -46,7 +46,7 @@ _camr() {
     show/--ccb* | show/--queue* | show/--run* | show/--freeze* | show/--from* | show/--to*) return ;;
     show/--status* | show/--sense*) return ;;
     live/--journal*) kind=-d ;;
-    show/--svg*) ;;
+    show/--svg* | show/--perfetto*) ;;
     audit/*) kind=-d ;;
     esac
     if [[ $cur == -* ]]; then

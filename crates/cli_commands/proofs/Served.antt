@@ -12,7 +12,7 @@ pub served : (manifest : List ℕ) (setup : Setup) (old new : Option (List ℕ))
 served manifest setup old new serving out = (
   out.bytes,
   out.told,
-  (setup, serving.0, record { version = version_of setup; records = record { items = out.records; capacity = 0 }; totals = out.totals }, serving.1, out.is, refl, out.sums),
+  (record { version = version_of setup; records = record { items = out.records; capacity = 0 }; totals = out.totals }, (setup, serving.0, serving.1, refl, out.sums), out.is),
 )
 
 pub keeps_same : (bytes : Option (List ℕ)) → Keeps bytes bytes

@@ -42,7 +42,7 @@ of_both P files read too same again holds first second one other = rw (← first
 
 -- a trace that is accepted is so over a manifest
 pub over_manifest : (manifest text : List ℕ) → IsAcceptedTrace manifest text → IsManifest manifest
-over_manifest manifest text accepted = (accepted.0, accepted.1, accepted.3)
+over_manifest manifest text accepted = (accepted.0, accepted.1, accepted.4)
 
 -- of two that are read each is one
 pub one_of_two : {X : Type 0} (xs : List X) (a b y : X) → length xs ≡ 2 → a ≡ get_or xs 0 a → b ≡ get_or xs 1 b → Contains xs y → (a ≡ y) ⊎ (b ≡ y)

@@ -1,5 +1,5 @@
 -- What the status of a plan tells of the files that it reads.
-use Rattle.std.specs.Prelude.{◌≡◌, ◌⊎◌, ◌++◌, ◌∷◌, [], ℕ, List, Option, Some, Err, codes, Bool, true, false}
+use Rattle.std.specs.Prelude.{◌≡◌, ◌⊎◌, ◌++◌, ◌∷◌, [], ℕ, List, Option, Some, None, Result, Err, codes, Bool, true, false}
 use Rattle.std.specs.Io.KnownBytes.{Appends, Keeps}
 use Rattle.bpf_insn.specs.declared.program.Slot.{Slot}
 use Rattle.bpf_decode.specs.Spells.{Spells}
@@ -16,15 +16,18 @@ use Rattle.host_live.specs.declared.manner.Manner.{Manner}
 use Rattle.manifest.specs.declared.fault.ManifestFault.{ManifestFault}
 use Rattle.manifest.specs.Meaning.{Means, HasFault}
 use Rattle.manifest.specs.Migration.{HasMigrationFault, IsMigrated}
+use Rattle.world_calls.specs.declared.carried_line.CarriedLine.{CarriedLine}
 use Rattle.world_calls.specs.declared.trace.Trace.{Trace}
+use Rattle.whole_trace.specs.WholeText.{AreOrdered, SaysWhole, whole_text}
+use Rattle.base.specs.declared.or_memory.OrMemory.{OrMemory}
 use Rattle.base.specs.declared.or_memory.OrMemory.TheVariants as part
-use Rattle.replay.specs.Replaying.{IsFaultyAt}
+use Rattle.replay.specs.Continued.{IsContinuedTraceOf, IsFaultyContinuedAt, ReplaysContinued}
+use Rattle.replay.specs.Replaying.{IsFaultyAt, IsTraceOf, Replays}
 use Rattle.replay.specs.declared.fault.ReplayFault.{ReplayFault}
 use Rattle.scenario.specs.Said.{IsFaultyLine, Say, lines_of}
 use Rattle.scenario.specs.Commands.{Step}
 use Rattle.host_scenario.specs.Faults.{IsUnheldThen}
 use Rattle.host_scenario.specs.Traces.{IsOfScenario}
-use Rattle.trace.specs.Reading.{Says as SaysTrace}
 use Rattle.trace.specs.TraceText.{trace_text}
 use Rattle.world.specs.World.{Setup, version_of}
 use Rattle.world.specs.TotalsOf.{TotalsOf}
@@ -93,12 +96,27 @@ IsFaulty (Journal manner is_synced folder manifest) bytes = ⊥
 IsFaulty (Audit folder) bytes = ⊥
 IsFaulty (Replay manifest trace) bytes = Unit {0}
 
--- The one text is a manifest, and the other the trace of a history of an engine of its setup, of that engine's version, whose last line
--- has its sums.
+-- The trace is a history of an engine of the setup, of that engine's version and with its sums, from its opening or from the world of the
+-- carried lines.
+abbrev pub IsHistoryOf : Setup → Option (List CarriedLine) → Trace → Type 0
+IsHistoryOf setup None trace = IsTraceOf setup trace
+IsHistoryOf setup (Some lines) trace = IsContinuedTraceOf setup lines trace
+
+-- This line of the trace is the first that does not follow.
+abbrev pub IsFaultyOver : Setup → Option (List CarriedLine) → Trace → ReplayFault → Type 0
+IsFaultyOver setup None trace fault = IsFaultyAt setup 0 trace fault
+IsFaultyOver setup (Some lines) trace fault = IsFaultyContinuedAt setup lines trace fault
+
+-- what a replay says
+abbrev pub FollowsWhole : Setup → Option (List CarriedLine) → Trace → Result (Unit {0}) (OrMemory ReplayFault) → Type 0
+FollowsWhole setup None trace result = Replays setup 0 trace result
+FollowsWhole setup (Some lines) trace result = ReplaysContinued setup lines trace result
+
+-- The one text is a manifest, and the other the trace of such a history of an engine of its setup.
 abbrev pub IsAcceptedTrace : List ℕ → List ℕ → Type 0
 IsAcceptedTrace manifest text =
-    (setup : _) × (programs : _) × (trace : Trace) × Means manifest setup programs × (trace_text trace ≡ Some text)
-    × (trace.version ≡ version_of setup) × TotalsOf setup trace.records.items trace.totals
+    (setup : _) × (programs : _) × (carried : Option (List CarriedLine)) × (trace : Trace) × Means manifest setup programs × (whole_text carried trace ≡ Some text)
+    × IsHistoryOf setup carried trace
 
 -- The text is a manifest, and the trace is that of a history of an engine of its setup, of that engine's version, with its sums.
 abbrev pub IsOfManifest : List ℕ → Trace → Type 0
@@ -115,7 +133,7 @@ IsServing manifest setup = (programs : _) × Means manifest setup programs
 
 -- What went out is the trace of a history of an engine of that manifest, with its sums.
 abbrev pub IsServed : List ℕ → Option (List ℕ) → Option (List ℕ) → Type 0
-IsServed manifest old new = (text : List ℕ) × Appends old new text × IsAcceptedTrace manifest text
+IsServed manifest old new = (text : List ℕ) × Appends old new text × ((trace : Trace) × IsOfManifest manifest trace × (trace_text trace ≡ Some text))
 
 -- What went out is that of what the lines that came asked of an engine of that manifest, one by one, and each was answered so.
 abbrev pub HasCarriedOut : List ℕ → Manner → (began came : Option CameState) → (base at : Option (List ℕ)) → (given answered : Option (List Answer)) → Type 0
@@ -180,10 +198,12 @@ IsPutOut (Strict workers watch manifest scenario) first second old new =
     (trace : Trace) × IsOfManifest first trace × IsOfScenarioText second trace × IsPrinted trace old new × (refused_count trace.records.items ≡ 0)
 IsPutOut plan first second old new = Unit {0}
 
--- The one text is a manifest, and the other a trace, this line of which is the first that does not follow over it.
+-- The one text is a manifest, and the other a trace, with its carried lines in order, this line of which is the first that does not follow
+-- over it.
 abbrev pub IsFaultyReplay : List ℕ → List ℕ → ReplayFault → Type 0
 IsFaultyReplay manifest text fault =
-    (setup : _) × (programs : _) × (trace : Trace) × Means manifest setup programs × (trace_text trace ≡ Some text) × IsFaultyAt setup trace fault
+    (setup : _) × (programs : _) × (carried : Option (List CarriedLine)) × (trace : Trace) × Means manifest setup programs × (whole_text carried trace ≡ Some text)
+    × AreOrdered carried × IsFaultyOver setup carried trace fault
 
 -- The one text is a manifest, and the other a scenario, on this line of which stands a release of a freeze that is not held then.
 abbrev pub IsUnheldRelease : List ℕ → List ℕ → ℕ → Type 0
@@ -201,7 +221,7 @@ IsManifestFault manifest other = ⊥
 
 -- why a trace is not accepted over a manifest, and why a scenario is not carried out: the first of the two that has a fault is told
 abbrev pub IsTraceFault : List ℕ → List ℕ → Fault → Type 0
-IsTraceFault manifest text (fault.Trace f) = IsManifest manifest × SaysTrace text (Err (part.Fault f))
+IsTraceFault manifest text (fault.Trace f) = IsManifest manifest × SaysWhole text (Err (part.Fault f))
 IsTraceFault manifest text (fault.Replay f) = IsFaultyReplay manifest text f
 IsTraceFault manifest text other = IsManifestFault manifest other
 

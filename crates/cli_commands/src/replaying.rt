@@ -1,20 +1,23 @@
-// The verdict on a trace. It relies on `replay`.
+// The verdict on a trace. It relies on `whole_trace` for its text, and on `replay`.
 
 ghost use Rattle.std.specs.Prelude.{◌≡◌, ◌≤◌, ◌++◌, ◌∷◌, [], IfErr, IfOk, IsErrAnd, IsUtf8, Some, codes, map};
 ghost use Rattle.std.specs.Io.KnownBytes.{Keeps};
 ghost use Rattle.manifest.specs.Meaning.{Means};
 ghost use Rattle.manifest.specs.Seen.{named_seen};
-ghost use Rattle.trace.specs.TraceText.{trace_text};
+ghost use Rattle.whole_trace.specs.Continued.{items_of};
+ghost use Rattle.whole_trace.specs.WholeText.{whole_text};
 ghost use Rattle.cli_commands.specs.Faults.{status_of};
-ghost use Rattle.cli_commands.specs.Told.{IsAcceptedTrace, IsRejectedTrace, IsTraceFault, PutsOut};
+ghost use Rattle.cli_commands.specs.Told.{FollowsWhole, IsAcceptedTrace, IsRejectedTrace, IsTraceFault, PutsOut};
 
 use crate::fault::Fault;
 use crate::files::{text, write};
+use engine_config::Config;
 use manifest::Manifest;
-use replay::replay;
+use replay::{ReplayError, replay, replay_continued};
 use std::alloc::Global;
 use std::io::Write;
-use world_calls::{Notices, Trace};
+use whole_trace::WholeTrace;
+use world_calls::Notices;
 
 /// Prints that a trace is accepted over a manifest, each a path and its bytes, if it is, and answers the status.
 pub(crate) fn print_verdict<N: Notices, W: Write, E: Write>(
@@ -40,24 +43,39 @@ pub(crate) fn print_verdict<N: Notices, W: Write, E: Write>(
     }
 }
 
-/// A manifest and a trace, each a path and its bytes, if the trace is accepted over the manifest; else what is wrong with the first
-/// of them that has a fault.
+/// Returns a manifest and a trace, each read from a path and its bytes, if the trace is accepted over the manifest. Otherwise it returns
+/// the fault: a file that is not UTF-8 comes first, then the manifest's fault, then that of the trace.
 pub fn replayed<'a, N: Notices>(
     alloc: Global,
     manifest: (&'a str, &[u8]),
     trace: (&'a str, &[u8]),
     notices: &N,
-) -> Result<(Manifest, Trace), Fault<'a>>
+) -> Result<(Manifest, WholeTrace), Fault<'a>>
     ensures manifest { ¬ (IsUtf8 manifest.entry.1.now) → IsErrAnd result (λ e. status_of e ≡ 2) }
     ensures trace { ¬ (IsUtf8 trace.entry.1.now) → IsErrAnd result (λ e. status_of e ≡ 2) }
     ensures done { IfOk result (λ _. IsAcceptedTrace manifest.entry.1.now trace.entry.1.now) }
-    ensures same { IfOk result (λ r. Means manifest.entry.1.now r.0.config (map named_seen r.0.programs.items) × (trace_text r.1 ≡ Some trace.entry.1.now)) }
+    ensures same { IfOk result (λ r. Means manifest.entry.1.now r.0.config (map named_seen r.0.programs.items) × (whole_text (items_of r.1.carried) r.1.trace ≡ Some trace.entry.1.now)) }
     ensures fault { IfErr result (λ e. status_of e ≡ 1 → IsTraceFault manifest.entry.1.now trace.entry.1.now e) }
 {
     let manifest = text(manifest)?;
     let trace = text(trace)?;
     let manifest = manifest::read(alloc, manifest)?;
-    let trace = trace::read(alloc, trace)?;
-    replay(alloc, &manifest.config, &trace, notices)?;
-    Ok((manifest, trace))
+    let whole = whole_trace::read(alloc, trace)?;
+    follow(alloc, &manifest.config, &whole, notices)?;
+    Ok((manifest, whole))
+}
+
+// Replays a trace, from the opening of an engine or from what its carried lines say.
+fn follow<N: Notices>(
+    alloc: Global,
+    config: &Config,
+    whole: &WholeTrace,
+    notices: &N,
+) -> Result<(), ReplayError>
+    ensures { FollowsWhole config.now (items_of whole.now.carried) whole.now.trace result }
+{
+    match &whole.carried {
+        Some(lines) => { replay_continued(alloc, config, lines.as_slice(), &whole.trace, notices) }
+        None => replay(alloc, config, &whole.trace, notices),
+    }
 }

@@ -9,7 +9,7 @@ use Rattle.cli_line.proofs.Once.{none_in_both, one_file}
 use Rattle.cli_inspect_line.specs.Files.{stdin_reads}
 use Rattle.cli_inspect_line.specs.FoundPlan.{HasFound, IsRefused}
 use Rattle.cli_inspect_line.specs.InspectLines.{ArePlain, Asked, IsAsked}
-use Rattle.cli_inspect_line.specs.InspectLines.Asked.{Explain, ExplainFile, Show, Summarise, Draw}
+use Rattle.cli_inspect_line.specs.InspectLines.Asked.{Explain, ExplainFile, Show, ShowAsJson, Summarise, SummariseAsJson, Draw}
 use Rattle.cli_inspect_line.specs.declared.plans.Plan.{Plan}
 use Rattle.cli_inspect_line.specs.declared.plans.Plan.TheVariants as plans
 
@@ -18,25 +18,33 @@ asked_once : (plan : Plan) (asked : Asked) → ArePlain asked → IsAsked asked 
 asked_once (plans.ExplainCode code) asked plain is = omega arith
 asked_once (plans.Explain a) asked plain is = omega (arith, one_file (string_bytes a))
 asked_once (plans.ExplainFile a b) (ExplainFile manifest file) plain is = omega (arith, none_in_both (string_bytes a) (string_bytes b) manifest file is.0 is.1 plain.0 plain.1)
-asked_once (plans.Show filter a b) (Show manifest trace) plain is = omega (arith, none_in_both (string_bytes a) (string_bytes b) manifest trace is.1 is.2 plain.0 plain.1)
-asked_once (plans.Summarise a b) (Summarise manifest trace) plain is = omega (arith, none_in_both (string_bytes a) (string_bytes b) manifest trace is.0 is.1 plain.0 plain.1)
-asked_once (plans.Draw a b picture) (Draw drawn manifest trace) plain is = omega (arith, none_in_both (string_bytes a) (string_bytes b) manifest trace is.0 is.1 plain.1 plain.2)
+asked_once (plans.Show form filter a b) (Show manifest trace) plain is = omega (arith, none_in_both (string_bytes a) (string_bytes b) manifest trace is.1 is.2 plain.0 plain.1)
+asked_once (plans.Show form filter a b) (ShowAsJson manifest trace) plain is = omega (arith, none_in_both (string_bytes a) (string_bytes b) manifest trace is.1 is.2 plain.0 plain.1)
+asked_once (plans.Summarise form a b) (Summarise manifest trace) plain is = omega (arith, none_in_both (string_bytes a) (string_bytes b) manifest trace is.0 is.1 plain.0 plain.1)
+asked_once (plans.Summarise form a b) (SummariseAsJson manifest trace) plain is = omega (arith, none_in_both (string_bytes a) (string_bytes b) manifest trace is.0 is.1 plain.0 plain.1)
+asked_once (plans.Draw d a b c) (Draw drawing output manifest trace) plain is = omega (arith, none_in_both (string_bytes a) (string_bytes b) manifest trace is.0 is.1 plain.1 plain.2)
 asked_once (plans.ExplainFile a b) (Explain word) plain is = absurd is
 asked_once (plans.ExplainFile a b) (Show manifest trace) plain is = absurd is
+asked_once (plans.ExplainFile a b) (ShowAsJson manifest trace) plain is = absurd is
 asked_once (plans.ExplainFile a b) (Summarise manifest trace) plain is = absurd is
-asked_once (plans.ExplainFile a b) (Draw drawn manifest trace) plain is = absurd is
-asked_once (plans.Show filter a b) (Explain word) plain is = absurd is
-asked_once (plans.Show filter a b) (ExplainFile manifest file) plain is = absurd is
-asked_once (plans.Show filter a b) (Summarise manifest trace) plain is = absurd is
-asked_once (plans.Show filter a b) (Draw drawn manifest trace) plain is = absurd is
-asked_once (plans.Summarise a b) (Explain word) plain is = absurd is
-asked_once (plans.Summarise a b) (ExplainFile manifest file) plain is = absurd is
-asked_once (plans.Summarise a b) (Show manifest trace) plain is = absurd is
-asked_once (plans.Summarise a b) (Draw drawn manifest trace) plain is = absurd is
-asked_once (plans.Draw a b picture) (Explain word) plain is = absurd is
-asked_once (plans.Draw a b picture) (ExplainFile manifest file) plain is = absurd is
-asked_once (plans.Draw a b picture) (Show manifest trace) plain is = absurd is
-asked_once (plans.Draw a b picture) (Summarise manifest trace) plain is = absurd is
+asked_once (plans.ExplainFile a b) (SummariseAsJson manifest trace) plain is = absurd is
+asked_once (plans.ExplainFile a b) (Draw drawing output manifest trace) plain is = absurd is
+asked_once (plans.Show form filter a b) (Explain word) plain is = absurd is
+asked_once (plans.Show form filter a b) (ExplainFile manifest file) plain is = absurd is
+asked_once (plans.Show form filter a b) (Summarise manifest trace) plain is = absurd is
+asked_once (plans.Show form filter a b) (SummariseAsJson manifest trace) plain is = absurd is
+asked_once (plans.Show form filter a b) (Draw drawing output manifest trace) plain is = absurd is
+asked_once (plans.Summarise form a b) (Explain word) plain is = absurd is
+asked_once (plans.Summarise form a b) (ExplainFile manifest file) plain is = absurd is
+asked_once (plans.Summarise form a b) (Show manifest trace) plain is = absurd is
+asked_once (plans.Summarise form a b) (ShowAsJson manifest trace) plain is = absurd is
+asked_once (plans.Summarise form a b) (Draw drawing output manifest trace) plain is = absurd is
+asked_once (plans.Draw d a b c) (Explain word) plain is = absurd is
+asked_once (plans.Draw d a b c) (ExplainFile manifest file) plain is = absurd is
+asked_once (plans.Draw d a b c) (Show manifest trace) plain is = absurd is
+asked_once (plans.Draw d a b c) (ShowAsJson manifest trace) plain is = absurd is
+asked_once (plans.Draw d a b c) (Summarise manifest trace) plain is = absurd is
+asked_once (plans.Draw d a b c) (SummariseAsJson manifest trace) plain is = absurd is
 
 -- What is so of a plan that is handed on. It was not, if it reads standard input twice.
 module _ (plan : Plan) where

@@ -1,5 +1,5 @@
 -- The files that a plan reads, and the one that it writes; and how often it reads standard input.
-use Rattle.std.specs.Prelude.{ℕ, Bool, true, false, List, [], ◌∷◌, Option, Some, None, string_bytes}
+use Rattle.std.specs.Prelude.{ℕ, List, [], ◌∷◌, Option, Some, None, string_bytes}
 use Rattle.cli_line.specs.Files.{stream_count}
 use Rattle.cli_inspect_line.specs.declared.plans.Plan.{Plan}
 use Rattle.cli_inspect_line.specs.declared.plans.Plan.TheVariants.{ExplainCode, Explain, ExplainFile, Show, Summarise, Draw}
@@ -9,18 +9,18 @@ abbrev pub input_paths : Plan → List (List ℕ)
 input_paths (ExplainCode code) = []
 input_paths (Explain manifest) = string_bytes manifest ∷ []
 input_paths (ExplainFile manifest file) = string_bytes manifest ∷ string_bytes file ∷ []
-input_paths (Show filter manifest trace) = string_bytes manifest ∷ string_bytes trace ∷ []
-input_paths (Summarise manifest trace) = string_bytes manifest ∷ string_bytes trace ∷ []
-input_paths (Draw manifest trace picture) = string_bytes manifest ∷ string_bytes trace ∷ []
+input_paths (Show form filter manifest trace) = string_bytes manifest ∷ string_bytes trace ∷ []
+input_paths (Summarise form manifest trace) = string_bytes manifest ∷ string_bytes trace ∷ []
+input_paths (Draw drawing manifest trace output) = string_bytes manifest ∷ string_bytes trace ∷ []
 
 -- the path of the one that is written, if there is one
 abbrev pub output_path : Plan → Option (List ℕ)
 output_path (ExplainCode code) = None
 output_path (Explain manifest) = None
 output_path (ExplainFile manifest file) = None
-output_path (Show filter manifest trace) = None
-output_path (Summarise manifest trace) = None
-output_path (Draw manifest trace picture) = Some (string_bytes picture)
+output_path (Show form filter manifest trace) = None
+output_path (Summarise form manifest trace) = None
+output_path (Draw drawing manifest trace output) = Some (string_bytes output)
 
 -- how often the plan reads standard input: for each file that it stands for
 abbrev pub stdin_reads : Plan → ℕ

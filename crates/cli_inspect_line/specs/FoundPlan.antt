@@ -11,6 +11,10 @@ use Rattle.base.specs.Hexadecimal.{byte_in}
 use Rattle.cli_inspect_line.specs.Files.{stdin_reads}
 use Rattle.cli_inspect_line.specs.InspectLines.{everything}
 use Rattle.cli_inspect_line.specs.ReportedWords.{refused_in, sense_in}
+use Rattle.cli_inspect_line.specs.declared.plans.Drawing.{Drawing}
+use Rattle.cli_inspect_line.specs.declared.plans.Drawing.TheVariants.{Svg, Perfetto}
+use Rattle.cli_inspect_line.specs.declared.plans.Form.{Form}
+use Rattle.cli_inspect_line.specs.declared.plans.Form.TheVariants.{Words, Json}
 use Rattle.cli_inspect_line.specs.declared.plans.Plan.{Plan}
 use Rattle.cli_inspect_line.specs.declared.plans.Plan.TheVariants.{ExplainCode, Explain, ExplainFile, Show, Summarise, Draw}
 use Rattle.cli_inspect_line.specs.declared.showing.TheConstants.{LAST_NUMBER, LAST_QUEUE, LAST_READING}
@@ -60,8 +64,23 @@ HasBoth rows manifest trace = (first_of (codes "MANIFEST") rows ≡ Some manifes
 abbrev pub AsksSummary : List Row → Type 0
 AsksSummary rows = first_of (codes "summary") rows ≡ Some (codes "true")
 
-abbrev pub AsksPicture : List Row → Text → Type 0
-AsksPicture rows picture = first_of (codes "svg") rows ≡ Some picture
+-- of what is drawn into a file of its own it found that alone, with the file's path
+abbrev pub AsksDrawing : List Row → Drawing → Text → Type 0
+AsksDrawing rows Svg output = (first_of (codes "svg") rows ≡ Some output) × (first_of (codes "perfetto") rows ≡ None)
+AsksDrawing rows Perfetto output = (first_of (codes "svg") rows ≡ None) × (first_of (codes "perfetto") rows ≡ Some output)
+
+-- it found nothing that is drawn
+abbrev pub AsksNoDrawing : List Row → Type 0
+AsksNoDrawing rows = (first_of (codes "svg") rows ≡ None) × (first_of (codes "perfetto") rows ≡ None)
+
+-- it found that JSON is asked for
+abbrev pub AsksJson : List Row → Type 0
+AsksJson rows = first_of (codes "json") rows ≡ Some (codes "true")
+
+-- the form is that which is asked for
+abbrev pub HasForm : List Row → Form → Type 0
+HasForm rows Words = AsksJson rows → ⊥
+HasForm rows Json = AsksJson rows
 
 -- the plan is that of a word alone: a code, or the manifest of that path
 abbrev pub IsOfWord : Text → Plan → Type 0
@@ -82,25 +101,29 @@ HasFoundBehind name rows (Explain path) =
     (name ≡ codes "explain") × (first_of (codes "WORD") rows ≡ Some (string_bytes path)) × (code_named (string_bytes path) ≡ None) × (first_of (codes "FILE") rows ≡ None)
 HasFoundBehind name rows (ExplainFile manifest file) =
     (name ≡ codes "explain") × (first_of (codes "WORD") rows ≡ Some (string_bytes manifest)) × (first_of (codes "FILE") rows ≡ Some (string_bytes file))
-HasFoundBehind name rows (Show filter manifest trace) =
+HasFoundBehind name rows (Show form filter manifest trace) =
     (name ≡ codes "show") × HasBoth rows (string_bytes manifest) (string_bytes trace) × HasFilter rows filter
-    × (AsksSummary rows → ⊥) × (first_of (codes "svg") rows ≡ None) × IsWithin filter
-HasFoundBehind name rows (Summarise manifest trace) =
+    × (AsksSummary rows → ⊥) × AsksNoDrawing rows × IsWithin filter × HasForm rows form
+HasFoundBehind name rows (Summarise form manifest trace) =
     (name ≡ codes "show") × HasBoth rows (string_bytes manifest) (string_bytes trace) × HasFilter rows everything × AsksSummary rows
-    × (first_of (codes "svg") rows ≡ None)
-HasFoundBehind name rows (Draw manifest trace picture) =
+    × AsksNoDrawing rows × HasForm rows form
+HasFoundBehind name rows (Draw drawing manifest trace output) =
     (name ≡ codes "show") × HasBoth rows (string_bytes manifest) (string_bytes trace) × HasFilter rows everything
-    × (AsksSummary rows → ⊥) × AsksPicture rows (string_bytes picture)
+    × (AsksSummary rows → ⊥) × AsksDrawing rows drawing (string_bytes output) × HasForm rows Words
 
 -- the words asked for something, and the plan is that
 abbrev pub HasFound : Option (Text × List Row) → Plan → Type 0
 HasFound None plan = ⊥
 HasFound (Some p) plan = HasFoundBehind p.0 p.1 plan
 
--- which of the three is asked for: the account of some events, or of all events the counts or the picture
+-- one drawing at most is asked for
+abbrev pub AsksOneDrawing : List Row → Type 0
+AsksOneDrawing rows = (first_of (codes "svg") rows ≡ None) ⊎ (first_of (codes "perfetto") rows ≡ None)
+
+-- which of the three is asked for: the account of some events, or of all events the counts or a drawing, which has no other form
 abbrev pub AsksOne : List Row → Filter → Type 0
-AsksOne rows filter = ((AsksSummary rows → ⊥) × (first_of (codes "svg") rows ≡ None))
-    ⊎ ((filter ≡ everything) × (AsksSummary rows → first_of (codes "svg") rows ≡ None))
+AsksOne rows filter = ((AsksSummary rows → ⊥) × AsksNoDrawing rows)
+    ⊎ ((filter ≡ everything) × (AsksSummary rows → AsksNoDrawing rows) × (AsksJson rows → AsksNoDrawing rows) × AsksOneDrawing rows)
 
 -- behind `show` both paths are found, numbers that there can be, and one thing that is asked for
 abbrev pub MakesAccount : List Row → Type 0
@@ -116,6 +139,10 @@ Suffices name rows = MatchBool (bytes_eq name (codes "show")) (MakesAccount rows
 abbrev pub PlansBehind : Text → List Row → Option Plan → Type 0
 PlansBehind name rows (Some plan) = HasFoundBehind name rows plan
 PlansBehind name rows None = Suffices name rows → ⊥
+
+-- the same behind `show`, if both paths and that filter are found
+abbrev pub PlansShow : List Row → Filter → Text → Text → Option Plan → Type 0
+PlansShow rows filter manifest trace planned = HasBoth rows manifest trace → HasFilter rows filter → IsWithin filter → PlansBehind (codes "show") rows planned
 
 -- the same of the subcommand that `clap` found
 abbrev pub PlansFound : Option (Text × List Row) → Option Plan → Type 0

@@ -7,5 +7,5 @@ mod reported;
 mod showing;
 mod words;
 
-pub use plans::Plan;
+pub use plans::{Drawing, Form, Plan};
 pub use words::plan;

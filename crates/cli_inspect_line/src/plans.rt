@@ -8,6 +8,24 @@ use cli_line::reads_of;
 use explain_codes::Code;
 use show_events::Filter;
 
+/// In which form something is shown of a trace.
+#[derive(Clone, Copy, Debug)]
+pub enum Form {
+    /// As text for people.
+    Words,
+    /// As JSON, for programs.
+    Json,
+}
+
+/// What is made of a trace in a file of its own.
+#[derive(Clone, Copy, Debug)]
+pub enum Drawing {
+    /// A picture, as SVG.
+    Svg,
+    /// Trace events, which Perfetto draws.
+    Perfetto,
+}
+
 /// What is to be done, with the paths of the files in the order of the line.
 #[derive(Debug, Drop)]
 pub enum Plan {
@@ -17,12 +35,12 @@ pub enum Plan {
     Explain(String),
     /// Says why a scenario or a trace is refused over a manifest: the manifest, and the other file.
     ExplainFile(String, String),
-    /// Says in words what happened in a trace: of which events, the manifest, the trace.
-    Show(Filter, String, String),
-    /// Counts what happened in a trace: the manifest, the trace.
-    Summarise(String, String),
-    /// Draws what happened in a trace: the manifest, the trace, and the file that gets the picture.
-    Draw(String, String, String),
+    /// Says what happened in a trace: in which form, of which events, the manifest, the trace.
+    Show(Form, Filter, String, String),
+    /// Counts what happened in a trace: in which form, the manifest, the trace.
+    Summarise(Form, String, String),
+    /// Draws what happened in a trace: as what, the manifest, the trace, and the file that gets it.
+    Draw(Drawing, String, String, String),
 }
 
 impl Plan {
@@ -46,16 +64,16 @@ impl Plan {
             (
                 Plan::Explain(first)
                 | Plan::ExplainFile(first, _)
-                | Plan::Show(_, first, _)
-                | Plan::Summarise(first, _)
-                | Plan::Draw(first, _, _),
+                | Plan::Show(_, _, first, _)
+                | Plan::Summarise(_, first, _)
+                | Plan::Draw(_, first, _, _),
                 0,
             ) => { first.as_str() }
             (
                 Plan::ExplainFile(_, second)
-                | Plan::Show(_, _, second)
-                | Plan::Summarise(_, second)
-                | Plan::Draw(_, second, _),
+                | Plan::Show(_, _, _, second)
+                | Plan::Summarise(_, _, second)
+                | Plan::Draw(_, _, second, _),
                 1,
             ) => { second.as_str() }
             _ => "",
@@ -67,7 +85,7 @@ impl Plan {
         ensures { MatchOption result (output_path self.now ≡ None) (λ path. output_path self.now ≡ Some path.now) }
     {
         match self {
-            Plan::Draw(_, _, output) => Some(output.as_str()),
+            Plan::Draw(_, _, _, output) => Some(output.as_str()),
             Plan::ExplainCode(_)
             | Plan::Explain(_)
             | Plan::ExplainFile(..)
@@ -84,9 +102,9 @@ impl Plan {
             Plan::ExplainCode(_) => 0,
             Plan::Explain(file) => reads_of(file),
             Plan::ExplainFile(manifest, file) => reads_of(manifest) + reads_of(file),
-            Plan::Show(_, manifest, trace) => reads_of(manifest) + reads_of(trace),
-            Plan::Summarise(manifest, trace) => reads_of(manifest) + reads_of(trace),
-            Plan::Draw(manifest, trace, _) => reads_of(manifest) + reads_of(trace),
+            Plan::Show(_, _, manifest, trace) => reads_of(manifest) + reads_of(trace),
+            Plan::Summarise(_, manifest, trace) => reads_of(manifest) + reads_of(trace),
+            Plan::Draw(_, manifest, trace, _) => reads_of(manifest) + reads_of(trace),
         }
     }
 }

@@ -1,15 +1,15 @@
 // The words after `show`, read as a plan. It relies on `cli_line` for what `clap` is given of them, and on `cli_text_page` for how a word is
 // shown.
 
-ghost use Rattle.std.specs.Prelude.{◌≡◌, ◌≤◌, ◌↔◌, ℕ, IsTrue, Option, MatchBool, MatchOption, None, IfOk, IfSome, codes};
+ghost use Rattle.std.specs.Prelude.{◌≡◌, ◌≤◌, ◌↔◌, ℕ, IsTrue, Option, MatchBool, MatchOption, None, IfOk, IfSome, codes, string_bytes};
 ghost use Rattle.clap.specs.Words.{first_of, found_of, kind_of, rows_of};
 ghost use Rattle.cli_line.specs.RunLine.{Spells};
 ghost use Rattle.base.specs.Hexadecimal.{byte_in};
 ghost use Rattle.cli_inspect_line.specs.ReportedWords.{refused_in, sense_in};
-ghost use Rattle.cli_inspect_line.specs.FoundPlan.{AsksSummary, Finds, FindsNumber, HasFilter, IsUpTo, IsWithin, PlansBehind};
+ghost use Rattle.cli_inspect_line.specs.FoundPlan.{AsksDrawing, AsksJson, AsksNoDrawing, AsksSummary, HasForm, Finds, FindsNumber, HasFilter, IsUpTo, IsWithin, PlansBehind, PlansShow};
 ghost use Rattle.cli_inspect_line.specs.InspectLines.{everything};
 
-use crate::plans::Plan;
+use crate::plans::{Drawing, Form, Plan};
 use crate::reported::{refused_in, sense_in};
 use base::hexadecimal::byte_of;
 use clap::error::ErrorKind;
@@ -43,18 +43,81 @@ pub(crate) fn show_plan(alloc: Global, show: &ArgMatches) -> Result<Option<Plan>
     };
     let manifest = String::from_str(alloc, manifest)?;
     let trace = String::from_str(alloc, trace)?;
-    match (
-        show.get_str("svg"),
-        asks_summary(show),
-        is_everything(&filter),
-    ) {
-        (None, false, _) => Ok(Some(Plan::Show(filter, manifest, trace))),
-        (None, true, true) => Ok(Some(Plan::Summarise(manifest, trace))),
-        (Some(picture), false, true) => {
-            let picture = String::from_str(alloc, picture)?;
-            Ok(Some(Plan::Draw(manifest, trace, picture)))
-        }
-        _ => Ok(None),
+    match (show.get_str("svg"), show.get_str("perfetto")) {
+        (None, None) => Ok(printed(show, filter, manifest, trace)),
+        (Some(output), None) => drawn(alloc, show, filter, Drawing::Svg, manifest, trace, output),
+        (None, Some(output)) => drawn(
+            alloc,
+            show,
+            filter,
+            Drawing::Perfetto,
+            manifest,
+            trace,
+            output,
+        ),
+        (Some(_), Some(_)) => Ok(None),
+    }
+}
+
+// The plan for what is printed: the account of those events, or the counts of all.
+fn printed(show: &ArgMatches, filter: Filter, manifest: String, trace: String) -> Option<Plan>
+    ensures { AsksNoDrawing (rows_of (found_of show.now))
+        → PlansShow (rows_of (found_of show.now)) filter (string_bytes manifest) (string_bytes trace) result }
+{
+    let form = form_asked(show);
+    if !asks_summary(show) {
+        return Some(Plan::Show(form, filter, manifest, trace));
+    }
+    if is_everything(&filter) {
+        Some(Plan::Summarise(form, manifest, trace))
+    } else {
+        None
+    }
+}
+
+// The plan for a drawing of all events, which has no other form.
+fn drawn(
+    alloc: Global,
+    show: &ArgMatches,
+    filter: Filter,
+    drawing: Drawing,
+    manifest: String,
+    trace: String,
+    output: &str,
+) -> Result<Option<Plan>, AllocError>
+    ensures { IfOk result (λ planned. AsksDrawing (rows_of (found_of show.now)) drawing output.now
+        → PlansShow (rows_of (found_of show.now)) filter (string_bytes manifest) (string_bytes trace) planned) }
+{
+    if asks_json(show) {
+        return Ok(None);
+    }
+    if asks_summary(show) {
+        return Ok(None);
+    }
+    if is_everything(&filter) {
+        let output = String::from_str(alloc, output)?;
+        Ok(Some(Plan::Draw(drawing, manifest, trace, output)))
+    } else {
+        Ok(None)
+    }
+}
+
+fn form_asked(show: &ArgMatches) -> Form
+    ensures { HasForm (rows_of (found_of show.now)) result }
+{
+    if asks_json(show) {
+        Form::Json
+    } else {
+        Form::Words
+    }
+}
+
+fn asks_json(show: &ArgMatches) -> bool
+    ensures { MatchBool result (AsksJson (rows_of (found_of show.now))) (AsksJson (rows_of (found_of show.now)) → ⊥) }
+{
+    match show.get_str("json") {
+        Some(word) => is_true(word),
+        None => false,
     }
 }
 
@@ -219,10 +282,7 @@ pub(crate) fn show_fault(alloc: Global, show: &ArgMatches) -> Result<Error, Allo
         }
     }
     let Some((name, form)) = misspelt(show) else {
-        return fault(
-            alloc,
-            "--summary and --svg go neither with each other nor with the options that choose events",
-        );
+        return fault(alloc, excluded(show));
     };
     let word = show.get_str(name).unwrap_or("");
     let text = format!(in alloc;
@@ -230,6 +290,21 @@ pub(crate) fn show_fault(alloc: Global, show: &ArgMatches) -> Result<Error, Allo
         ForeignText(word)
     )?;
     fault(alloc, text.as_str())
+}
+
+// What is said of things that exclude each other. Of JSON it is said if the picture would do without.
+fn excluded(show: &ArgMatches) -> &'static str {
+    if show.get_str("perfetto").is_some() {
+        return "--perfetto goes neither with --json, --summary or --svg nor with the options that choose events";
+    }
+    match (show.get_str("svg"), filter_given(show)) {
+        (Some(_), Some(filter))
+            if asks_json(show) && !asks_summary(show) && is_everything(&filter) => {
+            "--json and --svg do not go with each other"
+        }
+        _ =>
+            "--summary and --svg go neither with each other nor with the options that choose events",
+    }
 }
 
 // The first option about what was reported whose word is none, with what it has to be.

@@ -16,18 +16,18 @@ abbrev pub IsAsAsked : Plan → List ℕ → Type 0
 IsAsAsked (ExplainCode code) bytes = Unit {0}
 IsAsAsked (Explain manifest) bytes = IsManifest bytes
 IsAsAsked (ExplainFile manifest file) bytes = IsManifest bytes
-IsAsAsked (Show filter manifest trace) bytes = IsManifest bytes
-IsAsAsked (Summarise manifest trace) bytes = IsManifest bytes
-IsAsAsked (Draw manifest trace picture) bytes = IsManifest bytes
+IsAsAsked (Show form filter manifest trace) bytes = IsManifest bytes
+IsAsAsked (Summarise form manifest trace) bytes = IsManifest bytes
+IsAsAsked (Draw drawing manifest trace output) bytes = IsManifest bytes
 
 -- it has a fault; where a trace is read too, the fault may be there
 abbrev pub IsFaulty : Plan → List ℕ → Type 0
 IsFaulty (ExplainCode code) bytes = Unit {0}
 IsFaulty (Explain manifest) bytes = IsFaultyManifest bytes
 IsFaulty (ExplainFile manifest file) bytes = Unit {0}
-IsFaulty (Show filter manifest trace) bytes = Unit {0}
-IsFaulty (Summarise manifest trace) bytes = Unit {0}
-IsFaulty (Draw manifest trace picture) bytes = Unit {0}
+IsFaulty (Show form filter manifest trace) bytes = Unit {0}
+IsFaulty (Summarise form manifest trace) bytes = Unit {0}
+IsFaulty (Draw drawing manifest trace output) bytes = Unit {0}
 
 -- the plan explains, so that it is on the output that it says why a file is refused
 abbrev pub explains : Plan → Bool
@@ -87,17 +87,17 @@ PutsFault Is old new = (fault : Fault) × (rest : List ℕ) × Is fault × Appen
 -- what a plan's second file is, beside the first, where the plan was carried out
 abbrev pub IsAccepted : Plan → List ℕ → List ℕ → Type 0
 IsAccepted (ExplainFile manifest file) first second = IsAcceptedFile first second
-IsAccepted (Show filter manifest trace) first second = IsWholeOrOpen first second
-IsAccepted (Summarise manifest trace) first second = IsWholeOrOpen first second
-IsAccepted (Draw manifest trace picture) first second = IsWholeOrOpen first second
+IsAccepted (Show form filter manifest trace) first second = IsWholeOrOpen first second
+IsAccepted (Summarise form manifest trace) first second = IsWholeOrOpen first second
+IsAccepted (Draw drawing manifest trace output) first second = IsWholeOrOpen first second
 IsAccepted plan first second = Unit {0}
 
 -- what is wrong with a plan's first file, or with its second beside the first, where the plan was refused
 abbrev pub IsRejected : Plan → List ℕ → List ℕ → Type 0
 IsRejected (ExplainFile manifest file) first second = (fault : Fault) × IsFileFault first second fault
-IsRejected (Show filter manifest trace) first second = IsRejectedTrace first second
-IsRejected (Summarise manifest trace) first second = IsRejectedTrace first second
-IsRejected (Draw manifest trace picture) first second = IsRejectedTrace first second
+IsRejected (Show form filter manifest trace) first second = IsRejectedTrace first second
+IsRejected (Summarise form manifest trace) first second = IsRejectedTrace first second
+IsRejected (Draw drawing manifest trace output) first second = IsRejectedTrace first second
 IsRejected plan first second = Unit {0}
 
 -- what went out of a plan that explains why its first file is refused, or its second beside the first: it begins with the fault

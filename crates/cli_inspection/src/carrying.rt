@@ -61,11 +61,17 @@ pub fn carry<N: Notices + Sync, R: Threads + Wait + Sync, W: Write, E: Write>(
             print_explanation(alloc, manifest, out, err)
         }
         Plan::ExplainFile(..) => print_judged(rt, alloc, plan, inputs, notices, out, err),
-        Plan::Show(filter, ..) => {
-            let told = Told::Account(*filter);
+        Plan::Show(form, filter, ..) => {
+            let told = Told::Account(*form, *filter);
             print_traced(alloc, told, plan, inputs, notices, out, err)
         }
-        Plan::Summarise(..) => print_traced(alloc, Told::Summary, plan, inputs, notices, out, err),
-        Plan::Draw(..) => print_traced(alloc, Told::Picture, plan, inputs, notices, out, err),
+        Plan::Summarise(form, ..) => {
+            let told = Told::Summary(*form);
+            print_traced(alloc, told, plan, inputs, notices, out, err)
+        }
+        Plan::Draw(drawing, ..) => {
+            let told = Told::Drawn(*drawing);
+            print_traced(alloc, told, plan, inputs, notices, out, err)
+        }
     }
 }

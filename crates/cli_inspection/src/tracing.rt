@@ -1,7 +1,7 @@
-// What a trace shows that is accepted, or open. It relies on `cli_commands` for the verdict, and on `show_account`, `show_summary` and
-// `show_picture` for what is shown.
+// What a trace shows that is accepted, or open. It relies on `cli_commands` for the verdict, and on `show_account`, `show_json`,
+// `show_summary`, `show_picture` and `show_perfetto` for what is shown.
 
-ghost use Rattle.std.specs.Prelude.{◌≡◌, ◌≤◌, Contains, IsSomeAnd, Some, IsUtf8, length, slice_get, string_bytes};
+ghost use Rattle.std.specs.Prelude.{◌≡◌, ◌≢◌, ◌≤◌, Contains, IsSomeAnd, Some, IsUtf8, length, slice_get, string_bytes};
 ghost use Rattle.std.specs.Io.KnownBytes.{Keeps};
 ghost use Rattle.cli_inspect_line.specs.Files.{input_paths};
 ghost use Rattle.cli_commands.specs.Faults.{status_of};
@@ -11,26 +11,29 @@ ghost use Rattle.cli_inspection.specs.Shown.{IsOpenTrace, IsWholeOrOpen};
 use crate::closing::{ClosedTrace, closed};
 use crate::unread::report_unfollowed;
 use cli_commands::{Fault, replayed, status};
-use cli_inspect_line::Plan;
+use cli_inspect_line::{Drawing, Form, Plan};
 use manifest::{Manifest, NamedProgram};
 use show_account::account;
 use show_events::{Ending, Filter, NamedAccepted, Shown};
+use show_json::write_account;
+use show_perfetto::write_trace_events;
 use show_picture::draw;
-use show_summary::summarise;
+use show_summary::{summarise, write_summary};
 use std::alloc::{AllocError, Global};
 use std::io;
 use std::io::Write;
+use whole_trace::WholeTrace;
 use world_calls::Notices;
 
 /// What is shown of a trace.
 #[derive(Clone, Copy)]
 pub(crate) enum Told {
-    /// In words, what happened: these events.
-    Account(Filter),
-    /// Counts of what happened.
-    Summary,
-    /// A picture of what happened.
-    Picture,
+    /// What happened, in that form: these events.
+    Account(Form, Filter),
+    /// Counts of what happened, in that form.
+    Summary(Form),
+    /// A drawing of what happened.
+    Drawn(Drawing),
 }
 
 /// Prints that of a trace, if it is accepted over a manifest, or is open and would be, and answers the status. The plan has the two,
@@ -78,12 +81,8 @@ fn print_over<N: Notices, W: Write, E: Write>(
     ensures quiet { result ≡ 0 → Keeps (E.contents err.old) (E.contents err.new) }
 {
     match replayed(alloc, manifest, trace, notices) {
-        Ok((manifest, trace)) => {
-            let shown = Shown {
-                trace: &trace,
-                ending: Ending::Whole,
-            };
-            status(print(alloc, told, &manifest, shown, out), err)
+        Ok((manifest, whole)) => {
+            print_whole(alloc, told, &manifest, &whole, Ending::Whole, out, err)
         }
         Err(fault) => print_open(alloc, told, manifest, trace, &fault, notices, out, err),
     }
@@ -138,14 +137,42 @@ fn print_closed<N: Notices, W: Write, E: Write>(
     // the text is UTF-8, so that its path is in no fault
     let trace = ("", closing.text.as_bytes());
     match replayed(alloc, manifest, trace, notices) {
-        Ok((manifest, trace)) => {
-            let shown = Shown {
-                trace: &trace,
-                ending: closing.ending,
-            };
-            status(print(alloc, told, &manifest, shown, out), err)
+        Ok((manifest, whole)) => {
+            print_whole(alloc, told, &manifest, &whole, closing.ending, out, err)
         }
         Err(other) => report_unfollowed(alloc, fault, &other, err),
+    }
+}
+
+// Prints that of a trace which is accepted, or open, with that ending, and answers the status. A continued one is not shown.
+fn print_whole<W: Write, E: Write>(
+    alloc: Global,
+    told: Told,
+    manifest: &Manifest,
+    whole: &WholeTrace,
+    ending: Ending,
+    out: &mut W,
+    err: &mut E,
+) -> u8
+    ensures status { (result ≢ 1) × (result ≤ 2) }
+    ensures quiet { result ≡ 0 → Keeps (E.contents err.old) (E.contents err.new) }
+{
+    if whole.carried.is_some() {
+        return report_continued(err);
+    }
+    let shown = Shown {
+        trace: &whole.trace,
+        ending,
+    };
+    status(print(alloc, told, manifest, shown, out), err)
+}
+
+// Writes that a trace is continued, which nothing here shows, and answers the status.
+fn report_continued<E: Write>(err: &mut E) -> u8
+    ensures { result ≡ 2 }
+{
+    match writeln!(err, "camr: a continued trace is not shown") {
+        Ok(()) | Err(_) => 2,
     }
 }
 
@@ -160,9 +187,16 @@ fn print<W: Write>(
     let config = &manifest.config;
     let named = named(alloc, &manifest.programs)?;
     match told {
-        Told::Account(filter) => account(alloc, config, &named, shown, &filter, out),
-        Told::Summary => summarise(alloc, config, &named, shown, out),
-        Told::Picture => draw(alloc, config, &named, shown, out),
+        Told::Account(Form::Words, filter) => {
+            account(alloc, config, &named, shown, &filter, out)
+        }
+        Told::Account(Form::Json, filter) => {
+            write_account(alloc, config, &named, shown, &filter, out)
+        }
+        Told::Summary(Form::Words) => summarise(alloc, config, &named, shown, out),
+        Told::Summary(Form::Json) => write_summary(alloc, config, &named, shown, out),
+        Told::Drawn(Drawing::Svg) => draw(alloc, config, &named, shown, out),
+        Told::Drawn(Drawing::Perfetto) => write_trace_events(alloc, config, &named, shown, out),
     }
 }
 

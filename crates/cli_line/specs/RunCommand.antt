@@ -89,13 +89,17 @@ abbrev pub reported_command : App
 reported_command = with_rule (with_rule (with_rule timed_command (option_rule (codes "status"))) (option_rule (codes "sense")))
     (option_rule (codes "refused"))
 
--- with the two that stand in place of the account
-abbrev pub optional_command : App
-optional_command = with_rule (with_rule reported_command (flag_rule (codes "summary"))) (option_rule (codes "svg"))
+-- with those for what is printed, and in which form
+abbrev pub formed_command : App
+formed_command = with_rule (with_rule reported_command (flag_rule (codes "summary"))) (flag_rule (codes "json"))
+
+-- with those for what is written into a file of its own
+abbrev pub drawn_command : App
+drawn_command = with_rule (with_rule formed_command (option_rule (codes "svg"))) (option_rule (codes "perfetto"))
 
 -- with its two paths in their order
 abbrev pub show_command : App
-show_command = with_rule (with_rule optional_command (path_rule (codes "MANIFEST"))) (path_rule (codes "TRACE"))
+show_command = with_rule (with_rule drawn_command (path_rule (codes "MANIFEST"))) (path_rule (codes "TRACE"))
 
 -- `live` with the flags that say how lines are carried out
 abbrev pub manner_command : App

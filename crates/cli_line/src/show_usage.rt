@@ -1,7 +1,7 @@
 // The subcommand `show` as `clap` is given it. It relies on `usage` for paths.
 
 ghost use Rattle.std.specs.Prelude.{◌≡◌, IfOk};
-ghost use Rattle.cli_line.specs.RunCommand.{IsArgument, IsCommand, flag_rule, numbered_command, option_rule, optional_command, reported_command, show_command, timed_command};
+ghost use Rattle.cli_line.specs.RunCommand.{IsArgument, IsCommand, drawn_command, flag_rule, formed_command, numbered_command, option_rule, reported_command, show_command, timed_command};
 
 use crate::usage::{manifest, trace};
 use clap::{Arg, ArgAction, Command};
@@ -10,30 +10,49 @@ use std::alloc::{AllocError, Global};
 /// What help of it has at its end.
 const TOGETHER: &str = "\
 The options from --ccb to --refused choose events: the account shows those that fit all of them.
-None of these goes with --summary or --svg, and --summary does not go with --svg.";
+None of these goes with --summary or --svg, and --summary does not go with --svg.
+--json goes with all but --svg, and --perfetto with none of all these.";
 
 /// The subcommand `show` by itself.
 pub fn show_command<'a>(alloc: Global) -> Result<Command<'a>, AllocError>
     ensures { IfOk result (IsCommand show_command) }
 {
-    optional_command(alloc)?
+    drawn_command(alloc)?
         .after_help(TOGETHER)
         .arg(manifest(alloc))?
         .arg(trace(alloc))
 }
 
-// The subcommand without its paths.
-fn optional_command<'a>(alloc: Global) -> Result<Command<'a>, AllocError>
-    ensures { IfOk result (IsCommand optional_command) }
+// The subcommand without its paths: with the options for what is written into a file of its own.
+fn drawn_command<'a>(alloc: Global) -> Result<Command<'a>, AllocError>
+    ensures { IfOk result (IsCommand drawn_command) }
 {
-    let summary = flag(alloc, "summary", "Counts, in place of the account");
     let picture = option(
         alloc,
         "svg",
         "OUT",
         "Draws into that file, in place of the account; `-` is standard output",
     );
-    reported_command(alloc)?.arg(summary)?.arg(picture)
+    let events = option(
+        alloc,
+        "perfetto",
+        "OUT",
+        "Writes trace events for Perfetto into that file; `-` is standard output",
+    );
+    formed_command(alloc)?.arg(picture)?.arg(events)
+}
+
+// The subcommand with those for what is printed, and in which form.
+fn formed_command<'a>(alloc: Global) -> Result<Command<'a>, AllocError>
+    ensures { IfOk result (IsCommand formed_command) }
+{
+    let summary = flag(alloc, "summary", "Counts, in place of the account");
+    let json = flag(
+        alloc,
+        "json",
+        "Prints JSON, in place of text: an object a line",
+    );
+    reported_command(alloc)?.arg(summary)?.arg(json)
 }
 
 // The subcommand with the options that are about what was reported.

@@ -2,7 +2,7 @@ use Rattle.std.proofs.Common.{◌≡◌, ◌≤◌, ◌∙◌, ℕ, List, None, 
 use Rattle.std.specs.Prelude.{unwrap_or}
 use Rattle.clap.specs.Words.{Row, Text, first_of, found_of}
 use Rattle.cli_line.specs.RunLine.{Spells}
-use Rattle.cli_line.proofs.Given.{nothing_given, none_given, text_given}
+use Rattle.cli_line.proofs.Given.{nothing_given, text_given}
 use Rattle.cli_inspect_line.specs.FoundPlan.{FindsNumber, IsUpTo}
 use Rattle.cli_inspect_line.proofs.showing.given.Goals as goal
 

@@ -1,4 +1,4 @@
-use Rattle.std.proofs.Common.{◌≡◌, ◌∙◌, None, Some, codes, sym}
+use Rattle.std.proofs.Common.{codes, sym}
 use Rattle.clap.specs.Words.{found_of, rows_of}
 use Rattle.cli_line.proofs.Given.{nothing_given, text_given}
 use Rattle.base.specs.Hexadecimal.{byte_in}

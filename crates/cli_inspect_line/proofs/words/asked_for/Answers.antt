@@ -1,8 +1,9 @@
-use Rattle.std.proofs.Common.{◌≡◌, ◌⊎◌, ◌∙◌, [], Bor, List, None, Option, Some, ap, inl, inr, map, string_bytes, subst, sym}
+use Rattle.std.proofs.Common.{◌≡◌, ◌∙◌, [], Bor, List, None, Option, ap, inl, inr, map, string_bytes, subst, sym}
 use Rattle.std.specs.Prelude.{Result, Ok, Err, IfErr, IsErrAnd}
 use Rattle.clap.specs.Words.{HasKind, Row, Text, fault_of, kind_of, subcommand_of, subcommand_rows_of}
 use Rattle.clap.specs.declared.error.Error.{Error}
 use Rattle.clap.specs.declared.error.kind.ErrorKind.TheVariants as kind
+use Rattle.cli_line.specs.RunLine.{spelled_out}
 use Rattle.cli_line.specs.RunCommand.{camr_command}
 use Rattle.cli_line.proofs.Clear.{clear_fault, clear_none, clear_plan, no_memory as only_memory}
 use Rattle.cli_inspect_line.specs.FoundPlan.{IsUnplanned, PlansFound}
@@ -51,17 +52,17 @@ returns-clause-gives c asked line plain = absurd
     _ c.in_ok-matches.ensures.rows (subst (λ o. PlansFound (subcommand_rows_of c.in_ok-matches.matches) o) c.in-None.is c.in_ok-plan.ensures))
 
 pub returns-in_err-spelled-clause-refuses : goal.returns-in_err-spelled-clause-refuses
-returns-in_err-spelled-clause-refuses c = memory_only _ c.from_residual.result c.from_residual.ensures.1
+returns-in_err-spelled-clause-refuses c = memory_only (map spelled_out (map string_bytes c.args.words.now)) c.from_residual.result c.from_residual.ensures.1
 
 pub returns-in_err-matches-clause-refuses : goal.returns-in_err-matches-clause-refuses
 returns-in_err-matches-clause-refuses c =
     let same = lent _ c.deref.result.now _ c.deref.ensures.value c.in_ok-spelled.ensures in
     let e = c.in_err-matches.field-0.0 in
-    refused_so _ c.from_residual-in_err-matches.result e c.from_residual-in_err-matches.ensures.1
+    refused_so (map spelled_out (map string_bytes c.args.words.now)) c.from_residual-in_err-matches.result e c.from_residual-in_err-matches.ensures.1
     (inl (subst (λ ws. HasKind (fault_of camr_command ws) e) same c.in_err-matches.ensures.faults))
 
 pub returns-in_err-plan-clause-refuses : goal.returns-in_err-plan-clause-refuses
-returns-in_err-plan-clause-refuses c = memory_only _ c.from_residual-in_err-plan.result c.from_residual-in_err-plan.ensures.1
+returns-in_err-plan-clause-refuses c = memory_only (map spelled_out (map string_bytes c.args.words.now)) c.from_residual-in_err-plan.result c.from_residual-in_err-plan.ensures.1
 
 pub returns-clause-refuses : goal.returns-clause-refuses
 returns-clause-refuses c =

@@ -1,7 +1,7 @@
 use Rattle.std.proofs.Common.{inl, map, string_bytes}
+use Rattle.cli_line.specs.RunLine.{spelled_out}
 use Rattle.clap.specs.Words.{subcommand_of}
 use Rattle.cli_line.specs.RunCommand.{camr_command}
-use Rattle.cli_line.specs.RunLine.{spelled_out}
 use Rattle.cli_inspect_line.specs.FoundPlan.{HasFound}
 use Rattle.cli_inspect_line.proofs.Once.{handed, once_gives, read_so, refused_twice}
 use Rattle.cli_inspect_line.proofs.words.plan.Goals as goal

@@ -147,3 +147,11 @@ fits_both old new world transport from to first end begins is from-is to-is firs
   λ free. fits_is old new world begins (rw (← is, ← from-is, ← to-is) free.0) (rw (← is, ← first-is, ← end-is) free.1),
   λ fits. let free = free_by old new world fits in (rw (is, from-is, to-is) free.0, rw (is, first-is, end-is) free.1),
 )
+
+-- the same numbers by other names
+pub same_bounds : (old new : Setup) (transport : Transport) (from to first end : ℕ) → from ≡ queue_count new → to ≡ queue_count old → first ≡ new.controllers → end ≡ old.controllers
+    → (QueuesAreFree transport from to × ControllersAreFree transport first end) ↔ (QueuesAreFree transport (queue_count new) (queue_count old) × ControllersAreFree transport new.controllers old.controllers)
+same_bounds old new transport from to first end from-is to-is first-is end-is = (
+  λ free. (rw (← from-is, ← to-is) free.0, rw (← first-is, ← end-is) free.1),
+  λ free. (rw (from-is, to-is) free.0, rw (first-is, end-is) free.1),
+)

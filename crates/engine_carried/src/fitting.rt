@@ -3,12 +3,13 @@
 
 ghost use Rattle.std.specs.Prelude.{◌≡◌, ◌<◌, ◌≤◌, ◌↔◌, [], length, IsTrue};
 ghost use Rattle.world.specs.Capacities.{most_controllers};
-ghost use Rattle.engine_carried.specs.Left.{ControllersAreFree, IsFree, QueuesAreFree};
+ghost use Rattle.world.specs.World.{queue_count};
+ghost use Rattle.engine_carried.specs.Left.{ControllersAreFree, IsFree, QueuesAreFree, world_left};
 ghost use Rattle.engine_carried.specs.TakenOver.{Fits};
 
 use ccb::QueueId;
 use engine_config::Config;
-use engine_core::Engine;
+use engine_core::{Engine, NumberedEngine};
 use engine_transport::Transport;
 use world::QueueInfo;
 
@@ -19,10 +20,24 @@ pub fn fits(engine: &Engine, config: &Config) -> bool
     requires { engine.now.world.runs.list ≡ [] }
     ensures { IsTrue result ↔ Fits config.now engine.now.world }
 {
-    let transport = engine.transport();
-    let old = engine.config();
-    are_queues_free(transport, config.queues(), old.queues())
-        && are_controllers_free(transport, config.controllers(), old.controllers())
+    are_others_free(engine.transport(), engine.config(), config)
+}
+
+/// Returns the same of an engine that keeps no history.
+pub fn fits_numbered(engine: &NumberedEngine<'_>, config: &Config) -> bool
+    requires { engine.now.runs.list ≡ [] }
+    ensures { IsTrue result ↔ Fits config.now (world_left engine.now.transport engine.now.runs) }
+{
+    are_others_free(engine.transport(), engine.config(), config)
+}
+
+// Returns whether nothing is left of the queues and controllers that the old configuration has and the new one does not.
+fn are_others_free(transport: &Transport, old: &Config, new: &Config) -> bool
+    requires { queue_count old.now ≡ length transport.now.openings }
+    ensures { IsTrue result ↔ (QueuesAreFree transport.now (queue_count new.now) (queue_count old.now) × ControllersAreFree transport.now new.now.controllers old.now.controllers) }
+{
+    are_queues_free(transport, new.queues(), old.queues())
+        && are_controllers_free(transport, new.controllers(), old.controllers())
 }
 
 // Returns whether the queues from this number on, up to the last one that there is, have no freeze and no waiting or active CCB.

@@ -14,7 +14,7 @@ mod laws;
 mod lines;
 mod numbering;
 
-pub use fitting::fits;
+pub use fitting::{fits, fits_numbered};
 pub use laws::leaves_a_beginning;
-pub use lines::carried_lines;
+pub use lines::{carried_lines, carried_lines_numbered};
 pub use numbering::Numbering;

@@ -15,7 +15,7 @@ use crate::carried_openings::add_openings;
 use crate::carried_words::add_words;
 use crate::numbering::Numbering;
 use engine_config::Config;
-use engine_core::Engine;
+use engine_core::{Engine, NumberedEngine};
 use engine_runs::Runs;
 use engine_transport::Transport;
 use std::alloc::{AllocError, Global};
@@ -32,6 +32,30 @@ pub fn carried_lines(
 ) -> Result<Vec<CarriedLine>, AllocError>
     requires { engine.now.world.runs.list ≡ [] }
     ensures { IfOk result (λ lines. lines.items ≡ lines_of (taken_over numbering engine.now.setup config.now engine.now.world)) }
+{
+    let transport = engine.transport();
+    let runs = engine.runs();
+    let mut lines = Vec::new(alloc);
+    add_lines(
+        &mut lines,
+        transport,
+        runs,
+        engine.config(),
+        config,
+        numbering,
+    )?;
+    Ok(lines)
+}
+
+/// Returns the same of an engine that keeps no history.
+pub fn carried_lines_numbered(
+    alloc: Global,
+    engine: &NumberedEngine<'_>,
+    config: &Config,
+    numbering: Numbering,
+) -> Result<Vec<CarriedLine>, AllocError>
+    requires { engine.now.runs.list ≡ [] }
+    ensures { IfOk result (λ lines. lines.items ≡ lines_of (taken_over numbering engine.now.setup config.now (world_left engine.now.transport engine.now.runs))) }
 {
     let transport = engine.transport();
     let runs = engine.runs();

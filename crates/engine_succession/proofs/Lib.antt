@@ -1,3 +1,4 @@
 pub mod Taking
 pub mod Succeeding
 pub mod Refused
+pub mod OneByOne

@@ -87,8 +87,8 @@ fn entered(
     }
 }
 
-// The queues and tables of the configuration, with no CCB, no freeze and no run.
-fn opened(alloc: Global, config: &Config) -> Result<(Transport, Runs), AllocError>
+/// The queues and tables of the configuration, with no CCB, no freeze and no run.
+pub(crate) fn opened(alloc: Global, config: &Config) -> Result<(Transport, Runs), AllocError>
     ensures transport { IfOk result (λ parts. parts.0 ≡ (opening config.now).transport) }
     ensures runs { IfOk result (λ parts. parts.1 ≡ no_runs config.now.limits.table_lengths) }
     ensures lawful { IsLawful config.now }

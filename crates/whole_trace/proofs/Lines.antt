@@ -1,5 +1,5 @@
 -- A text begins with one list of carried lines, after which none stands; and no carried line stands where a record's or the last one does.
-use Rattle.std.proofs.Common.{◌≡◌, ◌≢◌, ℕ, IfNone, Option, Some, None, List, [], ◌∷◌, ◌++◌, refl, sym, ap, ◌∙◌, append_assoc, append-nil, codes}
+use Rattle.std.proofs.Common.{◌≡◌, ◌≢◌, ◌+◌, ◌<◌, length, take, ℕ, IfNone, Option, Some, None, List, [], ◌∷◌, ◌++◌, refl, sym, ap, ◌∙◌, append_assoc, append-nil, codes}
 use Rattle.std.specs.Fmt.{option_append, with_newline}
 use Rattle.world_calls.specs.declared.carried_line.CarriedLine.{CarriedLine}
 use Rattle.world_calls.specs.declared.record.Record.{Record}
@@ -18,7 +18,12 @@ use Rattle.trace.proofs.SoFar.{in_front}
 use Rattle.carried_lines.specs.CarriedText.{carried_text}
 use Rattle.carried_lines.proofs.NoMarks.{no_end, no_record, plain_line}
 use Rattle.carried_lines.proofs.Whole.{one_line as one_carried}
+use Rattle.carried_lines.specs.FirstLine.{continued_header}
 use Rattle.whole_trace.specs.Continued.{BeginsWith, HasNoCarried, carried_texts}
+use Rattle.base.specs.declared.or_memory.OrMemory.{OrMemory}
+use Rattle.base.specs.declared.or_memory.OrMemory.TheVariants.{OutOfMemory, Fault}
+use Rattle.trace_lines.specs.declared.no_text.NoText.{NoText}
+use Rattle.whole_trace.specs.Front.{IsUnprinted, IsUntold, front_text}
 
 -- a carried line's text is one line
 pub is_one : (line : CarriedLine) (text : List ℕ) → carried_text line ≡ Some text → IsOneLine text
@@ -178,3 +183,21 @@ none_read text line rest first reads other more e =
     let there = in_front text line rest first (carried_text other) (Some more) (is_one other) e in
     let its = reads.back other there.0 in
     absurd cc
+
+-- ---- the front of a continued trace
+
+pub front_first : (version : Version) → front_text version [] ≡ Some (continued_header version)
+unfolding carried_texts
+front_first version = ap Some (append-nil (continued_header version))
+
+pub front_push : (version : Version) (lines : List CarriedLine) (line : CarriedLine) (before text : List ℕ) → front_text version lines ≡ Some before → with_newline (carried_text line) ≡ Some text → front_text version (lines ++ line ∷ []) ≡ Some (before ++ text)
+front_push version lines line before text so is =
+    ap (option_append (Some (continued_header version))) (texts_push lines line)
+    ∙ sym (append_three (Some (continued_header version)) (carried_texts lines) (with_newline (carried_text line)))
+    ∙ ap (λ (t : Option (List ℕ)). option_append t (with_newline (carried_text line))) so
+    ∙ ap (option_append (Some before)) is
+
+-- why one line is not printed is why none is
+pub untold_among : (lines : List CarriedLine) (place : ℕ) (line : CarriedLine) (error : OrMemory NoText) → place < length lines → take (place + 1) lines ≡ take place lines ++ line ∷ [] → IsUntold line error → IsUnprinted lines error
+untold_among lines place line OutOfMemory below is untold = tt
+untold_among lines place line (Fault fault) below is untold = record { place = place; line = line; below = below; is = is; held = untold }

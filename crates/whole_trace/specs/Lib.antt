@@ -1,3 +1,4 @@
 pub mod WholeText
 pub mod Continued
 pub mod OneText
+pub mod Front

@@ -3,7 +3,9 @@
 #![tactic(auto)]
 
 mod continued;
+mod front;
 pub mod laws;
 mod reader;
 
+pub use front::print_front;
 pub use reader::{WholeTrace, read};

@@ -1,24 +1,15 @@
-use Rattle.std.proofs.Common.{◌∙◌, length, ap, sym, refl}
+use Rattle.std.proofs.Common.{ap, refl}
+use Rattle.world.specs.World.{Setup, queue_count}
+use Rattle.engine_carried.proofs.Adding.{parts_left}
 use Rattle.engine_carried.proofs.Free.{fits_both, left_begins}
-use Rattle.world.specs.World.{Setup, Transport, queue_count}
 use Rattle.engine_carried.proofs.fitting.fits.Goals as goal
 
-pub are_queues_free-requires : goal.are_queues_free-requires
-are_queues_free-requires c =
-    let begins = left_begins c.args.engine.now c.transport-transport.ensures.run c.requires in
-    c.queues-2.ensures.value ∙ (ap (λ (s : Setup). queue_count s) c.config-old.ensures ∙ (sym begins.limits.answers.queues ∙ ap (λ (t : Transport). length t.openings) (sym c.transport-transport.ensures.value)))
+pub are_others_free-requires : goal.are_others_free-requires
+are_others_free-requires c =
+    (parts_left c.args.engine.now c.config.result.now c.transport.result.now c.args.engine.now.world.runs c.transport.ensures.run c.requires c.config.ensures c.transport.ensures.value refl).0.openings
 
-pub returns-then-are_queues_free : goal.returns-then-are_queues_free
-returns-then-are_queues_free c =
-    let begins = left_begins c.args.engine.now c.transport-transport.ensures.run c.requires in
-    let both = fits_both c.args.engine.now.setup c.args.config.now c.args.engine.now.world c.transport-transport.result.now c.queues.result c.queues-2.result c.controllers.result c.controllers-then-are_queues_free.result begins
-    c.transport-transport.ensures.value c.queues.ensures.value (c.queues-2.ensures.value ∙ ap (λ (s : Setup). queue_count s) c.config-old.ensures)
-    c.controllers.ensures.value (c.controllers-then-are_queues_free.ensures.value ∙ ap (λ (s : Setup). s.controllers) c.config-old.ensures) in
-    (λ free. both.0 (c.are_queues_free.ensures.0 c.if-are_queues_free.true, c.are_controllers_free.ensures.0 free), λ fits. c.are_controllers_free.ensures.1 (both.1 fits).1)
-
-pub returns-else-are_queues_free : goal.returns-else-are_queues_free
-returns-else-are_queues_free c =
-    let begins = left_begins c.args.engine.now c.transport-transport.ensures.run c.requires in
-    let both = fits_both c.args.engine.now.setup c.args.config.now c.args.engine.now.world c.transport-transport.result.now c.queues.result c.queues-2.result c.args.config.now.controllers c.args.engine.now.setup.controllers begins
-    c.transport-transport.ensures.value c.queues.ensures.value (c.queues-2.ensures.value ∙ ap (λ (s : Setup). queue_count s) c.config-old.ensures) refl refl in
-    (λ free. absurd (cc (free, c.if-are_queues_free.false)), λ fits. c.are_queues_free.ensures.1 (both.1 fits).0)
+pub returns : goal.returns
+returns c =
+    let both = fits_both c.args.engine.now.setup c.args.config.now c.args.engine.now.world c.transport.result.now (queue_count c.args.config.now) (queue_count c.config.result.now) c.args.config.now.controllers c.config.result.now.controllers
+    (left_begins c.args.engine.now c.transport.ensures.run c.requires) c.transport.ensures.value refl (ap (λ (s : Setup). queue_count s) c.config.ensures) refl (ap (λ (s : Setup). s.controllers) c.config.ensures) in
+    (λ free. both.0 (c.are_others_free.ensures.0 free), λ fits. c.are_others_free.ensures.1 (both.1 fits))

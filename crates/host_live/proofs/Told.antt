@@ -1,6 +1,6 @@
 -- What is out of the trace of an engine that was opened, or was not.
-use Rattle.std.proofs.Common.{◌≡◌, ◌∙◌, ℕ, Bool, true, false, Option, Some, None, Result, Ok, Err, List, [], ◌++◌, length, take, refl, sym, ap, subst, append_assoc, append-nil, inl, inr, ◌⊎◌, arith}
-use Rattle.std.specs.Prelude.{IfErr, IfSome, OnOk}
+use Rattle.std.proofs.Common.{◌≡◌, ◌∙◌, ℕ, Bool, true, false, Option, Some, None, Result, Ok, Err, List, [], ◌++◌, length, length-append, take, refl, sym, ap, subst, append_assoc, append-nil, inl, inr, ◌⊎◌, arith}
+use Rattle.std.specs.Prelude.{IfErr, IfSome}
 use Rattle.std.specs.Fmt.{option_append}
 use Rattle.std.specs.Io.KnownBytes.{Appends}
 use Rattle.std.proofs.KnownBytes.{Appends-nil}
@@ -17,7 +17,7 @@ use Rattle.trace.specs.TraceText.{header, records_text, totals_text}
 use Rattle.trace.proofs.Grown.{goes_both, stops_on}
 use Rattle.trace.proofs.Printing.{append_nothing, no_records}
 use Rattle.world.specs.Beginning.{Begins}
-use Rattle.world.specs.World.{Setup, World, beginning, version_of}
+use Rattle.world.specs.World.{Runs, Setup, World, beginning, version_of}
 use Rattle.world.specs.WorldRun.{WorldRun}
 use Rattle.world.specs.Event.{Event, Reply}
 use Rattle.world.specs.Flat.{events_of, flat}
@@ -25,12 +25,12 @@ use Rattle.world_laws.proofs.Leads.{leads_split}
 use Rattle.world.specs.TotalsOf.{TotalsOf, totals_in}
 use Rattle.host_live.specs.Answering.{Answer, with_answers}
 use Rattle.host_live.specs.Inputs.{CameState, all_of, known_of}
-use Rattle.host_live.specs.Served.{ContinuesTurns, GoesOnOr, IsGoneOn, IsGoneOnInPart, IsPrintedBehind, IsServedInPart, IsTurned, IsTurnedInPart, ServesBy, ServesTurns, in_drives, in_turns}
+use Rattle.host_live.specs.Served.{ContinuesTurns, IsGoneOn, IsGoneOnInPart, IsPrintedBehind, IsServedInPart, IsServedOn, IsServedOnInPart, IsTurned, IsTurnedInPart, ServesBy, ServesTurns, at_last, in_drives, in_turns}
 use Rattle.host_live.specs.Turns.{at_reading, no_turn}
 use Rattle.host_live.specs.declared.manner.Manner.{Manner}
 use Rattle.host_live.proofs.Outcomes.{gone_on_in_part_placed, gone_on_placed, none_given, turned_in_part_placed, turned_placed}
 use Rattle.host_live.specs.Growth.{GrowsBy, PrintedState, opened_printed, resumed_printed, went, stopped, stayed}
-use Rattle.host_live.specs.Telling.{Continues, IsBegun, IsContinued, IsContinuedInPart, IsOutBehind, IsWrittenOut, Serves}
+use Rattle.host_live.specs.Telling.{Closes, Continues, IsBegun, IsContinued, IsContinuedInPart, IsOutBehind, IsStillLive, IsWrittenOut, Serves}
 
 -- ---- nothing was asked yet
 
@@ -173,55 +173,165 @@ module _ (start : NumberedState) (count : ℕ) (engine : PrintedState) (base at 
   abbrev its : Version
   its = version_of start.setup
 
-  history_on : IsHistory start.setup (records ++ made)
+  abbrev sums_on : Totals
+  sums_on = sums_behind engine.printed.count engine.engine
+
+  abbrev history_on : IsHistory start.setup (records ++ made)
   history_on =
       let on = grows.follows records behind_start in
       (on.world, subst (λ (s : Setup). WorldRun s (flat (records ++ made)) on.world) grows.setup on.leads)
 
+  same_runs : (grows.follows records behind_start).world.runs ≡ engine.engine.runs
+  same_runs = ap (λ (w : World). w.runs) (grows.follows records behind_start).is
+
+  still_live : (engine.engine.runs.list ≡ [] → ⊥) → IsStillLive start.setup (records ++ made)
+  still_live live = (history_on.0, history_on.1, λ none. live (subst (λ (r : Runs). r.list ≡ []) same_runs none))
+
+  sums_follow : count ≡ length records → TotalsOf start.setup (records ++ made) sums_on
+  sums_follow counted =
+      let on = grows.follows records behind_start in
+      let all : engine.printed.count ≡ length (records ++ made) = omega (arith, grows.printed.count, counted, length-append records made) in
+      (on.world, history_on.1, ap (λ (n : ℕ). sums_behind n engine.engine) all ∙ sym (ap (λ (w : World). totals_in (records ++ made) w) on.is))
+
   continued_in_part : (out : IsContinuedInPart start.setup records base at) × (rest : List Record) × (made ≡ out.more ++ rest)
   continued_in_part = elim grows.printed.prints [
-    | went a b goes none ↦
-        (record { more = made; history = history_on; bytes = goes.more; is = goes.is; front = record { handed = goes.handed; rest = engine.printed.lines.waiting; whole = goes.whole; told = goes.told } }, [], sym (append-nil made))
+    | went a b goes none ↦ (
+      record { more = made; last = None; history = history_on; sums = tt; bytes = goes.more; is = append_nothing (records_text its made) ∙ goes.is; front = record { handed = goes.handed; rest = engine.printed.lines.waiting; whole = goes.whole; told = goes.told } },
+      [],
+      sym (append-nil made),
+    )
     | stopped a b shown rest whole stops fault ↦
-        let longer : records ++ made ≡ (records ++ shown) ++ rest = ap (λ (t : List Record). records ++ t) whole ∙ sym (append_assoc records shown rest) in
-        (record { more = shown; history = shorter start.setup (records ++ shown) rest (subst (IsHistory start.setup) longer history_on); bytes = stops.more; is = stops.is; front = stops.front }, rest, whole)
+        let longer : records ++ made ≡ (records ++ shown) ++ rest = ap (λ (t : List Record). records ++ t) whole ∙ sym (append_assoc records shown rest) in (
+          record {
+            more = shown;
+            last = None;
+            history = shorter start.setup (records ++ shown) rest (subst (IsHistory start.setup) longer history_on);
+            sums = tt;
+            bytes = stops.more;
+            is = append_nothing (records_text its shown) ∙ stops.is;
+            front = stops.front;
+          },
+          rest,
+          whole,
+        )
     | stayed a b same still ↦ clash false refl a
   ]
 
-  continued : engine.printed.lines.waiting ≡ [] → engine.printed.has_failed ≡ false → (out : IsContinued start.setup records base at) × (out.more ≡ made)
-  continued all whole = elim grows.printed.prints [
-    | went a b goes none ↦
-        let handed : goes.more ≡ goes.handed = goes.whole ∙ (ap (λ (t : List ℕ). goes.handed ++ t) all ∙ append-nil goes.handed) in
-        (record { more = made; history = history_on; bytes = goes.more; is = goes.is; told = subst (Appends base at) (sym handed) goes.told }, refl)
+  -- all lines of the records went out
+  all_went : engine.printed.has_failed ≡ false → Goes (records_text its made) [] base engine.printed.lines.waiting at
+  all_went whole = elim grows.printed.prints [
+    | went a b goes none ↦ goes
     | stopped a b shown rest faulty stops fault ↦ clash engine.printed.has_failed whole b
     | stayed a b same still ↦ clash engine.printed.has_failed whole b
   ]
 
-  pub continues_so : {T E : Type 0} (r : Result T E) → OnOk r (engine.printed.lines.waiting ≡ []) → OnOk r (engine.printed.has_failed ≡ false) → Continues start.setup records base r at
-  continues_so (Ok done) all whole = (continued all whole).0
-  continues_so (Err fault) all whole = continued_in_part.0
+  left_open : engine.printed.lines.waiting ≡ [] → engine.printed.has_failed ≡ false → (engine.engine.runs.list ≡ [] → ⊥) → (out : IsContinued start.setup records base at) × (out.more ≡ made)
+  left_open all whole live =
+      let goes = all_went whole in
+      let handed : goes.more ≡ goes.handed = goes.whole ∙ (ap (λ (t : List ℕ). goes.handed ++ t) all ∙ append-nil goes.handed) in
+      (record { more = made; last = None; history = history_on; is_last = still_live live; bytes = goes.more; is = append_nothing (records_text its made) ∙ goes.is; told = subst (Appends base at) (sym handed) goes.told }, refl)
 
-  pub continues_turns : {T E : Type 0} (r : Result T E) (manner : Manner) (began came : Option CameState) (given answered : Option (List Answer)) (answers : List Answer) → OnOk r (engine.printed.lines.waiting ≡ []) → OnOk r (engine.printed.has_failed ≡ false)
-      → answered ≡ with_answers given answers → GoesOnOr manner start (IsPrintedBehind (resumed_printed count start).printed base) (known_of began) came r made answers → ContinuesTurns start manner began came records base given r at answered
-  continues_turns (Ok done) manner began came given answered answers all whole are these =
-      let it = continued all whole in
-      record {
-        out = it.0;
-        answers = answers;
-        are_answers = are;
-        turned = subst (λ (rs : List Record). IsGoneOn manner start (IsOutBehind its [] base) (known_of began) came rs answers) (sym it.1)
-            (gone_on_placed manner (known_of began) came (IsPrintedBehind (resumed_printed count start).printed base) (IsOutBehind its [] base) (λ rs behind is. is.1) start made answers these);
-      }
-  continues_turns (Err fault) manner began came given answered answers all whole are these =
-      let it = continued_in_part in
-      record {
-        out = it.0;
-        rest = it.1;
-        answers = answers;
-        are_answers = are;
-        turned = subst (λ (rs : List Record). IsGoneOnInPart manner start (IsOutBehind its [] base) (known_of began) came rs answers) it.2
-            (gone_on_in_part_placed manner (known_of began) came (IsPrintedBehind (resumed_printed count start).printed base) (IsOutBehind its [] base) (λ rs behind is. is.1) start made answers these);
-      }
+  -- and the last line
+  abbrev with_last : Option (List ℕ)
+  with_last = option_append (records_text its made) (totals_text sums_on)
+
+  last_went : (to : Option (List ℕ)) → engine.printed.has_failed ≡ false → Goes (totals_text sums_on) engine.printed.lines.waiting at [] to → Goes with_last [] base [] to
+  last_went to whole ends = goes_both (records_text its made) (totals_text sums_on) [] engine.printed.lines.waiting [] base at to (all_went whole) ends
+
+  shut : (to : Option (List ℕ)) → count ≡ length records → engine.printed.has_failed ≡ false → engine.engine.runs.list ≡ [] → Goes (totals_text sums_on) engine.printed.lines.waiting at [] to → (out : IsContinued start.setup records base to) × (out.more ≡ made)
+  shut to counted whole none ends =
+      let on = last_went to whole ends in (
+        record {
+          more = made;
+          last = Some sums_on;
+          history = history_on;
+          is_last = (sums_follow counted, ap length none);
+          bytes = on.more;
+          is = on.is;
+          told = subst (Appends base to) (sym (on.whole ∙ append-nil on.handed)) on.told;
+        },
+        refl,
+      )
+
+  stopped_at_last : (to : Option (List ℕ)) → count ≡ length records → engine.printed.has_failed ≡ false
+      → (StopsIn (Some []) engine.printed.lines.waiting at to ⊎ StopsIn (totals_text sums_on) engine.printed.lines.waiting at to) ⊎ Goes (totals_text sums_on) engine.printed.lines.waiting at [] to
+      → (out : IsContinuedInPart start.setup records base to) × (rest : List Record) × (made ≡ out.more ++ rest)
+  stopped_at_last to counted whole ends = elim ends [
+    | inl stops ↦ elim stops [
+      | inl s ↦
+          let on = stops_on (records_text its made) (Some []) [] engine.printed.lines.waiting base at to (all_went whole) s in
+          (record { more = made; last = None; history = history_on; sums = tt; bytes = on.more; is = on.is; front = on.front }, [], sym (append-nil made))
+      | inr s ↦
+          let on = stops_on (records_text its made) (totals_text sums_on) [] engine.printed.lines.waiting base at to (all_went whole) s in
+          (record { more = made; last = Some sums_on; history = history_on; sums = sums_follow counted; bytes = on.more; is = on.is; front = on.front }, [], sym (append-nil made))
+    ]
+    | inr gone ↦
+        let on = last_went to whole gone in
+        (record { more = made; last = Some sums_on; history = history_on; sums = sums_follow counted; bytes = on.more; is = on.is; front = record { handed = on.handed; rest = []; whole = on.whole; told = on.told } }, [], sym (append-nil made))
+  ]
+
+  abbrev Printed_on : List Record → ℕ → Type 0
+  Printed_on = IsPrintedBehind (resumed_printed count start).printed base
+
+  abbrev Out_on : List Record → ℕ → Type 0
+  Out_on = IsOutBehind its [] base
+
+  closed_out : {T E : Type 0} (r : Result T E) (to : Option (List ℕ)) → count ≡ length records → engine.printed.lines.waiting ≡ [] → engine.printed.has_failed ≡ false → Closes engine at r to → Continues start.setup records base r to
+  closed_out (Ok done) to counted all whole closes = elim closes [
+    | inl alive ↦ subst (λ (o : Option (List ℕ)). IsContinued start.setup records base o) (sym alive.1) (left_open all whole alive.0).0
+    | inr ended ↦ (shut to counted whole ended.0 ended.1).0
+  ]
+  closed_out (Err fault) to counted all whole closes = (stopped_at_last to counted whole closes).0
+
+  -- what went out after the last line, or without it
+  pub continues_closed : {T E : Type 0} (r : Result T E) (to : Option (List ℕ)) → count ≡ length records → engine.printed.lines.waiting ≡ [] → engine.printed.has_failed ≡ false → Closes engine at r to → Continues start.setup records base r to
+  continues_closed r to counted all whole closes = closed_out r to counted all whole closes
+
+  pub continues_part : (T : Type 0) {E : Type 0} (fault : E) → Continues {T = T} start.setup records base (Err fault) at
+  continues_part T fault = continued_in_part.0
+
+  turned_all : (manner : Manner) (began came : Option CameState) (given answered : Option (List Answer)) (answers : List Answer) (to : Option (List ℕ)) → answered ≡ with_answers given answers → IsGoneOn manner start Printed_on (known_of began) came made answers
+      → (it : (out : IsContinued start.setup records base to) × (out.more ≡ made)) → IsServedOn start manner began came records base to given answered
+  turned_all manner began came given answered answers to are these it = record {
+    out = it.0;
+    answers = answers;
+    are_answers = are;
+    turned = subst (λ (rs : List Record). IsGoneOn manner start Out_on (known_of began) came rs answers) (sym it.1)
+        (gone_on_placed manner (known_of began) came Printed_on Out_on (λ rs behind is. is.1) start made answers these);
+  }
+
+  turned_part : (manner : Manner) (began came : Option CameState) (given answered : Option (List Answer)) (answers : List Answer) (to : Option (List ℕ)) → answered ≡ with_answers given answers → IsGoneOnInPart manner start Printed_on (known_of began) came made answers
+      → (it : (out : IsContinuedInPart start.setup records base to) × (rest : List Record) × (made ≡ out.more ++ rest)) → IsServedOnInPart start manner began came records base to given answered
+  turned_part manner began came given answered answers to are these it = record {
+    out = it.0;
+    rest = it.1;
+    answers = answers;
+    are_answers = are;
+    turned = subst (λ (rs : List Record). IsGoneOnInPart manner start Out_on (known_of began) came rs answers) it.2
+        (gone_on_in_part_placed manner (known_of began) came Printed_on Out_on (λ rs behind is. is.1) start made answers these);
+  }
+
+  pub continues_turns_closed : {T E : Type 0} (r : Result T E) (to : Option (List ℕ)) (manner : Manner) (began came : Option CameState) (given answered : Option (List Answer)) (answers : List Answer) → count ≡ length records → engine.printed.lines.waiting ≡ [] → engine.printed.has_failed ≡ false → Closes engine at r to
+      → answered ≡ with_answers given answers → IsGoneOn manner start Printed_on (known_of began) came made answers → ContinuesTurns start manner began came records base given r to answered
+  continues_turns_closed (Ok done) to manner began came given answered answers counted all whole closes are these = elim closes [
+    | inl alive ↦
+        subst (λ (o : Option (List ℕ)). IsServedOn start manner began came records base o given answered) (sym alive.1) (turned_all manner began came given answered answers at are these (left_open all whole alive.0))
+    | inr ended ↦ turned_all manner began came given answered answers to are these (shut to counted whole ended.0 ended.1)
+  ]
+  continues_turns_closed (Err fault) to manner began came given answered answers counted all whole closes are these =
+      turned_part manner began came given answered answers to are (at_last these) (stopped_at_last to counted whole closes)
+
+  pub continues_turns_part : (T : Type 0) {E : Type 0} (fault : E) (manner : Manner) (began came : Option CameState) (given answered : Option (List Answer)) (answers : List Answer) → answered ≡ with_answers given answers → IsGoneOnInPart manner start Printed_on (known_of began) came made answers
+      → ContinuesTurns {T = T} start manner began came records base given (Err fault) at answered
+  continues_turns_part T fault manner began came given answered answers are these = turned_part manner began came given answered answers at are these continued_in_part
+
+-- where no write failed none is counted
+pub none_failed : (more : List Record) (old new : PrintedState) (at to : Option (List ℕ)) (failed fails : ℕ) → new.printed.has_failed ≡ false → GrowsBy more old at failed new to fails → fails ≡ failed
+none_failed more old new at to failed fails whole grows = elim grows.printed.prints [
+  | went a b goes none ↦ none
+  | stopped a b shown rest faulty stops fault ↦ clash new.printed.has_failed whole b
+  | stayed a b same still ↦ clash new.printed.has_failed whole b
+]
 
 -- ---- what was served of an engine that was opened
 

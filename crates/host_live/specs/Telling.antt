@@ -1,14 +1,17 @@
 -- What of the trace of a live engine is out.
-use Rattle.std.specs.Prelude.{◌≡◌, ◌⊎◌, ◌+◌, ◌++◌, ℕ, Option, Some, IfSome, List, Result, Ok, Err, length, take}
+use Rattle.std.specs.Prelude.{◌≡◌, ◌⊎◌, ◌+◌, ◌++◌, ℕ, Option, Some, None, IfSome, List, [], Result, Ok, Err, length, take}
 use Rattle.std.specs.Fmt.{option_append}
 use Rattle.std.specs.Io.KnownBytes.{Appends}
 use Rattle.world_calls.specs.declared.record.Record.{Record}
 use Rattle.world_calls.specs.declared.totals.Totals.{Totals}
 use Rattle.world_calls.specs.declared.trace.Version.{Version}
-use Rattle.engine_core.specs.ByNumber.{IsHistory}
-use Rattle.trace.specs.Growing.{IsFront}
-use Rattle.trace.specs.TraceText.{header, lines_text, records_text}
-use Rattle.world.specs.World.{Setup, version_of}
+use Rattle.engine_core.specs.ByNumber.{IsHistory, sums_behind}
+use Rattle.trace.specs.Growing.{Goes, IsFront, StopsIn}
+use Rattle.trace.specs.TraceText.{header, lines_text, records_text, totals_text}
+use Rattle.world.specs.World.{Setup, World, version_of}
+use Rattle.world.specs.WorldRun.{WorldRun}
+use Rattle.world.specs.Flat.{flat}
+use Rattle.host_live.specs.Growth.{PrintedState}
 use Rattle.world.specs.TotalsOf.{TotalsOf}
 
 -- the first line, and those of the first so many records
@@ -47,23 +50,57 @@ Serves setup base (Err fault) at = IsBegun setup base at
 abbrev pub IsOutBehind : Version → (waiting : List ℕ) → (base : Option (List ℕ)) → List Record → ℕ → Type 0
 IsOutBehind version waiting base records behind = (text : List ℕ) × (records_text version records ≡ Some text) × IfSome base (λ its. behind ≡ length its + length (waiting ++ text))
 
--- What went out is the lines of records with which a history of an engine of this setup goes on after these ones.
+-- after these records some run is live
+abbrev pub IsStillLive : Setup → List Record → Type 0
+IsStillLive setup records = (world : World) × WorldRun setup (flat records) world × (world.runs.list ≡ [] → ⊥)
+
+-- the text of the last line, if there is one
+abbrev pub last_text : Option Totals → Option (List ℕ)
+last_text None = Some []
+last_text (Some totals) = totals_text totals
+
+-- there is one, with the sums after these records, exactly if no run is live then
+abbrev pub IsLast : Setup → List Record → Option Totals → Type 0
+IsLast setup records None = IsStillLive setup records
+IsLast setup records (Some totals) = TotalsOf setup records totals × (totals.runs ≡ 0)
+
+-- What went out is the lines of records with which a history of an engine of this setup goes on after these ones, and the last line, unless
+-- a run is live.
 pub record IsContinued (setup : Setup) (records : List Record) (base at : Option (List ℕ)) : Type 0 where
   pub more : List Record
+  pub last : Option Totals
   pub history : IsHistory setup (records ++ more)
+  pub is_last : IsLast setup (records ++ more) last
   pub bytes : List ℕ
-  pub is : records_text (version_of setup) more ≡ Some bytes
+  pub is : option_append (records_text (version_of setup) more) (last_text last) ≡ Some bytes
   pub told : Appends base at bytes
 
 -- What went out is a front of such lines.
 pub record IsContinuedInPart (setup : Setup) (records : List Record) (base at : Option (List ℕ)) : Type 0 where
   pub more : List Record
+  pub last : Option Totals
   pub history : IsHistory setup (records ++ more)
+  pub sums : IfSome last (TotalsOf setup (records ++ more))
   pub bytes : List ℕ
-  pub is : records_text (version_of setup) more ≡ Some bytes
+  pub is : option_append (records_text (version_of setup) more) (last_text last) ≡ Some bytes
   pub front : IsFront bytes base at
 
 -- what is said of one that stood behind these records, and served to the end of its input, or stopped before
 abbrev pub Continues : {T E : Type 0} → Setup → List Record → Option (List ℕ) → Result T E → Option (List ℕ) → Type 0
 Continues setup records base (Ok done) at = IsContinued setup records base at
 Continues setup records base (Err fault) at = IsContinuedInPart setup records base at
+
+-- ---- inside
+
+-- the last line went out after what waited; or a write failed before it, at it, or after it
+abbrev pub EndsTrace : {T E : Type 0} → PrintedState → Option (List ℕ) → Result T E → Option (List ℕ) → Type 0
+EndsTrace state at (Ok done) to = Goes (totals_text (sums_behind state.printed.count state.engine)) state.printed.lines.waiting at [] to
+EndsTrace state at (Err fault) to =
+    (StopsIn (Some []) state.printed.lines.waiting at to ⊎ StopsIn (totals_text (sums_behind state.printed.count state.engine)) state.printed.lines.waiting at to)
+    ⊎ Goes (totals_text (sums_behind state.printed.count state.engine)) state.printed.lines.waiting at [] to
+
+-- it did, unless a run is live
+abbrev pub Closes : {T E : Type 0} → PrintedState → Option (List ℕ) → Result T E → Option (List ℕ) → Type 0
+Closes state at (Ok done) to =
+    ((state.engine.runs.list ≡ [] → ⊥) × (to ≡ at)) ⊎ ((state.engine.runs.list ≡ []) × Goes (totals_text (sums_behind state.printed.count state.engine)) state.printed.lines.waiting at [] to)
+Closes state at (Err fault) to = EndsTrace {T = Unit {0}} state at (Err fault) to

@@ -1,7 +1,7 @@
 // An engine whose records are printed as they come, and forgotten. It relies on `engine_core` for the engine, and on `printed` for what
 // goes out.
 
-ghost use Rattle.std.specs.Prelude.{◌≡◌, ◌<◌, ◌↔◌, [], ℕ, List, length, slice_index_or, None, Option, Some, true, false, IfErr, IfOk, IfSome, IsNone, IsSome, IsTrue, OnErr, OnOk};
+ghost use Rattle.std.specs.Prelude.{◌≡◌, ◌<◌, ◌↔◌, ◌⊎◌, [], ℕ, List, length, slice_index_or, None, Option, Some, true, false, IfErr, IfOk, IfSome, IsNone, IsSome, IsTrue, OnErr, OnOk};
 ghost use Rattle.freeze_ledger.specs.Deadlines.{some_timer};
 ghost use Rattle.freeze_ledger.specs.Freezes.{entry_of};
 ghost use Rattle.engine_core.specs.ByNumber.{guests_of, sums_behind};
@@ -14,6 +14,7 @@ ghost use Rattle.world_calls.specs.declared.record.Record.{Record as TheRecord};
 ghost use Rattle.host_live.specs.Answering.{Answers};
 ghost use Rattle.host_live.specs.Growth.{GrowsBy, IsExit, IsMadeBy, StandsBehind, opened_printed, record_of_call, resumed_printed};
 ghost use Rattle.host_live.specs.Served.{ServesBy};
+ghost use Rattle.host_live.specs.Telling.{EndsTrace};
 
 use crate::lending::end;
 use crate::outlet::Outlet;
@@ -74,15 +75,14 @@ impl<'a> PrintedEngine<'a> {
         Ok(PrintedEngine { engine, printed })
     }
 
-    /// An engine of this configuration that stands behind a history of so many records, of which the trace went out before. Nothing waits.
-    pub(crate) fn resumed(config: &Config, engine: NumberedEngine<'a>, count: u64) -> Self
-        requires same { engine.setup ≡ config.now }
+    /// An engine that stands after a history of so many records, of which the trace went out before. Nothing waits.
+    pub(crate) fn resumed(engine: NumberedEngine<'a>, count: u64) -> Self
         requires behind { StandsBehind count engine }
         ensures { result ≡ resumed_printed count engine.entry }
     {
-        // It is called for what it says of the configuration.
-        let _ = config.queues();
-        let printed = Printed::resumed(Version::of(config.helpers()), count);
+        // It is called for what it says of the history.
+        let _ = engine.transport();
+        let printed = Printed::resumed(Version::of(engine.config().helpers()), count);
         PrintedEngine { engine, printed }
     }
 
@@ -194,6 +194,14 @@ impl<'a> PrintedEngine<'a> {
         self.engine.totals(self.printed.count)
     }
 
+    /// Whether a run is live.
+    pub(crate) fn has_run(&self) -> bool
+        ensures live { result ≡ true → self.now.engine.runs.list ≡ [] → ⊥ }
+        ensures none { result ≡ false → self.now.engine.runs.list ≡ [] }
+    {
+        self.engine.runs().len() > 0
+    }
+
     /// Hands on what waits, and says that nothing more comes for now. It reports a write that fails, or failed before.
     pub(crate) fn settle<S: Outlet>(&mut self, out: &mut S) -> Result<(), WriteFailed>
         ensures printed { GrowsBy [] self.old (S.bytes out.old) (S.failures out.old) self.new (S.bytes out.new) (S.failures out.new) }
@@ -234,6 +242,8 @@ impl<'a> PrintedEngine<'a> {
     pub(crate) fn end<S: Outlet>(self, out: &mut S) -> Result<(), WriteFailed>
         ensures told { (setup : Setup) (base : Option (List ℕ)) (failed : ℕ) (records : List TheRecord) → Begins setup → GrowsBy records (opened_printed setup) base failed self.entry (S.bytes out.old) (S.failures out.old) → ServesBy setup base records result (S.bytes out.new) }
         ensures failed { (setup : Setup) (base : Option (List ℕ)) (failed : ℕ) (records : List TheRecord) → GrowsBy records (opened_printed setup) base failed self.entry (S.bytes out.old) (S.failures out.old) → IfErr result (λ _. HasFailed failed (S.failures out.new)) }
+        ensures last { self.entry.printed.has_failed ≡ false → EndsTrace self.entry (S.bytes out.old) result (S.bytes out.new) }
+        ensures fails { OnErr result (HasFailed (S.failures out.old) (S.failures out.new) ⊎ (self.entry.printed.has_failed ≡ true)) }
         ensures answers { S.answers out.new ≡ S.answers out.old }
     {
         let totals = self.totals();

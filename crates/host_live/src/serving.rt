@@ -1,7 +1,7 @@
 // A live engine from its opening, or from where it stands, to the end of its input. It relies on `host` for what lines ask, on `lines` for lines, and on
 // `printed_engine` for what goes out.
 
-ghost use Rattle.std.specs.Prelude.{◌≡◌, ◌≢◌, ◌<◌, ◌^◌, ◌-◌, ℕ, [], Option, List, Ok, Err, IfErr, IfOk, IsTrue, OnErr, OnOk, false, true};
+ghost use Rattle.std.specs.Prelude.{◌≡◌, ◌≢◌, ◌<◌, ◌^◌, ◌-◌, ℕ, [], Option, List, Ok, Err, IfErr, IfOk, IsTrue, OnErr, OnOk, false, length, true};
 ghost use Rattle.engine_core.specs.ByNumber.{IsBehind, NumberedState};
 ghost use Rattle.trace.specs.Sinks.{HasFailed};
 ghost use Rattle.world.specs.Beginning.{Begins};
@@ -12,7 +12,7 @@ ghost use Rattle.host_live.specs.Growth.{GrowsAs, GrowsBy, StandsBehind, opened_
 ghost use Rattle.host_live.specs.Inputs.{known_of};
 ghost use Rattle.host_live.specs.LinesCome.{IsTaken, Stands, Waits};
 ghost use Rattle.host_live.specs.Served.{AnswersTurn, Carries, CarriesCut, CarriesLine, CarriesReading, ContinuesTurns, DrivesFirst, EndsOr, EndsOrPart, GoesOnOr, GrowsWith, IsLineNow, IsPrintedBehind, MayCome, NextIs, ServesBy, ServesTurns, TurnsOr};
-ghost use Rattle.host_live.specs.Telling.{Continues, Serves};
+ghost use Rattle.host_live.specs.Telling.{Closes, Continues, Serves};
 ghost use Rattle.host_live.specs.Turns.{DrivesAll};
 ghost use Rattle.host_live.specs.declared.lines.Next.TheVariants.{End, Failed};
 ghost use Rattle.host_live.specs.declared.serving.Turn.TheVariants.{End as AtEnd, Line as LineTurn};
@@ -104,12 +104,11 @@ pub fn serve<I: Input, S: Outlet, N: Reports>(
     }
 }
 
-/// The same for an engine of this configuration that stands behind a history of so many records, of which the trace went out before: neither
-/// its first line goes out nor its last one. Unless runs stay out, those that are out are driven to their ends before a line is read. At the
-/// end of the input none is driven. The input's clock goes on from what the engine's reads.
+/// The same for an engine that stands after a history of so many records, of which the trace went out before, so that its first line does not
+/// go out again. Unless runs stay out, those that are out are driven to their ends before a line is read. At the end of the input none is
+/// driven, and the last line goes out only if no run is live then. The input's clock goes on from what the engine's reads.
 pub fn serve_on<I: Input, S: Outlet, N: Reports>(
     alloc: Global,
-    config: &Config,
     engine: NumberedEngine<'_>,
     count: u64,
     manner: Manner,
@@ -117,20 +116,39 @@ pub fn serve_on<I: Input, S: Outlet, N: Reports>(
     out: &mut S,
     reports: &mut N,
 ) -> Result<(), LiveFault>
-    requires same { engine.setup ≡ config.now }
     requires behind { StandsBehind count engine }
     // All that went out continues the trace of each history that the engine stood behind; where it stopped, it is a front of what does.
-    ensures told { (records : List TheRecord) → IsBehind records engine.entry → Continues config.now records (S.bytes out.old) result (S.bytes out.new) }
+    ensures told { (records : List TheRecord) → IsBehind records engine.entry → count ≡ length records → Continues engine.entry.setup records (S.bytes out.old) result (S.bytes out.new) }
     // It is that of the runs that were out, unless runs stay out, and then of what the lines that came asked for; and each was answered so.
-    ensures turned { (records : List TheRecord) → IsBehind records engine.entry → ContinuesTurns engine.entry manner (I.came input.old) (I.came input.new) records (S.bytes out.old) (S.answers out.old) result (S.bytes out.new) (S.answers out.new) }
+    ensures turned { (records : List TheRecord) → IsBehind records engine.entry → count ≡ length records → ContinuesTurns engine.entry manner (I.came input.old) (I.came input.new) records (S.bytes out.old) (S.answers out.old) result (S.bytes out.new) (S.answers out.new) }
     ensures unread { result ≡ Err Unread → IsTrue (I.has_failed input.new) }
     ensures still { OnOk result (I.has_failed input.new ≡ I.has_failed input.old) }
     ensures ended { manner.is_told ≡ false → OnOk result (IsTrue (I.has_ended input.new)) }
     ensures unwritten { result ≡ Err Unwritten → HasFailed (S.failures out.old) (S.failures out.new) }
 {
-    let engine = PrintedEngine::resumed(config, engine, count);
+    let engine = PrintedEngine::resumed(engine, count);
     let mut host = Host::new(alloc, engine);
-    serve_resumed(&mut host, manner, input, out, reports)
+    match serve_resumed(&mut host, manner, input, out, reports) {
+        Ok(()) => close(host, out),
+        Err(fault) => Err(fault),
+    }
+}
+
+// Prints the last line, unless a run is live. All was handed on before.
+fn close<S: Outlet>(host: Host<'_>, out: &mut S) -> Result<(), LiveFault>
+    requires all { host.engine.printed.lines.waiting ≡ [] }
+    requires whole { host.engine.printed.has_failed ≡ false }
+    ensures closed { Closes host.entry.engine (S.bytes out.old) result (S.bytes out.new) }
+    ensures answers { S.answers out.new ≡ S.answers out.old }
+    ensures failed { IfErr result (λ fault. (fault ≡ Unwritten) × HasFailed (S.failures out.old) (S.failures out.new)) }
+{
+    if host.engine.has_run() {
+        return Ok(());
+    }
+    match host.into_engine().end(out) {
+        Ok(()) => Ok(()),
+        Err(failed) => Err(LiveFault::from(failed)),
+    }
 }
 
 // Serves the lines up to the input's end, and drives the runs that are out then.

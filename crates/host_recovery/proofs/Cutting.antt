@@ -7,10 +7,13 @@ use Rattle.std.proofs.lemmas.Bool.Decides.{nat_tests}
 use Rattle.std.proofs.lemmas.List.Folds.{list_all-append}
 use Rattle.world_calls.specs.declared.trace.Version.{Version}
 use Rattle.world_calls.specs.declared.trace.Version.TheVariants.{One, Two}
+use Rattle.host_recovery.specs.Carries.{first_text}
+use Rattle.host_recovery.specs.declared.first_line.First.{First}
+use Rattle.host_recovery.specs.declared.first_line.First.TheVariants.{Plain, Continued}
 use Rattle.trace_lines.proofs.Tests.{both}
 use Rattle.trace.specs.Reading.{HasNoLine}
 use Rattle.trace.specs.ShortLines.{IsShort, is_shown}
-use Rattle.trace.specs.TraceText.{entry_text, header, sums_text}
+use Rattle.trace.specs.TraceText.{entry_text, sums_text}
 use Rattle.trace.specs.declared.laws.TheConstants.{LONGEST_LINE}
 use Rattle.trace.proofs.Cuts.{HasNoFeed, IsOneLine, first_of, is_in_line}
 use Rattle.trace.proofs.Shown.{lines_are_short}
@@ -50,55 +53,69 @@ shown_line (b ∷ text) h =
     let parts = both (is_shown b) (list_all is_shown text) h in
     rw (shown_in_line b parts.0, shown_line text parts.1) refl
 
+pub front_nothing : (a b : List ℕ) → a ++ b ≡ [] → a ≡ []
+front_nothing [] b e = refl
+front_nothing (x ∷ a) b e = absurd (let bad : x ∷ (a ++ b) ≡ [] = e in cc)
+
 pub feed_is_not_short : (line rest : List ℕ) → IsShort (line ++ 10 ∷ rest) → ⊥
 feed_is_not_short line rest short = no_feed_in (line ++ 10 ∷ rest) line rest (shown_line (line ++ 10 ∷ rest) short.shown) refl
 
 -- ---- the first line
 
-unfoldable pub body : Version → List ℕ
-body One = codes "camr-trace 1"
-body Two = codes "camr-trace 2"
+unfoldable pub body : First → List ℕ
+body (Plain One) = codes "camr-trace 1"
+body (Plain Two) = codes "camr-trace 2"
+body (Continued One) = codes "camr-trace 1 continued"
+body (Continued Two) = codes "camr-trace 2 continued"
 
-header_is : (version : Version) → header version ≡ body version ++ 10 ∷ []
+first_is : (first : First) → first_text first ≡ body first ++ 10 ∷ []
 unfolding body
-header_is One = refl
-header_is Two = refl
+first_is (Plain One) = refl
+first_is (Plain Two) = refl
+first_is (Continued One) = refl
+first_is (Continued Two) = refl
 
-body_is_line : (version : Version) → IsOneLine (body version)
+body_is_line : (first : First) → IsOneLine (body first)
 unfolding body
-body_is_line One = refl
-body_is_line Two = refl
+body_is_line (Plain One) = refl
+body_is_line (Plain Two) = refl
+body_is_line (Continued One) = refl
+body_is_line (Continued Two) = refl
 
-body_is_short : (version : Version) → nat_le (length (body version)) 12 ≡ true
+body_is_short : (first : First) → nat_le (length (body first)) 22 ≡ true
 unfolding body
-body_is_short One = refl
-body_is_short Two = refl
+body_is_short (Plain One) = refl
+body_is_short (Plain Two) = refl
+body_is_short (Continued One) = refl
+body_is_short (Continued Two) = refl
 
-at_most_12 : (n : ℕ) → nat_le n 12 ≡ true → n ≤ 12
-at_most_12 n h = grind (arith, nat_tests)
+at_most_22 : (n : ℕ) → nat_le n 22 ≡ true → n ≤ 22
+at_most_22 n h = grind (arith, nat_tests)
 
-header_in_front : (text : List ℕ) (version : Version) (rest : List ℕ) → text ≡ header version ++ rest → text ≡ body version ++ 10 ∷ rest
-header_in_front text version rest e = e ∙ (ap (λ (t : List ℕ). t ++ rest) (header_is version) ∙ append_assoc (body version) (10 ∷ []) rest)
+first_in_front : (text : List ℕ) (first : First) (rest : List ℕ) → text ≡ first_text first ++ rest → text ≡ body first ++ 10 ∷ rest
+first_in_front text first rest e = e ∙ (ap (λ (t : List ℕ). t ++ rest) (first_is first) ∙ append_assoc (body first) (10 ∷ []) rest)
 
--- the first line is no version's
-pub other_line : (line rest : List ℕ) → IsOneLine line → ((version : Version) → line ++ 10 ∷ [] ≢ header version) → (version : Version) (more : List ℕ) → line ++ 10 ∷ rest ≢ header version ++ more
-other_line line rest one none version more = λ e.
-    let found = (first_of (line ++ 10 ∷ rest) line rest one refl).once (body version) more (body_is_line version) (header_in_front (line ++ 10 ∷ rest) version more e) in
-    none version (ap (λ (t : List ℕ). t ++ 10 ∷ []) found.0 ∙ sym (header_is version))
+-- no first line
+pub other_line : (line rest : List ℕ) → IsOneLine line → ((first : First) → line ++ 10 ∷ [] ≢ first_text first) → (first : First) (more : List ℕ) → line ++ 10 ∷ rest ≢ first_text first ++ more
+other_line line rest one none first more = λ e.
+    let found = (first_of (line ++ 10 ∷ rest) line rest one refl).once (body first) more (body_is_line first) (first_in_front (line ++ 10 ∷ rest) first more e) in
+    none first (ap (λ (t : List ℕ). t ++ 10 ∷ []) found.0 ∙ sym (first_is first))
 
-pub no_line : (text : List ℕ) → IsOneLine text → (version : Version) (more : List ℕ) → text ≢ header version ++ more
-no_line text one version more = λ e. no_feed_in text (body version) more one (header_in_front text version more e)
+pub no_line : (text : List ℕ) → IsOneLine text → (first : First) (more : List ℕ) → text ≢ first_text first ++ more
+no_line text one first more = λ e. no_feed_in text (body first) more one (first_in_front text first more e)
 
-pub too_long : (line rest : List ℕ) → IsOneLine line → LONGEST_LINE < length line → (version : Version) (more : List ℕ) → line ++ rest ≢ header version ++ more
-too_long line rest one long version more = λ e.
-    long_line line rest (body version) more one (omega (arith, long, at_most_12 (length (body version)) (body_is_short version))) (header_in_front (line ++ rest) version more e)
+pub too_long : (line rest : List ℕ) → IsOneLine line → LONGEST_LINE < length line → (first : First) (more : List ℕ) → line ++ rest ≢ first_text first ++ more
+too_long line rest one long first more = λ e.
+    long_line line rest (body first) more one (omega (arith, long, at_most_22 (length (body first)) (body_is_short first))) (first_in_front (line ++ rest) first more e)
 
-pub same_line : (line : List ℕ) (version : Version) → IsOneLine line → line ++ 10 ∷ [] ≡ header version → line ≡ body version
-same_line line version one e = ((first_of (line ++ 10 ∷ []) line [] one refl).once (body version) [] (body_is_line version) (e ∙ header_is version)).0
+pub same_line : (line : List ℕ) (first : First) → IsOneLine line → line ++ 10 ∷ [] ≡ first_text first → line ≡ body first
+same_line line first one e = ((first_of (line ++ 10 ∷ []) line [] one refl).once (body first) [] (body_is_line first) (e ∙ first_is first)).0
 
-pub neither_line : (line : List ℕ) → IsOneLine line → (line ≡ body One → ⊥) → (line ≡ body Two → ⊥) → (version : Version) → line ++ 10 ∷ [] ≢ header version
-neither_line line one first second One = λ e. first (same_line line One one e)
-neither_line line one first second Two = λ e. second (same_line line Two one e)
+pub no_first_line : (line : List ℕ) → IsOneLine line → (line ≡ body (Plain One) → ⊥) → (line ≡ body (Plain Two) → ⊥) → (line ≡ body (Continued One) → ⊥) → (line ≡ body (Continued Two) → ⊥) → (first : First) → line ++ 10 ∷ [] ≢ first_text first
+no_first_line line one a b c d (Plain One) = λ e. a (same_line line (Plain One) one e)
+no_first_line line one a b c d (Plain Two) = λ e. b (same_line line (Plain Two) one e)
+no_first_line line one a b c d (Continued One) = λ e. c (same_line line (Continued One) one e)
+no_first_line line one a b c d (Continued Two) = λ e. d (same_line line (Continued Two) one e)
 
 -- ---- more without a line feed than a line has
 

@@ -1,40 +1,59 @@
--- A front of a segment is cut in one way, and what is said of it is no fault.
-use Rattle.std.proofs.Common.{◌≡◌, ◌≢◌, ◌≤◌, ℕ, suc, true, false, is_some, Option, Some, None, Result, Ok, Err, List, [], ◌∷◌, ◌++◌, length, length-append, take, drop, refl, ap, sym, subst, ◌∙◌, append_assoc, inl, inr, ◌⊎◌, arith}
-use Rattle.std.specs.Prelude.{IfSome}
-use Rattle.std.specs.List.{AllByRecursion, list_all}
+-- A front of a segment that has its carried lines is recovered, and what is said of it is no fault.
+use Rattle.std.proofs.Common.{◌≡◌, ◌≤◌, ℕ, suc, Option, Some, None, Result, Ok, Err, List, [], ◌∷◌, ◌++◌, length, length-append, take, drop, refl, ap, sym, subst, ◌∙◌, append_assoc, inl, inr, ◌⊎◌, arith}
+use Rattle.std.specs.List.{list_all}
 use Rattle.std.specs.Fmt.{option_append, with_newline}
 use Rattle.std.proofs.lemmas.List.Folds.{list_all-append}
 use Rattle.std.proofs.lemmas.List.{take_all, take-append-drop}
 use Rattle.base.specs.declared.or_memory.OrMemory.{OrMemory}
 use Rattle.base.specs.declared.or_memory.OrMemory.TheVariants.{OutOfMemory, Fault}
+use Rattle.world_calls.specs.declared.carried_line.CarriedLine.{CarriedLine}
 use Rattle.world_calls.specs.declared.record.Record.{Record}
 use Rattle.world_calls.specs.declared.totals.Totals.{Totals}
 use Rattle.world_calls.specs.declared.trace.Version.{Version}
-use Rattle.world.specs.World.{Setup, version_of}
+use Rattle.world.specs.World.{Setup, World, version_of}
 use Rattle.world.specs.TotalsOf.{TotalsOf}
 use Rattle.engine_core.specs.ByNumber.{IsBehind, IsHistory}
+use Rattle.engine_core.specs.Settings.{setup_over}
+use Rattle.engine_succession.proofs.Refused.{none_is_refused}
 use Rattle.trace_lines.proofs.Tests.{both, parts_of, same_text}
-use Rattle.trace.specs.Reading.{HasNoLine, MayNotFollow, front_text}
+use Rattle.trace.specs.Reading.{front_text}
 use Rattle.trace.specs.ShortLines.{IsShort, is_shown}
-use Rattle.trace.specs.TraceText.{entry_text, header, lines_text, record_text, records_text, sums_text, totals_text}
+use Rattle.trace.specs.TraceText.{entry_text, lines_text, record_text, records_text, sums_text, totals_text}
 use Rattle.trace.specs.declared.fault.TraceFault.TheVariants.{Header as NoHeader, Line}
 use Rattle.trace.proofs.Cuts.{IsOneLine}
-use Rattle.trace.proofs.Entries.{one_line}
-use Rattle.trace.proofs.FirstFaulty.{begins, no_record_there, not_same, same}
-use Rattle.trace.proofs.LastLine.{one_last_line}
 use Rattle.trace.proofs.Printing.{append_three, append_nothing, no_records, nothing_append}
 use Rattle.trace.proofs.Shown.{lines_are_short}
-use Rattle.trace.proofs.SoFar.{begin, cut_line, not_ended, one_header}
+use Rattle.trace.proofs.SoFar.{cut_line}
 use Rattle.replay.specs.declared.fault.ReplayFault.{ReplayFault}
 use Rattle.replay.specs.declared.fault.ReplayFault.TheVariants.{Header, Carried, Behind}
 use Rattle.replay.proofs.OneVerdict.{shorter}
+use Rattle.whole_trace.specs.WholeText.{AreOrdered}
 use Rattle.host_recovery.specs.AnyFront.{IsBehindWhole, IsTakenUp, RecoversFromAnyFront}
-use Rattle.host_recovery.specs.Recovering.{IsBroken, IsItsOwn, IsRecovered, IsSegment, IsUnfollowed, MayBeLeft, Recovers, StopsBehind, at_record, at_end}
+use Rattle.host_recovery.specs.Recovering.{IsCarriedFault, IsRecovered, IsUnfollowed, Recovers, StopsBehind, at_record, at_end}
+use Rattle.host_recovery.specs.Segments.{IsSegment, MayBeLeft, head_text}
+use Rattle.host_recovery.specs.SetupFor.{IsSetupFor, carried_count}
 use Rattle.host_recovery.specs.declared.fault.RecoveryFault.{RecoveryFault}
 use Rattle.host_recovery.specs.declared.fault.RecoveryFault.TheVariants.{Unread, TooLong, Form, Unfollowed}
 use Rattle.host_recovery.specs.declared.recovering.Recovered.{Recovered}
-use Rattle.host_recovery.proofs.Cutting.{one_line_has_none, shown_line}
-use Rattle.host_recovery.proofs.Standing.{front_nothing}
+use Rattle.host_recovery.proofs.Cutting.{front_nothing, shown_line}
+use Rattle.host_recovery.proofs.WorldLines.{ordered_for}
+use Rattle.host_recovery.proofs.OneWay.{IsThat, IsWay, has_header, not_broken, that_segment, way_left}
+
+-- ---- one setup
+
+pub one_setup : (config : Setup) (carried : Option (List CarriedLine)) (setup other : Setup) → IsSetupFor config carried setup → IsSetupFor config carried other → setup ≡ other
+one_setup config None setup other a b = a ∙ sym b
+one_setup config (Some lines) setup other a b =
+    a.2 ∙ ap (λ (w : World). setup_over config (Some w)) (b.1.only a.0 a.1.is a.1.lines_are) ∙ sym b.2
+
+pub same_version : (config : Setup) (carried : Option (List CarriedLine)) (setup : Setup) → IsSetupFor config carried setup → version_of setup ≡ version_of config
+same_version config None setup a = ap version_of a
+same_version config (Some lines) setup a = ap version_of a.2
+
+-- an engine of that setup begins with the carried lines, so none of them is at fault
+pub no_carried_fault : (config : Setup) (carried : Option (List CarriedLine)) (setup : Setup) (place : ℕ) → IsSetupFor config carried setup → IsCarriedFault config carried place → ⊥
+no_carried_fault config None setup place a fault = fault
+no_carried_fault config (Some lines) setup place a fault = none_is_refused config lines place fault a.0 a.1.is a.1.lines_are
 
 -- ---- where a front ends
 
@@ -150,120 +169,29 @@ cut_lines version (entry ∷ records) totals text front rest e whole =
           }
     ]
 
--- ---- one text is cut in one way
-
-abbrev pub Ends : Version → Option Totals → List ℕ → Type 0
-Ends version None rest = HasNoLine version rest
-Ends version (Some totals) rest = Unit {0}
-
--- the same rest, behind a last line or not, and the same lines if those of the second are their own
-pub record OneCut (version : Version) (records others : List Record) (sums other : Option Totals) (rest more : List ℕ) : Type 0 where
-  pub rest_is : rest ≡ more
-  pub kind : is_some sums ≡ is_some other
-  pub records_are : AllByRecursion (IsItsOwn (entry_text version)) others → records ≡ others
-  pub sums_are : IfSome other (IsItsOwn sums_text) → sums ≡ other
-
-pub one_cut : (version : Version) (records others : List Record) (sums other : Option Totals) (rest more text : List ℕ) → option_append (front_text version records sums) (Some rest) ≡ Some text → option_append (front_text version others other) (Some more) ≡ Some text
-    → Ends version sums rest → Ends version other more → OneCut version records others sums other rest more
-one_cut version [] [] None None rest more text e f p q = record {
-  rest_is = begins version [] None rest text e ∙ sym (begins version [] None more text f);
-  kind = refl;
-  records_are = λ own. refl;
-  sums_are = λ own. refl;
-}
-one_cut version [] [] None (Some b) rest more text e f p q = absurd ((subst (HasNoLine version) (begins version [] None rest text e) p).no_end b more (begins version [] (Some b) more text f))
-one_cut version [] [] (Some a) None rest more text e f p q = absurd ((subst (HasNoLine version) (begins version [] None more text f) q).no_end a rest (begins version [] (Some a) rest text e))
-one_cut version [] [] (Some a) (Some b) rest more text e f p q =
-    let its = same text (sums_text a) (sums_text b) (Some rest) (Some more) (one_last_line a) (one_last_line b) (begins version [] (Some a) rest text e) (begins version [] (Some b) more text f) in
-    record {
-      rest_is = same_text rest its.tail its.first ∙ sym (same_text more its.tail its.second);
-      kind = refl;
-      records_are = λ own. refl;
-      sums_are = λ own. ap Some (own a (its.one ∙ sym its.two));
-    }
-one_cut version [] (entry ∷ others) None other rest more text e f p q = absurd (no_record_there version text (subst (HasNoLine version) (begins version [] None rest text e) p) entry _ (begins version (entry ∷ others) other more text f))
-one_cut version [] (entry ∷ others) (Some a) other rest more text e f p q = absurd (not_same version text entry a _ (Some rest) (begins version (entry ∷ others) other more text f) (begins version [] (Some a) rest text e))
-one_cut version (entry ∷ records) [] sums None rest more text e f p q = absurd (no_record_there version text (subst (HasNoLine version) (begins version [] None more text f) q) entry _ (begins version (entry ∷ records) sums rest text e))
-one_cut version (entry ∷ records) [] sums (Some b) rest more text e f p q = absurd (not_same version text entry b _ (Some more) (begins version (entry ∷ records) sums rest text e) (begins version [] (Some b) more text f))
-one_cut version (entry ∷ records) (second ∷ others) sums other rest more text e f p q =
-    let its = same text (entry_text version entry) (entry_text version second) (option_append (front_text version records sums) (Some rest)) (option_append (front_text version others other) (Some more)) (one_line version entry) (one_line version second)
-    (begins version (entry ∷ records) sums rest text e) (begins version (second ∷ others) other more text f) in
-    let fewer = one_cut version records others sums other rest more its.tail its.first its.second p q in
-    record {
-      rest_is = fewer.rest_is;
-      kind = fewer.kind;
-      records_are = λ own.
-          let first = own.0 entry (its.one ∙ sym its.two) in
-          let others_are = fewer.records_are own.1 in
-          ap (λ (r : Record). r ∷ records) first ∙ ap (λ (rs : List Record). second ∷ rs) others_are;
-      sums_are = fewer.sums_are;
-    }
-
-pub ends_left : (version : Version) (sums : Option Totals) (rest : List ℕ) → MayBeLeft sums rest → Ends version sums rest
-ends_left version None rest short = not_ended version rest [] rest (begin version rest) (one_line_has_none rest (shown_line rest short.shown))
-ends_left version (Some totals) rest none = tt
-
-ends_faulty : (version : Version) (sums : Option Totals) (rest : List ℕ) → MayNotFollow version sums rest → Ends version sums rest
-ends_faulty version None rest none = none
-ends_faulty version (Some totals) rest some = tt
-
--- what may be left behind one may be behind the other
-left_so : (sums other : Option Totals) (rest more : List ℕ) → is_some other ≡ is_some sums → more ≡ rest → MayBeLeft sums rest → MayBeLeft other more
-left_so None None rest more kind is left = subst IsShort (sym is) left
-left_so None (Some b) rest more kind is left = absurd (let bad : true ≡ false = kind in cc)
-left_so (Some a) None rest more kind is left = absurd (let bad : false ≡ true = kind in cc)
-left_so (Some a) (Some b) rest more kind is left = is ∙ left
-
--- ---- behind the first line
-
--- the first line, and what stands behind it
-pub behind_first : (version : Version) (told : Option (List ℕ)) (text : List ℕ) → option_append (Some (header version)) told ≡ Some text → (more : List ℕ) × (told ≡ Some more) × (text ≡ header version ++ more)
-behind_first version told text e =
-    let parts = parts_of (Some (header version)) told text e in
-    (parts.1, parts.3, parts.4 ∙ ap (λ (t : List ℕ). t ++ parts.1) (sym (same_text (header version) parts.0 parts.2)))
+-- ---- the records whose lines are whole
 
 history_front : (setup : Setup) (records : List Record) (count : ℕ) → IsHistory setup records → IsHistory setup (take count records)
 history_front setup records count history = shorter setup (take count records) (drop count records) (subst (IsHistory setup) (sym (take-append-drop count records)) history)
 
-module _ (setup : Setup) (records : List Record) (totals : Totals) (front lines more rest : List ℕ) (sums : TotalsOf setup records totals)
-    (is : lines_text (version_of setup) records totals ≡ Some lines) (front_is : front ≡ header (version_of setup) ++ more) (whole : lines ≡ more ++ rest) where
+module _ (config setup : Setup) (carried : Option (List CarriedLine)) (records : List Record) (totals : Totals) (head front lines more rest : List ℕ) (fits : IsSetupFor config carried setup) (ordered : AreOrdered carried) (sums : TotalsOf setup records totals)
+    (head_is : head_text (version_of setup) carried ≡ Some head) (is : lines_text (version_of setup) records totals ≡ Some lines) (front_is : front ≡ head ++ more) (whole : lines ≡ more ++ rest) where
   abbrev version : Version
   version = version_of setup
 
   cut : IsCut version records totals more
   cut = cut_lines version records totals lines more rest is whole
 
-  -- another way to cut it is the same
-  abbrev OneWay : Version → List Record → Option Totals → List ℕ → Type 0
-  OneWay its others other left = (its ≡ version) × OneCut version (take cut.count records) others cut.sums other cut.torn left
+  way : IsWay version carried (take cut.count records) cut.sums cut.torn front
+  way = way_left version carried (take cut.count records) cut.sums cut.torn more front (ap (λ (t : Option (List ℕ)). option_append t (Some more)) head_is ∙ ap Some (sym front_is)) cut.is cut.left
 
-  one_way : (its : Version) (others : List Record) (other : Option Totals) (left behind : List ℕ) → front ≡ header its ++ behind → option_append (front_text its others other) (Some left) ≡ Some behind → Ends its other left → OneWay its others other left
-  one_way its others other left behind e f ends =
-      let first = one_header its version behind more (sym e ∙ front_is) in
-      let g : option_append (front_text version others other) (Some left) ≡ Some more = subst (λ (v : Version). option_append (front_text v others other) (Some left) ≡ Some more) first.0 (f ∙ ap Some first.1) in
-      (first.0, one_cut version (take cut.count records) others cut.sums other cut.torn left more cut.is g (ends_left version cut.sums cut.torn cut.left) (subst (λ (v : Version). Ends v other left) first.0 ends))
+  abbrev Same : Version → Option (List CarriedLine) → List Record → Option Totals → Type 0
+  Same its others more_records other = IsThat version carried (take cut.count records) cut.sums cut.torn front way its others more_records other
 
-  segment_way : (its : Version) (others : List Record) (other : Option Totals) (left : List ℕ) → IsSegment its front others other left → OneWay its others other left
-  segment_way its others other left segment =
-      let there = behind_first its (option_append (front_text its others other) (Some left)) front segment.whole in
-      one_way its others other left there.0 there.2 there.1 (ends_left its other left segment.left)
-
-  -- the records are the first so many
-  records_are : (its : Version) (others : List Record) (other : Option Totals) (left : List ℕ) → IsSegment its front others other left → take cut.count records ≡ others
-  records_are its others other left segment =
-      let way = segment_way its others other left segment in
-      way.1.records_are (subst (λ (v : Version). AllByRecursion (IsItsOwn (entry_text v)) others) way.0 segment.own)
+  same_as : (its : Version) (others : Option (List CarriedLine)) (more_records : List Record) (other : Option Totals) (torn : List ℕ) → IsSegment its others front more_records other torn → Same its others more_records other
+  same_as its others more_records other torn segment = that_segment version carried (take cut.count records) cut.sums cut.torn front way its others more_records other torn segment
 
   -- ---- no fault
-
-  no_header : ((its : Version) (behind : List ℕ) → front ≢ header its ++ behind) → ⊥
-  no_header none = none version more front_is
-
-  not_broken : (its : Version) (behind : List ℕ) (number : ℕ) → front ≡ header its ++ behind → IsBroken its behind number → ⊥
-  not_broken its behind number e broken =
-      let faulty = broken.faulty in
-      let way = one_way its faulty.records faulty.sums faulty.rest behind e faulty.front (ends_faulty its faulty.sums faulty.rest faulty.faulty) in
-      broken.not_left (left_so cut.sums faulty.sums cut.torn faulty.rest (sym way.1.kind) (sym way.1.rest_is) cut.left)
 
   history : IsHistory setup records
   history = (sums.0, sums.1)
@@ -282,16 +210,18 @@ module _ (setup : Setup) (records : List Record) (totals : Totals) (front lines 
     ]
   ]
 
-  not_unfollowed : (its : Version) (others : List Record) (other : Option Totals) (left : List ℕ) (fault : ReplayFault) → IsSegment its front others other left → IsUnfollowed setup its others other fault → ⊥
-  not_unfollowed its others other left Header segment differs = differs (segment_way its others other left segment).0
-  not_unfollowed its others other left (Carried count) segment stops = stops
-  not_unfollowed its others other left (Behind carried count) segment stops =
-      let way = segment_way its others other left segment in
-      stops_nowhere others other count (records_are its others other left segment) (way.1.sums_are segment.own_sums) stops.1
+  not_unfollowed : (its : Version) (others : Option (List CarriedLine)) (more_records : List Record) (other : Option Totals) (fault : ReplayFault) → Same its others more_records other → IsUnfollowed config its others more_records other fault → ⊥
+  not_unfollowed its others more_records other Header same differs = differs (sym same.version_is ∙ same_version config carried setup fits)
+  not_unfollowed its others more_records other (Carried place) same fault =
+      no_carried_fault config carried setup place fits (subst (λ (c : Option (List CarriedLine)). IsCarriedFault config c place) (sym same.carried_is) fault.1)
+  not_unfollowed its others more_records other (Behind carried_lines count) same stops =
+      let after = stops.1 in
+      let setup_is : setup ≡ after.setup = one_setup config carried setup after.setup fits (subst (λ (c : Option (List CarriedLine)). IsSetupFor config c after.setup) (sym same.carried_is) after.is_setup) in
+      stops_nowhere more_records other count same.records_are same.sums_are (subst (λ (s : Setup). StopsBehind s more_records other count) (sym setup_is) after.stops)
 
-  -- ---- the records whose lines are whole
+  -- ---- the engine
 
-  -- what stands behind the records' lines
+  -- what stands after the records' lines
   behind_records : (other : Option Totals) (torn : List ℕ) → MayBeLeft other torn → option_append (front_text version (take cut.count records) other) (Some torn) ≡ Some more → (other ≡ None) ⊎ ((other ≡ Some totals) × (cut.count ≡ length records))
       → (last : List ℕ) × (option_append (records_text version (take cut.count records)) (Some last) ≡ Some more) × (IsOneLine last ⊎ ((cut.count ≡ length records) × (totals_text totals ≡ Some last)))
   behind_records None torn short e place = (torn, e, inl (shown_line torn short.shown))
@@ -305,30 +235,33 @@ module _ (setup : Setup) (records : List Record) (totals : Totals) (front lines 
         (parts.1, ap (option_append (records_text version (take cut.count records))) (sym parts.3) ∙ there, inr (all.1, ap totals_text (sym one) ∙ parts.3))
   ]
 
-  behind_whole : (recovered : Recovered) → IsRecovered setup front recovered → IsBehindWhole setup records totals front recovered
+  behind_whole : (recovered : Recovered) → IsRecovered config front recovered → IsBehindWhole setup carried records totals front recovered
   behind_whole recovered it =
+      let same = same_as (version_of config) it.carried it.records it.sums it.torn it.segment in
       let last = behind_records cut.sums cut.torn cut.left cut.is cut.place in
       record {
-        setup_is = it.setup_is;
+        setup_is = sym (one_setup config carried setup recovered.engine.setup fits (subst (λ (c : Option (List CarriedLine)). IsSetupFor config c recovered.engine.setup) (sym same.carried_is) it.setup_is));
+        lines = it.lines ∙ ap carried_count (sym same.carried_is);
         count = cut.count;
         within = cut.within;
-        behind = subst (λ (rs : List Record). IsBehind rs recovered.engine) (sym (records_are version it.records it.sums it.torn it.segment)) it.behind;
+        behind = subst (λ (rs : List Record). IsBehind rs recovered.engine) (sym same.records_are) it.behind;
         rest = last.0;
-        whole = ap (option_append (Some (header version))) last.1 ∙ ap Some (sym front_is);
+        whole = ap (option_append (head_text version carried)) last.1 ∙ (ap (λ (t : Option (List ℕ)). option_append t (Some more)) head_is ∙ ap Some (sym front_is));
         left = last.2;
       }
 
-  taken_up : (result : Result Recovered (OrMemory RecoveryFault)) → Recovers setup front result → IsTakenUp setup records totals front result
+  pub taken_up : (result : Result Recovered (OrMemory RecoveryFault)) → Recovers config front result → IsTakenUp setup carried records totals front result
   taken_up (Ok recovered) says = behind_whole recovered says
   taken_up (Err OutOfMemory) says = tt
   taken_up (Err (Fault Unread)) says = tt
   taken_up (Err (Fault TooLong)) says = tt
-  taken_up (Err (Fault (Form NoHeader))) says = no_header says
-  taken_up (Err (Fault (Form (Line number)))) says = not_broken says.0 says.1 number says.2 says.3
-  taken_up (Err (Fault (Unfollowed fault))) says = not_unfollowed says.0 says.1 says.2 says.3 fault says.4 says.5
+  taken_up (Err (Fault (Form NoHeader))) says = has_header version carried (take cut.count records) cut.sums cut.torn front way says
+  taken_up (Err (Fault (Form (Line number)))) says = not_broken version carried (take cut.count records) cut.sums cut.torn front way cut.left ordered number says
+  taken_up (Err (Fault (Unfollowed fault))) says = not_unfollowed says.0 says.1 says.2 says.3 fault (same_as says.0 says.1 says.2 says.3 says.4 says.5) says.6
 
 pub recovers_from_any_front : RecoversFromAnyFront
-recovers_from_any_front setup records totals text front rest result sums e whole less says =
-    let lines = behind_first (version_of setup) (lines_text (version_of setup) records totals) text e in
-    let cut = longer_front (header (version_of setup)) front lines.0 rest (sym lines.2 ∙ whole) less in
-    taken_up setup records totals front lines.0 cut.0 rest sums lines.1 cut.1 cut.2 result says
+recovers_from_any_front config setup carried records totals head text front rest result fits sums head_is e whole less says =
+    let parts = parts_of (Some head) (lines_text (version_of setup) records totals) text e in
+    let text_is : text ≡ head ++ parts.1 = parts.4 ∙ ap (λ (t : List ℕ). t ++ parts.1) (sym (same_text head parts.0 parts.2)) in
+    let cut = longer_front head front parts.1 rest (sym text_is ∙ whole) less in
+    taken_up config setup carried records totals head front parts.1 cut.0 rest fits (ordered_for config carried setup fits) sums head_is parts.3 cut.1 cut.2 result says

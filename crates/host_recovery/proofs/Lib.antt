@@ -1,8 +1,15 @@
 pub mod Turns
 pub mod Cutting
+pub mod ShortCarried
 pub mod Leading
+pub mod Breaking
 pub mod Standing
+pub mod LinesLeading
 pub mod Unreadable
 pub mod Reached
+pub mod CarriedReached
+pub mod Continuing
+pub mod OneWay
+pub mod WorldLines
 pub mod Fronts
 pub mod Agrees

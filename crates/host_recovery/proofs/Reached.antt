@@ -4,20 +4,22 @@ use Rattle.std.specs.Io.KnownBytes.{Consumes}
 use Rattle.base.specs.declared.or_memory.OrMemory.{OrMemory}
 use Rattle.base.specs.declared.or_memory.OrMemory.TheVariants.{Fault}
 use Rattle.world_calls.specs.declared.totals.Totals.{Totals}
-use Rattle.world_calls.specs.declared.trace.Version.{Version}
 use Rattle.world.specs.World.{Setup}
-use Rattle.trace.specs.TraceText.{header}
 use Rattle.trace.specs.declared.fault.TraceFault.TheVariants.{Line}
 use Rattle.trace.specs.declared.laws.TheConstants.{LONGEST_LINE}
 use Rattle.trace.proofs.Cuts.{IsOneLine}
+use Rattle.whole_trace.specs.WholeText.{HasNoHeader}
 use Rattle.host_recovery.specs.Sources.{IsAll}
+use Rattle.host_recovery.specs.Carries.{first_text}
 use Rattle.host_recovery.specs.Recovering.{Answers}
 use Rattle.host_recovery.specs.Reads.{ReadingState, StandsAt, TookSays}
 use Rattle.host_recovery.specs.declared.reading.Took.{Took}
+use Rattle.host_recovery.specs.declared.first_line.First.{First}
+use Rattle.host_recovery.specs.declared.first_line.First.TheVariants.{Plain, Continued}
 use Rattle.host_recovery.specs.declared.fault.RecoveryFault.{RecoveryFault}
 use Rattle.host_recovery.specs.declared.fault.RecoveryFault.TheVariants.{Form}
-use Rattle.host_recovery.proofs.Cutting.{all_of, other_line, rest_of, too_long}
-use Rattle.host_recovery.proofs.Standing.{breaks_behind_end, broken_at, front_nothing, given_more}
+use Rattle.host_recovery.proofs.Cutting.{all_of, front_nothing, other_line, rest_of, too_long}
+use Rattle.host_recovery.proofs.Standing.{breaks_behind_end, broken_at, given_more}
 
 -- nothing is said of it
 pub some_text : (from : Option (List ℕ)) → (text : List ℕ) × IsAll from text × Unit {0}
@@ -34,38 +36,41 @@ long_is_some line rest long e = omega (arith, long, ap length (front_nothing lin
 -- ---- the first line
 
 abbrev HasNoFirst : Option (List ℕ) → Type 0
-HasNoFirst from = (text : List ℕ) × IsAll from text × ((version : Version) (rest : List ℕ) → text ≢ header version ++ rest)
+HasNoFirst from = (text : List ℕ) × IsAll from text × HasNoHeader text
+
+no_header : (text : List ℕ) → ((first : First) (rest : List ℕ) → text ≢ first_text first ++ rest) → HasNoHeader text
+no_header text none = record { plain = λ version. none (Plain version); continued = λ version. none (Continued version) }
 
 module _ (from now : Option (List ℕ)) (before given : List ℕ) (none : before ≡ []) (consumed : Consumes from now given) where
   begins : (text : List ℕ) → before ++ given ≡ text → given ++ rest_of now ≡ text ++ rest_of now
   begins text is = ap (λ (t : List ℕ). t ++ rest_of now) (ap (λ (b : List ℕ). b ++ given) (sym none) ∙ is)
 
-  pub first_other : (line after told : List ℕ) → before ++ given ≡ line ++ 10 ∷ after → IsOneLine line → told ≡ line → ((version : Version) → told ++ 10 ∷ [] ≢ header version) → HasNoFirst from
+  pub first_other : (line after told : List ℕ) → before ++ given ≡ line ++ 10 ∷ after → IsOneLine line → told ≡ line → ((first : First) → told ++ 10 ∷ [] ≢ first_text first) → HasNoFirst from
   first_other line after told is one same other = (
     given ++ rest_of now,
     all_of from now given consumed,
-    λ version rest e. other_line line (after ++ rest_of now) one (λ v f. other v (ap (λ (t : List ℕ). t ++ 10 ∷ []) same ∙ f)) version rest
-        (sym (append_assoc line (10 ∷ after) (rest_of now)) ∙ (sym (begins (line ++ 10 ∷ after) is) ∙ e)),
+    no_header (given ++ rest_of now) (λ first rest e. other_line line (after ++ rest_of now) one (λ v f. other v (ap (λ (t : List ℕ). t ++ 10 ∷ []) same ∙ f)) first rest
+        (sym (append_assoc line (10 ∷ after) (rest_of now)) ∙ (sym (begins (line ++ 10 ∷ after) is) ∙ e))),
   )
 
   pub first_long : (line rest : List ℕ) → before ++ given ≡ line ++ rest → IsOneLine line → LONGEST_LINE < length line → HasNoFirst from
   first_long line rest is one long = (
     given ++ rest_of now,
     all_of from now given consumed,
-    λ version more e. too_long line (rest ++ rest_of now) one long version more (sym (append_assoc line rest (rest_of now)) ∙ (sym (begins (line ++ rest) is) ∙ e)),
+    no_header (given ++ rest_of now) (λ first more e. too_long line (rest ++ rest_of now) one long first more (sym (append_assoc line rest (rest_of now)) ∙ (sym (begins (line ++ rest) is) ∙ e))),
   )
 
--- ---- behind the last line
+-- ---- after the last line
 
-pub broken_behind_end : (setup : Setup) (from now after : Option (List ℕ)) (totals : Totals) (reading : ReadingState) (ahead given beyond : List ℕ) (count : ℕ) (error : OrMemory RecoveryFault) → StandsAt setup from now (Some totals) ahead reading
-    → Consumes now after given → ahead ++ given ≡ beyond → (beyond ≡ [] → ⊥) → count ≡ reading.count → error ≡ Fault (Form (Line (count + 1 + 2))) → Answers setup from (Err error)
-broken_behind_end setup from now after totals reading ahead given beyond count error stands more is some counted tells =
-    subst (λ (e : OrMemory RecoveryFault). Answers setup from (Err e)) (ap (λ (n : ℕ). Fault (Form (Line (n + 1 + 2)))) (sym counted) ∙ sym tells)
-    (breaks_behind_end setup from after reading totals beyond (given_more setup from now (Some totals) ahead reading stands after given beyond more is) some)
+pub broken_behind_end : (config : Setup) (from now after : Option (List ℕ)) (totals : Totals) (reading : ReadingState) (ahead given beyond : List ℕ) (count : ℕ) (error : OrMemory RecoveryFault) → StandsAt config from now (Some totals) ahead reading
+    → Consumes now after given → ahead ++ given ≡ beyond → (beyond ≡ [] → ⊥) → count ≡ reading.carried + reading.count → error ≡ Fault (Form (Line (count + 1 + 2))) → Answers config from (Err error)
+broken_behind_end config from now after totals reading ahead given beyond count error stands more is some counted tells =
+    subst (λ (e : OrMemory RecoveryFault). Answers config from (Err e)) (ap (λ (n : ℕ). Fault (Form (Line (n + 1 + 2)))) (sym counted) ∙ sym tells)
+    (breaks_behind_end config from after reading totals beyond (given_more config from now (Some totals) ahead reading stands after given beyond more is) some)
 
 -- a line that is none, told with its number
-pub tells_broken : (setup : Setup) (from : Option (List ℕ)) (count counted : ℕ) (error : OrMemory RecoveryFault) → count ≡ counted → error ≡ Fault (Form (Line (count + 2))) → Answers setup from (broken_at (counted + 2)) → Answers setup from (Err error)
-tells_broken setup from count counted error same tells = subst (λ (e : OrMemory RecoveryFault). Answers setup from (Err e)) (ap (λ (n : ℕ). Fault (Form (Line (n + 2)))) (sym same) ∙ sym tells)
+pub tells_broken : (config : Setup) (from : Option (List ℕ)) (count counted : ℕ) (error : OrMemory RecoveryFault) → count ≡ counted → error ≡ Fault (Form (Line (count + 2))) → Answers config from (broken_at (counted + 2)) → Answers config from (Err error)
+tells_broken config from count counted error same tells = subst (λ (e : OrMemory RecoveryFault). Answers config from (Err e)) (ap (λ (n : ℕ). Fault (Form (Line (n + 2)))) (sym same) ∙ sym tells)
 
 -- what a line was
 pub took_it : (old new : ReadingState) (told line : List ℕ) (found its : Took) → found ≡ its → told ≡ line → TookSays old told found new → TookSays old line its new

@@ -1,4 +1,4 @@
--- What is no text is no line of a trace.
+-- What is no text is no line of a trace, and no carried one.
 use Rattle.std.proofs.Common.{◌≡◌, ◌<◌, ℕ, true, None, List, [], ◌∷◌, arith}
 use Rattle.std.specs.List.{list_all}
 use Rattle.std.specs.Str.{IsAscii, IsUtf8}
@@ -11,6 +11,8 @@ use Rattle.trace_lines.proofs.Tests.{both}
 use Rattle.trace.specs.ShortLines.{IsShort, is_shown}
 use Rattle.trace.specs.TraceText.{entry_text, sums_text}
 use Rattle.trace.proofs.Shown.{lines_are_short}
+use Rattle.carried_lines.specs.CarriedText.{carried_text}
+use Rattle.host_recovery.proofs.ShortCarried.{carried_is_short}
 
 low : (byte : ℕ) → is_shown byte ≡ true → byte < 128
 low byte h = grind (arith, nat_tests)
@@ -29,3 +31,6 @@ no_record version line none = record { said = tt; back = λ entry e. absurd (non
 
 pub no_end : (line : List ℕ) → (IsUtf8 line → ⊥) → Reads sums_text line None
 no_end line none = record { said = tt; back = λ totals e. absurd (none (text line (lines_are_short.1 totals line e))) }
+
+pub no_carried : (line : List ℕ) → (IsUtf8 line → ⊥) → Reads carried_text line None
+no_carried line none = record { said = tt; back = λ carried e. absurd (none (text line (carried_is_short carried line e))) }

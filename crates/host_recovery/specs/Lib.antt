@@ -1,6 +1,9 @@
 pub mod Sources
+pub mod SetupFor
+pub mod Segments
 pub mod Recovering
 pub mod AnyFront
 pub mod AgreesWithReplay
 pub mod LinesRead
 pub mod Reads
+pub mod Carries

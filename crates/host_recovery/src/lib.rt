@@ -1,7 +1,10 @@
 // What a crash leaves of an engine's trace, read line by line and replayed, so that the engine can go on where it was. It relies on `trace`
-// for lines, and on `replay` and `engine_core` for the engine.
+// and `carried_lines` for lines, on `whole_trace` for what the text of a continued trace is, and on `replay`, `engine_succession` and
+// `engine_core` for the engine.
 #![tactic(auto)]
 
+mod carried;
+mod carrying;
 mod fault;
 mod first_line;
 pub mod laws;

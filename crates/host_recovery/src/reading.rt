@@ -1,16 +1,16 @@
-// A segment as far as it was read: each record is replayed as its line comes, and forgotten. Once a line does not follow, the others are
-// read alone. It relies on `trace` for lines, and on `replay` for whether a record follows.
+// A segment as far as it was read, after its carried lines: each record is replayed as its line comes, and forgotten. Once a line does not
+// follow, the others are read alone. It relies on `trace` for lines, and on `replay` for whether a record follows.
 
-ghost use Rattle.std.specs.Prelude.{◌≡◌, ◌+◌, ◌<◌, ◌≤◌, ◌↔◌, ℕ, List, Option, IfOk, IsTrue, OnOk, length};
+ghost use Rattle.std.specs.Prelude.{◌≡◌, ◌+◌, ◌<◌, ◌≤◌, ◌↔◌, ◌^◌, ℕ, List, Option, Some, IfOk, IsTrue, OnOk, length};
 ghost use Rattle.world.specs.World.{Setup};
 ghost use Rattle.host_recovery.specs.Recovering.{Answers, ReadsBy};
 ghost use Rattle.host_recovery.specs.declared.reading.Took.TheVariants.{End, Record as TheRecord};
-ghost use Rattle.host_recovery.specs.Reads.{FollowsOn, IsDone, IsFirstFault, SumsFollow, TookSays};
+ghost use Rattle.host_recovery.specs.Reads.{FollowsOn, IsDone, SumsFollow, TookSays};
 
 use crate::fault::{RecoveryError, RecoveryFault};
 use crate::recovering::{MOST_WHOLE, Recovered};
 use base::OrMemory;
-use engine_core::NumberedEngine;
+use engine_core::{Config, NumberedEngine};
 use replay::{ReplayFault, follows};
 use std::alloc::{AllocError, Global};
 use std::marker::Model;
@@ -36,6 +36,8 @@ pub(crate) struct Reading<'a> {
     version: Version,
     // the first line that does not follow
     pub(crate) fault: Option<ReplayFault>,
+    // how many carried lines there were
+    carried: usize,
     // how many records' lines there were
     pub(crate) count: usize,
     // how many bytes the lines had, the first line too
@@ -49,31 +51,63 @@ impl<'a> Model for Reading<'a> {
 
     ghost use Rattle.std.specs.Prelude.{◌≤◌};
 
-    ghost view = { λ r. record { engine = r.engine; version = r.version; fault = r.fault; count = r.count; whole = r.whole } };
+    ghost view = { λ r. record { engine = r.engine; version = r.version; fault = r.fault; carried = r.carried; count = r.count; whole = r.whole } };
 
-    ghost invariant = { λ r. r.count ≤ r.whole };
+    ghost use Rattle.std.specs.Prelude.{◌+◌};
+
+    ghost invariant = { λ r. r.carried + r.count ≤ r.whole };
 }
 
 impl<'a> Reading<'a> {
-    /// The first line was read, which is of the version, and so many bytes. Records are those of a history of `its`.
+    /// A segment of which the first line was read, which says the version, and so many carried lines; these lines have so many bytes. The
+    /// engine begins with what they say, unless one of them does not follow.
     pub(crate) fn of(
         alloc: Global,
         engine: NumberedEngine<'a>,
         version: Version,
-        its: Version,
+        fault: Option<ReplayFault>,
+        carried: usize,
         whole: usize,
     ) -> Self
-        ensures parts { (result.engine ≡ engine.entry) × (result.version ≡ version) × (result.count ≡ 0) × (result.whole ≡ whole) }
-        ensures fault { IsFirstFault version its result.fault }
+        requires { carried ≤ whole }
+        ensures parts { (result.version ≡ version) × (result.carried ≡ carried) × (result.count ≡ 0) × (result.whole ≡ whole) }
+        ensures engine { (result.engine ≡ engine.entry) × (result.fault ≡ fault) }
     {
         Reading {
             alloc,
             engine,
             version,
-            fault: first_fault(version, its),
+            fault,
+            carried,
             count: 0,
             whole,
         }
+    }
+
+    /// The same, if this is the first line that does not follow. Then no engine is asked any more, and an empty one stands in its place.
+    pub(crate) fn at_fault(
+        alloc: Global,
+        config: &'a Config,
+        version: Version,
+        fault: ReplayFault,
+        carried: usize,
+        whole: usize,
+    ) -> Result<Self, AllocError>
+        requires { carried ≤ whole }
+        ensures parts { IfOk result (λ it. (it.version ≡ version) × (it.carried ≡ carried) × (it.count ≡ 0) × (it.whole ≡ whole)) }
+        ensures fault { IfOk result (λ it. it.fault ≡ Some fault) }
+    {
+        let engine = NumberedEngine::open(alloc, config)?;
+        Ok(Reading::of(alloc, engine, version, Some(fault), carried, whole))
+    }
+
+    /// How many lines there were after the first one.
+    pub(crate) fn line_count(&self) -> usize
+        requires { self.now.whole ≤ 2 ^ 63 }
+        ensures count { result ≡ self.now.carried + self.now.count }
+        ensures few { result ≤ self.now.whole }
+    {
+        self.carried + self.count
     }
 
     /// Takes a line, which stands without its line feed.
@@ -109,7 +143,7 @@ impl<'a> Reading<'a> {
         requires short { len ≤ LONGEST_LINE }
         ensures took { IfOk result (λ took. took ≡ TheRecord) }
         ensures follows { OnOk result (FollowsOn self.old entry.now self.new) }
-        ensures version { self.new.version ≡ self.old.version }
+        ensures version { (self.new.version ≡ self.old.version) × (self.new.carried ≡ self.old.carried) }
         ensures count { OnOk result (self.new.count ≡ self.old.count + 1) }
         ensures whole { self.new.whole ≡ self.old.whole + (len + 1) }
     {
@@ -125,7 +159,7 @@ impl<'a> Reading<'a> {
         requires short { len ≤ LONGEST_LINE }
         ensures took { result ≡ End }
         ensures follows { SumsFollow self.old totals self.new }
-        ensures version { self.new.version ≡ self.old.version }
+        ensures version { (self.new.version ≡ self.old.version) × (self.new.carried ≡ self.old.carried) }
         ensures count { self.new.count ≡ self.old.count }
         ensures whole { self.new.whole ≡ self.old.whole + (len + 1) }
     {
@@ -137,7 +171,7 @@ impl<'a> Reading<'a> {
     // Asks the engine for the same as the record, if all before it followed.
     fn follow(&mut self, entry: &Record) -> Result<(), AllocError>
         ensures follows { OnOk result (FollowsOn self.old entry.now self.new) }
-        ensures same { (self.new.version ≡ self.old.version) × (self.new.count ≡ self.old.count) × (self.new.whole ≡ self.old.whole) }
+        ensures same { (self.new.version ≡ self.old.version) × (self.new.carried ≡ self.old.carried) × (self.new.count ≡ self.old.count) × (self.new.whole ≡ self.old.whole) }
     {
         if self.fault.is_some() {
             return Ok(());
@@ -146,7 +180,7 @@ impl<'a> Reading<'a> {
             return Ok(());
         }
         self.fault = Some(ReplayFault::Behind {
-            carried: 0,
+            carried: self.carried,
             records: self.count,
         });
         Ok(())
@@ -155,7 +189,7 @@ impl<'a> Reading<'a> {
     // Compares the sums with those of the last line, if all before it followed.
     fn check(&mut self, totals: Totals)
         ensures follows { SumsFollow self.old totals self.new }
-        ensures same { (self.new.version ≡ self.old.version) × (self.new.count ≡ self.old.count) × (self.new.whole ≡ self.old.whole) }
+        ensures same { (self.new.version ≡ self.old.version) × (self.new.carried ≡ self.old.carried) × (self.new.count ≡ self.old.count) × (self.new.whole ≡ self.old.whole) }
     {
         if self.fault.is_some() {
             return;
@@ -164,14 +198,14 @@ impl<'a> Reading<'a> {
             return;
         }
         self.fault = Some(ReplayFault::Behind {
-            carried: 0,
+            carried: self.carried,
             records: self.count,
         });
     }
 
-    /// The engine that stands behind all lines, unless one did not follow.
+    /// The engine that all lines lead to, unless one does not follow.
     pub(crate) fn finish(self, is_ended: bool) -> Result<Recovered<'a>, RecoveryError>
-        ensures says { (setup : Setup) (from : Option (List ℕ)) → IsDone setup from is_ended self.entry → Answers setup from result }
+        ensures says { (config : Setup) (from : Option (List ℕ)) → IsDone config from is_ended self.entry → Answers config from result }
         ensures reads { (failed fails : ℕ) → fails ≡ failed → ReadsBy failed result fails }
     {
         let Reading {
@@ -179,6 +213,7 @@ impl<'a> Reading<'a> {
             engine,
             version: _,
             fault,
+            carried,
             count,
             whole,
         } = self;
@@ -186,6 +221,7 @@ impl<'a> Reading<'a> {
             Some(fault) => Err(OrMemory::Fault(RecoveryFault::Unfollowed(fault))),
             None => Ok(Recovered {
                 engine,
+                carried: carried as u64,
                 records: count as u64,
                 whole: whole as u64,
                 is_ended,
@@ -199,15 +235,4 @@ fn is_same(made: Totals, told: Totals) -> bool
     ensures { IsTrue result ↔ (made ≡ told) }
 {
     made == told
-}
-
-// X3 of the first line, if it is of another version.
-fn first_fault(version: Version, its: Version) -> Option<ReplayFault>
-    ensures { IsFirstFault version its result }
-{
-    if version == its {
-        None
-    } else {
-        Some(ReplayFault::Header)
-    }
 }

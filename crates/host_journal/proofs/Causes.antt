@@ -12,7 +12,7 @@ use Rattle.world.specs.World.{Setup}
 use Rattle.host_journal.specs.Disks.{CutTo, EndsIn, Failed, FolderMade, Held, HoldsNothing, IsFailed, IsFailedBy, IsFolderMade, IsQuiet, IsRefused, IsText, Locked, Opened, Step, with_step}
 use Rattle.host_journal.specs.Faults.{file_error}
 use Rattle.host_journal.specs.Listings.{IsEmptyJournal}
-use Rattle.host_journal.specs.Starts.{AreNoSegment, Cuts, CutsOff, Fails, HasCause, HasEntered, HasEnteredFor, IsAccepted, IsEntered, IsFileFault, IsGivenOther, IsItsManifest, IsMadeOrNot, IsNewest, IsNoFirst, IsNotMadeFor, IsOther, IsOwnFault, IsShutOut, IsShutOutFor, IsTextFault, IsToldOf, IsUnfit, IsUnmade, IsUnmadeFor, IsUnread, IsUnreadSegment, OpensNext, Replays, missing}
+use Rattle.host_journal.specs.Starts.{AreNoSegment, Cuts, CutsOff, IsCutOff, Fails, HasCause, HasEntered, HasEnteredFor, IsAccepted, IsEntered, IsFileFault, IsGivenOther, IsItsManifest, IsMadeOrNot, IsNewest, IsNoFirst, IsNotMadeFor, IsOther, IsOwnFault, IsShutOut, IsShutOutFor, IsTextFault, IsToldOf, IsUnfit, IsUnmade, IsUnmadeFor, IsUnread, IsUnreadSegment, OpensNext, Replays, missing}
 use Rattle.host_journal.specs.declared.disk.DiskFault.{DiskFault}
 use Rattle.host_journal.specs.declared.disk.DiskFault.TheVariants as disk
 use Rattle.host_journal.specs.declared.fault.JournalFault.{JournalFault}
@@ -156,18 +156,15 @@ too_long (Some bytes) text is many = inr (subst (λ (t : List ℕ). MOST_WHOLE �
 pub opens_next : (setup : Setup) (number : ℕ) (known : Option (List ℕ)) (old mid new : Option (List Step)) (recovered : Recovered) (result : Result Recovered (OrMemory JournalFault)) → mid ≡ with_step old (Opened number)
     → Replays setup number known (Ok recovered) → CutsOff number recovered mid result new → OpensNext setup number known old new result
 opens_next setup number known old mid new recovered (Ok cut) opened replays cuts =
-    let its = subst (λ (r : Recovered). Replays setup number known (Ok r)) (sym cuts.0) replays in
-    (ap (λ (r : Recovered). r.is_ended) cuts.0 ∙ cuts.1, its)
+    subst (λ (r : Recovered). Replays setup number known (Ok r)) (sym cuts.0) replays
 opens_next setup number known old mid new recovered (Err OutOfMemory) opened replays cuts = (tt, tt)
-opens_next setup number known old mid new recovered (Err (Fault (faults.Ended other))) opened replays cuts = (cuts.0, recovered, cuts.1, replays)
 opens_next setup number known old mid new recovered (Err (Fault (faults.File (files.Segment other)))) opened replays cuts = (cuts.0, inl (ends_on (IsFailed (files.Segment number)) old mid new (went_step old mid (Opened number) opened) cuts.2))
 opens_next setup number known old mid new recovered (Err (Fault fault)) opened replays cuts = absurd cuts
 
 pub cuts_next : (number : ℕ) (old mid new : Option (List Step)) (recovered : Recovered) (result : Result Recovered (OrMemory JournalFault)) → mid ≡ with_step old (Opened number) → CutsOff number recovered mid result new → Cuts number old result new
 cuts_next number old mid new recovered (Ok cut) opened cuts =
-    cuts.2 ∙ (ap (λ (s : Option (List Step)). with_step s (CutTo recovered.whole)) opened ∙ ap (λ (r : Recovered). with_step (with_step old (Opened number)) (CutTo r.whole)) (sym cuts.0))
+    subst (λ (r : Recovered). IsCutOff r (with_step old (Opened number)) new) (sym cuts.0) (subst (λ (s : Option (List Step)). IsCutOff recovered s new) opened cuts.1)
 cuts_next number old mid new recovered (Err OutOfMemory) opened cuts = quiet_trans old mid new (quiet_step old mid (Opened number) refl opened) cuts
-cuts_next number old mid new recovered (Err (Fault (faults.Ended other))) opened cuts = quiet_trans old mid new (quiet_step old mid (Opened number) refl opened) (quiet_same mid new cuts.2)
 cuts_next number old mid new recovered (Err (Fault (faults.File (files.Segment other)))) opened cuts = quiet_trans old mid new (quiet_step old mid (Opened number) refl opened) cuts.1
 cuts_next number old mid new recovered (Err (Fault fault)) opened cuts = absurd cuts
 

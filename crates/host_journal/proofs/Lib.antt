@@ -10,3 +10,4 @@ pub mod LastLine
 pub mod Utf8
 pub mod Causes
 pub mod Sound
+pub mod Matching

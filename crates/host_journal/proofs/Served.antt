@@ -1,16 +1,18 @@
 -- An engine that was served: the order in which it was, and what was appended.
-use Rattle.std.proofs.Common.{◌≡◌, ◌∙◌, Bool, true, false, Option, Some, None, Result, Ok, Err, List, [], ◌++◌, ℕ, refl, sym, ap, subst, append-nil}
+use Rattle.std.proofs.Common.{◌≡◌, ◌∙◌, Bool, true, false, Option, Some, None, Result, Ok, Err, List, [], ◌++◌, length, ℕ, refl, sym, ap, subst, append-nil}
 use Rattle.std.specs.Prelude.{IfSome, IsOk, MatchBool, OnOk}
 use Rattle.std.specs.Io.KnownBytes.{Appends}
 use Rattle.std.proofs.lemmas.List.Elements.{All-nil}
 use Rattle.world_calls.specs.declared.record.Record.{Record}
+use Rattle.world_calls.specs.declared.totals.Totals.{Totals}
+use Rattle.world.specs.TotalsOf.{TotalsOf}
 use Rattle.world.specs.World.{Setup, version_of}
 use Rattle.engine_core.specs.ByNumber.{NumberedState, IsAdvanceOf, IsBehind, IsHistory}
 use Rattle.trace.specs.TraceText.{records_text}
 use Rattle.host_live.specs.Answering.{Answer}
 use Rattle.host_live.specs.Inputs.{CameState, all_of, known_of}
 use Rattle.host_live.specs.Served.{ContinuesTurns, IsGoneOnInPart, IsServedOn, IsServedOnInPart, at_last, in_first, in_turns_on}
-use Rattle.host_live.specs.Telling.{Continues, IsContinued, IsContinuedInPart, IsOutBehind}
+use Rattle.host_live.specs.Telling.{Continues, IsContinued, IsContinuedInPart, IsLast, IsOutBehind}
 use Rattle.host_live.specs.Turns.{AreDriven, Stops, at_reading, no_turn}
 use Rattle.host_live.specs.declared.manner.Manner.{Manner}
 use Rattle.host_journal.specs.Disks.{AllDone, Step, kept_so_far}
@@ -52,11 +54,17 @@ served_in_order is_synced first before now state (Ok done) served (Ok f) leaves 
 served_in_order is_synced first before now state (Ok done) served (Err f) leaves both all sure = absurd (let bad : false ≡ true = both.1 in cc)
 served_in_order is_synced first before now state (Err e) served flushed leaves both all sure = record { kept = leaves.kept; synced = leaves.synced; out = leaves.out; is_lost = is_of_write state.lost; at = leaves.at; answered = leaves.answered; whole = tt; unlost = tt }
 
+sums_of : (setup : Setup) (records : List Record) (last : Option Totals) → IsLast setup records last → IfSome last (TotalsOf setup records)
+sums_of setup records None is = tt
+sums_of setup records (Some totals) is = is.0
+
 -- all of what goes on is a front of it
 in_part : (setup : Setup) (records : List Record) (base at : Option (List ℕ)) → IsContinued setup records base at → IsContinuedInPart setup records base at
 in_part setup records base at all = record {
   more = all.more;
+  last = all.last;
   history = all.history;
+  sums = sums_of setup (records ++ all.more) all.last all.is_last;
   bytes = all.bytes;
   is = all.is;
   front = record { handed = all.bytes; rest = []; whole = sym (append-nil all.bytes); told = all.told };
@@ -79,6 +87,8 @@ pub continues_none : (setup : Setup) (engine : NumberedState) (records : List Re
 unfolding records_text
 continues_none setup engine records base same behind = record {
   more = [];
+  last = None;
+  sums = tt;
   history = subst (λ (s : Setup). IsHistory s (records ++ [])) same (subst (λ (rs : List Record). IsHistory engine.setup rs) (sym (append-nil records)) (behind.world, behind.leads));
   bytes = [];
   is = refl;
@@ -134,17 +144,17 @@ unturned start manner came records base behind = record {
 
 -- ---- with the order
 
-module _ {T E : Type 0} (engine : NumberedState) (manner : Manner) (began came : Option CameState) (is_synced : Bool) (first : List ℕ) where
+module _ {T E : Type 0} (engine : NumberedState) (count : ℕ) (manner : Manner) (began came : Option CameState) (is_synced : Bool) (first : List ℕ) where
   pub in_order_turned : {A B C D : Type 0} (before first_steps served_steps now : Option (List Step)) (state : JournaledState) (given : List Answer) (result : Result T E) (served : Result A B) (flushed : Result C D)
       → Leaves is_synced first before now state → OnOk result (IsOk served × IsOk flushed) → OnOk flushed ((state.pending ≡ []) × (state.lost ≡ None)) → OnOk flushed (is_synced ≡ true → state.is_behind ≡ false)
       → first_steps ≡ before → kept_so_far now ≡ kept_so_far served_steps → state.answers ≡ given
-      → ((records : List Record) → IsBehind records engine → ContinuesTurns engine manner began came records (kept_so_far first_steps) (Some []) served (kept_so_far served_steps) (Some (stood_behind (kept_so_far before) given)))
-      → ServesInOrder engine manner began came is_synced first before now result
+      → ((records : List Record) → IsBehind records engine → count ≡ length records → ContinuesTurns engine manner began came records (kept_so_far first_steps) (Some []) served (kept_so_far served_steps) (Some (stood_behind (kept_so_far before) given)))
+      → ServesInOrder engine count manner began came is_synced first before now result
   in_order_turned before first_steps served_steps now state given result served flushed leaves both all sure begins kept answers turned = record {
     answers = state.answers;
     in_order = served_in_order is_synced first before now state result served flushed leaves both all sure;
-    turned = λ records behind.
+    turned = λ records behind are.
         subst (λ (a : List Answer). ContinuesTurns engine manner began came records (kept_so_far before) (Some []) result (kept_so_far now) (Some (stood_behind (kept_so_far before) a))) (sym answers)
         (subst (λ (o : Option (List Step)). ContinuesTurns engine manner began came records (kept_so_far o) (Some []) result (kept_so_far now) (Some (stood_behind (kept_so_far before) given))) begins
-        (turns_so engine manner began came records (kept_so_far first_steps) (kept_so_far served_steps) (kept_so_far now) (Some []) (Some (stood_behind (kept_so_far before) given)) result served flushed kept both (turned records behind)));
+        (turns_so engine manner began came records (kept_so_far first_steps) (kept_so_far served_steps) (kept_so_far now) (Some []) (Some (stood_behind (kept_so_far before) given)) result served flushed kept both (turned records behind are)));
   }

@@ -99,12 +99,12 @@ pub record InOrder {T E : Type 0} (is_synced : Bool) (first : List ℕ) (before 
   pub whole : OnOk result (Told first (first ++ kept) out answers × (is_synced ≡ true → synced ≡ kept))
   pub unlost : OnOk result (is_lost ≡ false)
 
--- What was appended continues each history behind the engine by the runs that were out, unless runs stay out, and then by what the lines
--- that came asked for, turn by turn. The order was kept, and what is out has the answers of these turns, and no others.
-pub record ServesInOrder {T E : Type 0} (engine : NumberedState) (manner : Manner) (began came : Option CameState) (is_synced : Bool) (first : List ℕ) (before now : Option (List Step)) (result : Result T E) : Type 0 where
+-- What was appended continues each history behind the engine, of so many records, by the runs that were out, unless runs stay out, and then by
+-- what the lines that came asked for, turn by turn; and at the end by the last line, unless a run is live. The order was kept, and what is out has the answers of these turns, and no others.
+pub record ServesInOrder {T E : Type 0} (engine : NumberedState) (count : ℕ) (manner : Manner) (began came : Option CameState) (is_synced : Bool) (first : List ℕ) (before now : Option (List Step)) (result : Result T E) : Type 0 where
   pub answers : List Answer
   pub in_order : InOrder is_synced first before now answers result
-  pub turned : (records : List Record) → IsBehind records engine → ContinuesTurns engine manner began came records (kept_so_far before) (Some []) result (kept_so_far now) (Some (stood_behind (kept_so_far before) answers))
+  pub turned : (records : List Record) → IsBehind records engine → count ≡ length records → ContinuesTurns engine manner began came records (kept_so_far before) (Some []) result (kept_so_far now) (Some (stood_behind (kept_so_far before) answers))
 
 -- That of a sink of which so much waits, which lost nothing or something.
 pub record Leaves (is_synced : Bool) (first : List ℕ) (before now : Option (List Step)) (state : JournaledState) : Type 0 where

@@ -8,3 +8,6 @@ pub mod Faults
 pub mod Texts
 pub mod Starts
 pub mod Audits
+pub mod Follows
+pub mod Made
+pub mod Linked

@@ -1,11 +1,9 @@
 -- Which segment a start goes on with, what it is opened with, and why it is refused.
-use Rattle.std.specs.Prelude.{◌≡◌, ◌≢◌, ◌⊎◌, ◌≤◌, ℕ, zero, suc, Bool, true, false, Option, Some, None, IfSome, MatchOption, is_some, Result, Ok, Err, List, [], length, ⊤, IsUtf8, if◌then◌else◌}
+use Rattle.std.specs.Prelude.{◌≡◌, ◌≢◌, ◌⊎◌, ◌≤◌, ℕ, zero, suc, Bool, true, false, Option, Some, None, IfSome, MatchBool, MatchOption, Result, Ok, Err, List, [], length, ⊤, IsUtf8}
 use Rattle.base.specs.declared.or_memory.OrMemory.{OrMemory}
 use Rattle.base.specs.declared.or_memory.OrMemory.TheVariants.{OutOfMemory, Fault}
 use Rattle.manifest.specs.Meaning.{HasFault}
-use Rattle.trace.specs.TraceText.{header}
-use Rattle.world.specs.World.{Setup, version_of}
-use Rattle.engine_core.specs.ByNumber.{opened_numbered}
+use Rattle.world.specs.World.{Setup}
 use Rattle.host_recovery.specs.Recovering.{IsRecovered, Recovers}
 use Rattle.host_recovery.specs.Sources.{IsAll}
 use Rattle.host_recovery.specs.declared.fault.RecoveryFault.{RecoveryFault}
@@ -15,6 +13,7 @@ use Rattle.host_recovery.specs.declared.recovering.Recovered.{Recovered}
 use Rattle.host_journal.specs.Disks.{CutTo, EndsIn, FolderMade, Failed, Held, IsFailed, IsFailedBy, IsFolderMade, IsQuiet, IsRefused, Locked, ManifestMade, Opened, SegmentMade, Step, with_step}
 use Rattle.host_journal.specs.Journals.{IsConfigured}
 use Rattle.host_journal.specs.Listings.{IsEmptyJournal, IsForeign, IsJournal, Lists}
+use Rattle.host_journal.specs.Made.{IsFirst, IsUnbegun, made_of}
 use Rattle.host_journal.specs.Texts.{EndsInSums}
 use Rattle.host_journal.specs.declared.beginning.Begun.{Begun}
 use Rattle.host_journal.specs.declared.disk.DiskFault.TheVariants.{Failed as NotDone, Missing}
@@ -182,10 +181,6 @@ HasCause number known old new error = ⊤
 
 -- ---- what is opened
 
--- an engine that was just opened, of which no record was made
-abbrev pub IsFirst : Setup → Recovered → Type 0
-IsFirst setup recovered = (recovered.engine ≡ opened_numbered setup) × (recovered.records ≡ 0) × (recovered.whole ≡ length (header (version_of setup))) × (recovered.is_ended ≡ false)
-
 -- why no segment is made: memory, or a call about that file that failed
 abbrev pub IsUnmade : (old new : Option (List Step)) → OrMemory JournalFault → Type 0
 IsUnmade old new OutOfMemory = ⊤
@@ -193,44 +188,41 @@ IsUnmade old new (Fault (faults.File file)) = EndsIn (IsFailed file) old new
 IsUnmade old new (Fault fault) = ⊥
 
 -- what is opened of a segment that was made
-abbrev pub OpensFirst : Setup → (old new : Option (List Step)) → Result Recovered (OrMemory JournalFault) → Type 0
-OpensFirst setup old new (Ok recovered) = IsFirst setup recovered
-OpensFirst setup old new (Err error) = IsUnmade old new error
+abbrev pub OpensFirst : Begun → (old new : Option (List Step)) → Result Recovered (OrMemory JournalFault) → Type 0
+OpensFirst begun old new (Ok recovered) = IsFirst begun recovered
+OpensFirst begun old new (Err error) = IsUnmade old new error ⊎ IsUnbegun begun error
 
--- what is opened of the segment of that number, whose bytes these are, if they are known: the engine that is behind its records, if it has no
--- last line
+-- what is opened of the segment of that number, whose bytes these are, if they are known: the engine that is behind its records
 abbrev pub OpensNext : Setup → (number : ℕ) → Option (List ℕ) → (old new : Option (List Step)) → Result Recovered (OrMemory JournalFault) → Type 0
-OpensNext setup number known old new (Ok recovered) = (recovered.is_ended ≡ false) × Replays setup number known (Ok recovered)
-OpensNext setup number known old new (Err (Fault (faults.Ended other))) = (other ≡ number) × (recovered : Recovered) × (recovered.is_ended ≡ true) × Replays setup number known (Ok recovered)
+OpensNext setup number known old new (Ok recovered) = Replays setup number known (Ok recovered)
 OpensNext setup number known old new (Err error) = Replays setup number known (Err error) × HasCause number known old new error
 
 abbrev pub Opens : Begun → Held → (old new : Option (List Step)) → Result Recovered (OrMemory JournalFault) → Type 0
-Opens begun held old new result = MatchOption begun.manifest (OpensNext begun.config begun.number (held.segments begun.number) old new result) (λ bytes. OpensFirst begun.config old new result)
+Opens begun held old new result = MatchOption begun.manifest (OpensNext begun.config begun.number (held.segments begun.number) old new result) (λ bytes. OpensFirst begun old new result)
 
--- The manifest is made, and then the segment of its first line; or no more than the manifest.
+-- The manifest is made, and then the segment of these bytes; or no more than the manifest.
 abbrev pub Makes : (number : ℕ) (bytes first : List ℕ) → Option (List Step) → Result Recovered (OrMemory JournalFault) → Option (List Step) → Type 0
 Makes number bytes first old (Ok recovered) new = new ≡ with_step (with_step old (ManifestMade number bytes)) (SegmentMade number first)
 Makes number bytes first old (Err error) new = IsQuiet old new ⊎ IsQuiet (with_step old (ManifestMade number bytes)) new
 
--- The segment of that number is opened, and cut to its whole lines; or nothing is written.
+-- A segment that has no last line is cut to its whole lines.
+abbrev pub IsCutOff : Recovered → (old new : Option (List Step)) → Type 0
+IsCutOff recovered old new = MatchBool recovered.is_ended (new ≡ old) (new ≡ with_step old (CutTo recovered.whole))
+
+-- The segment of that number is opened, and cut so; or nothing is written.
 abbrev pub Cuts : (number : ℕ) → Option (List Step) → Result Recovered (OrMemory JournalFault) → Option (List Step) → Type 0
-Cuts number old (Ok recovered) new = new ≡ with_step (with_step old (Opened number)) (CutTo recovered.whole)
+Cuts number old (Ok recovered) new = IsCutOff recovered (with_step old (Opened number)) new
 Cuts number old (Err error) new = IsQuiet old new
 
 abbrev pub Prepares : Begun → Option (List Step) → Result Recovered (OrMemory JournalFault) → Option (List Step) → Type 0
-Prepares begun old result new = MatchOption begun.manifest (Cuts begun.number old result new) (λ bytes. Makes begun.number bytes.now (header (version_of begun.config)) old result new)
-
--- the first line that goes out: that of a segment that the start made
-abbrev pub first_line : Begun → List ℕ
-first_line begun = if is_some begun.manifest then header (version_of begun.config) else []
+Prepares begun old result new = MatchOption begun.manifest (Cuts begun.number old result new) (λ bytes. Makes begun.number bytes.now (made_of begun) old result new)
 
 -- ---- inside
 
--- the segment is cut; or it has its last line, and nothing is done; or that fails
+-- the segment is cut, if it has no last line; or that fails
 abbrev pub CutsOff : ℕ → Recovered → Option (List Step) → Result Recovered (OrMemory JournalFault) → Option (List Step) → Type 0
-CutsOff number recovered old (Ok cut) new = (cut ≡ recovered) × (recovered.is_ended ≡ false) × (new ≡ with_step old (CutTo recovered.whole))
+CutsOff number recovered old (Ok cut) new = (cut ≡ recovered) × IsCutOff recovered old new
 CutsOff number recovered old (Err OutOfMemory) new = IsQuiet old new
-CutsOff number recovered old (Err (Fault (faults.Ended other))) new = (other ≡ number) × (recovered.is_ended ≡ true) × (new ≡ old)
 CutsOff number recovered old (Err (Fault (faults.File (files.Segment other)))) new = (other ≡ number) × IsQuiet old new × EndsIn (IsFailed (files.Segment number)) old new
 CutsOff number recovered old (Err (Fault fault)) new = ⊥
 

@@ -1,7 +1,10 @@
-// All segments of a journal, replayed one after the other. It relies on `beginning` for which there are, and on `replaying` for each.
+// All segments of a journal, replayed one after the other, each of which has to begin with what the one before it left. It relies on
+// `beginning` for which there are, on `replaying` for each, and on `left` for what one leaves.
 
-ghost use Rattle.std.specs.Prelude.{◌≡◌, ◌≤◌, ◌<◌, IfErr, IfOk, OnOk, not, true};
-ghost use Rattle.host_journal.specs.Audits.{AreSound, FailsAt, FailsToAudit, FailsToReplay, IsAudited, IsReached, IsSound, line_behind};
+ghost use Rattle.std.specs.Prelude.{◌≡◌, ◌≤◌, ◌<◌, ◌+◌, ◌-◌, ◌^◌, ℕ, Option, Some, IfErr, IfOk, OnOk, false, true};
+ghost use Rattle.world.specs.World.{Setup};
+ghost use Rattle.engine_core.specs.ByNumber.{NumberedState};
+ghost use Rattle.host_journal.specs.Audits.{AreSound, FailsAt, FailsInSegment, FailsToAudit, IsAudited, IsConfiguredBy, IsJoined, IsLeftFor, IsReached, IsReplayed, counted, line_behind};
 ghost use Rattle.host_journal.specs.Disks.{IsQuiet};
 ghost use Rattle.base.specs.declared.or_memory.OrMemory.TheVariants.{Fault};
 ghost use Rattle.host_journal.specs.declared.fault.JournalFault.TheVariants.{Segment};
@@ -11,11 +14,13 @@ ghost use Rattle.trace.specs.declared.fault.TraceFault.TheVariants.{Line};
 use crate::beginning::list_folder;
 use crate::disk::Disk;
 use crate::fault::{JournalError, JournalFault, JournalFile, of_file};
+use crate::left::{Left, begins_with, left_by};
 use crate::listing::Listing;
 use crate::manifests::own;
 use crate::replaying::replayed;
 use base::OrMemory;
-use host_recovery::RecoveryFault;
+use engine_config::Config;
+use host_recovery::{Recovered, RecoveryFault};
 use std::alloc::Global;
 use trace::TraceFault;
 
@@ -28,17 +33,19 @@ pub struct Audited {
     pub is_open: bool,
 }
 
-/// What a segment has.
-#[derive(Clone, Copy, Debug, PartialEq, Eq)]
-struct Checked {
+/// How far an audit came: the configuration of the next segment, what that may begin with, if a segment stands before it, and how many
+/// records stand in those before it.
+#[derive(Drop)]
+struct Reached {
+    config: Config,
+    left: Option<Left>,
     records: u64,
-    is_ended: bool,
 }
 
-/// Replays every segment over its manifest, by rising number, up to the first fault. No lock is taken, and nothing is changed. A line of the
-/// newest segment that is not whole is passed over.
+/// Replays every segment over its manifest, by rising number, up to the first fault. Each but the first one has to begin with what the one
+/// before it left. No lock is taken, and nothing is changed. A line of the newest segment that is not whole is passed over.
 pub fn audit<D: Disk>(alloc: Global, disk: &mut D) -> Result<Audited, JournalError>
-    // Each segment is one over its manifest, and what is counted are its records.
+    // Each segment is one over its manifest, and begins with what the one before it left; and what is counted are their records.
     ensures audited { IfOk result (IsAudited (D.held disk.old)) }
     // J1 exactly if the names are not those of a journal; and each other refusal for its cause, which is the first one.
     ensures refused { IfErr result (FailsToAudit (D.held disk.old) (D.steps disk.old) (D.steps disk.new)) }
@@ -68,134 +75,232 @@ fn audit_all<D: Disk>(
     ensures refused { IfErr result (FailsAt (D.held disk.old) first last (D.steps disk.old) (D.steps disk.new)) }
     ensures quiet { IsQuiet (D.steps disk.old) (D.steps disk.new) }
 {
-    match audit_before(alloc, disk, first, last) {
-        Ok(records) => audit_newest(alloc, disk, first, last, records),
+    match configured(alloc, disk, first) {
+        Ok(config) => {
+            let start = Reached {
+                config,
+                left: None,
+                records: 0,
+            };
+            audit_from(alloc, disk, start, first, last)
+        }
         Err(error) => Err(error),
     }
 }
 
-// Replays the segments from that number to the one before that one, and returns how many records they have.
-fn audit_before<D: Disk>(
+// Replays them, where the audit came to the first one.
+fn audit_from<D: Disk>(
     alloc: Global,
     disk: &mut D,
+    start: Reached,
     first: u64,
     last: u64,
-) -> Result<u64, JournalError>
-    requires { first ≤ last }
-    ensures none { IfOk result (λ records. first ≡ last → records ≡ 0) }
-    ensures reached { OnOk result (IsReached (D.held disk.new) first last last) }
-    ensures refused { IfErr result (FailsAt (D.held disk.old) first last (D.steps disk.old) (D.steps disk.new)) }
-    ensures held { D.held disk.new ≡ D.held disk.old }
-    ensures quiet { IsQuiet (D.steps disk.old) (D.steps disk.new) }
-{
-    let mut records = 0u64;
-    for number in first..last {
-        match audit_segment(alloc, disk, number, first, last) {
-            Ok(its) => records = records.saturating_add(its.records),
-            Err(error) => return Err(error),
-        }
-    }
-    Ok(records)
-}
-
-// Replays the newest segment, behind others of so many records.
-fn audit_newest<D: Disk>(
-    alloc: Global,
-    disk: &mut D,
-    first: u64,
-    last: u64,
-    records: u64,
 ) -> Result<Audited, JournalError>
-    requires reached { IsReached (D.held disk.old) first last last }
-    requires none { first ≡ last → records ≡ 0 }
+    requires some { first ≤ last }
+    requires reached { IsReached (D.held disk.old) first first start }
     ensures sound { IfOk result (AreSound (D.held disk.old) first last) }
     ensures refused { IfErr result (FailsAt (D.held disk.old) first last (D.steps disk.old) (D.steps disk.new)) }
     ensures quiet { IsQuiet (D.steps disk.old) (D.steps disk.new) }
 {
-    match audit_segment(alloc, disk, last, first, last) {
-        Ok(its) => Ok(counted(first, last, records, its.records, its.is_ended)),
+    match audit_before(alloc, disk, start, first, last) {
+        Ok(reached) => audit_newest(alloc, disk, &reached, first, last),
         Err(error) => Err(error),
     }
 }
 
-// What the segments from that number to that one have, if the newest has so many records more.
-fn counted(first: u64, last: u64, records: u64, more: u64, is_ended: bool) -> Audited
-    requires alone { last ≡ first }
-    requires none { records ≡ 0 }
-    ensures segments { result.segments ≡ 1 }
-    ensures records { result.records ≡ more }
-    ensures ended { not result.is_open ≡ is_ended }
-{
-    Audited {
-        segments: (last - first).saturating_add(1),
-        records: records.saturating_add(more),
-        is_open: !is_ended,
-    }
-}
-
-// Replays the segment of that number, to which the audit of those from that number to that one came.
-fn audit_segment<D: Disk>(
+// Replays the segments from that number to the one before that one.
+fn audit_before<D: Disk>(
     alloc: Global,
     disk: &mut D,
-    number: u64,
+    start: Reached,
     first: u64,
     last: u64,
-) -> Result<Checked, JournalError>
-    requires { IsReached (D.held disk.old) first last number }
-    ensures sound { IfOk result (λ its. IsSound (D.held disk.old) number its.records its.is_ended) }
-    ensures first { IfOk result (λ _. number ≡ first) }
-    ensures ended { IfOk result (λ its. number < last → its.is_ended ≡ true) }
+) -> Result<Reached, JournalError>
+    requires some { first ≤ last }
+    requires reached { IsReached (D.held disk.old) first first start }
+    ensures reached { IfOk result (IsReached (D.held disk.old) first last) }
     ensures refused { IfErr result (FailsAt (D.held disk.old) first last (D.steps disk.old) (D.steps disk.new)) }
     ensures held { D.held disk.new ≡ D.held disk.old }
     ensures quiet { IsQuiet (D.steps disk.old) (D.steps disk.new) }
 {
-    match replay_segment(alloc, disk, number) {
-        Ok(its) => {
-            if number < last && !its.is_ended {
-                return Err(unended(number, its.records));
-            }
-            // X5, of a later segment than the first: no segment has what another one left.
-            if number != first {
-                return Err(OrMemory::Fault(JournalFault::NotContinued(number)));
-            }
-            Ok(its)
+    let mut reached = start;
+    for number in first..last {
+        match pass(alloc, disk, &reached, number, last) {
+            Ok(next) => reached = next,
+            Err(error) => return Err(error),
         }
-        Err(error) => Err(error),
     }
+    Ok(reached)
 }
 
-// Replays the segment of that number.
-fn replay_segment<D: Disk>(
+// Replays the newest segment.
+fn audit_newest<D: Disk>(
     alloc: Global,
     disk: &mut D,
-    number: u64,
-) -> Result<Checked, JournalError>
-    ensures sound { IfOk result (λ its. IsSound (D.held disk.old) number its.records its.is_ended) }
-    ensures refused { IfErr result (FailsToReplay (D.held disk.old) number (D.steps disk.old) (D.steps disk.new)) }
-    ensures held { D.held disk.new ≡ D.held disk.old }
+    reached: &Reached,
+    first: u64,
+    last: u64,
+) -> Result<Audited, JournalError>
+    requires some { first ≤ last }
+    requires reached { IsReached (D.held disk.old) first last reached.now }
+    ensures sound { IfOk result (AreSound (D.held disk.old) first last) }
+    ensures refused { IfErr result (FailsAt (D.held disk.old) first last (D.steps disk.old) (D.steps disk.new)) }
     ensures quiet { IsQuiet (D.steps disk.old) (D.steps disk.new) }
 {
-    let bytes = match disk.read_manifest(alloc, number) {
-        Ok(bytes) => bytes,
-        Err(fault) => return Err(of_file(fault, JournalFile::Manifest(number))),
-    };
-    let config = match own(alloc, number, bytes.as_slice()) {
-        Ok(config) => config,
-        Err(error) => return Err(error),
-    };
-    match replayed(alloc, disk, number, &config) {
-        Ok(recovered) => Ok(Checked {
-            records: recovered.records,
-            is_ended: recovered.is_ended,
+    match audit_segment(alloc, disk, reached, last, last) {
+        Ok(its) => Ok(Audited {
+            segments: (last - first).saturating_add(1),
+            records: reached.records.saturating_add(its.records),
+            is_open: !its.is_ended,
         }),
         Err(error) => Err(error),
     }
 }
 
-// X2 of a segment that has so many records, and not its last line: the line in whose place that would stand.
-fn unended(number: u64, records: u64) -> JournalError
-    ensures { result ≡ Fault (Segment number (Form (Line (line_behind records)))) }
+// Replays the segment of that number, after which others stand up to that one, and comes to the next one.
+fn pass<D: Disk>(
+    alloc: Global,
+    disk: &mut D,
+    reached: &Reached,
+    number: u64,
+    last: u64,
+) -> Result<Reached, JournalError>
+    requires below { number < last }
+    ensures reached { (first : ℕ) → IsReached (D.held disk.old) first number reached.now → IfOk result (IsReached (D.held disk.old) first (number + 1)) }
+    ensures refused { (first : ℕ) → IsReached (D.held disk.old) first number reached.now → IfErr result (FailsAt (D.held disk.old) first last (D.steps disk.old) (D.steps disk.new)) }
+    ensures held { D.held disk.new ≡ D.held disk.old }
+    ensures quiet { IsQuiet (D.steps disk.old) (D.steps disk.new) }
 {
-    let line = (records as usize).saturating_add(2);
+    match audit_segment(alloc, disk, reached, number, last) {
+        Ok(its) => come_to_next(alloc, disk, reached.records, number, &its),
+        Err(error) => Err(error),
+    }
+}
+
+// Comes to the segment after the one of that number, before which so many records stand.
+fn come_to_next<D: Disk>(
+    alloc: Global,
+    disk: &mut D,
+    records: u64,
+    number: u64,
+    its: &Recovered<'_>,
+) -> Result<Reached, JournalError>
+    requires room { number < 2 ^ 64 - 1 }
+    ensures configured { IfOk result (λ next. IsConfiguredBy (D.held disk.old) (number + 1) next.config) }
+    ensures left { IfOk result (λ next. IsLeftFor (Some its.now.engine) next.config next.left) }
+    ensures records { IfOk result (λ next. next.records ≡ counted (records + its.now.records)) }
+    ensures refused { (last : ℕ) → IfErr result (FailsInSegment (D.held disk.old) (number + 1) last (Some its.now.engine) (D.steps disk.old) (D.steps disk.new)) }
+    ensures held { D.held disk.new ≡ D.held disk.old }
+    ensures quiet { IsQuiet (D.steps disk.old) (D.steps disk.new) }
+{
+    match configured(alloc, disk, number + 1) {
+        Ok(config) => match left_by(alloc, &its.engine, &config) {
+            Ok(left) => Ok(Reached {
+                config,
+                left: Some(left),
+                records: records.saturating_add(its.records),
+            }),
+            Err(error) => Err(error),
+        },
+        Err(error) => Err(error),
+    }
+}
+
+// Returns the configuration of the segment of that number.
+fn configured<D: Disk>(alloc: Global, disk: &mut D, number: u64) -> Result<Config, JournalError>
+    ensures configured { IfOk result (IsConfiguredBy (D.held disk.old) number) }
+    ensures refused { (last : ℕ) (before : Option NumberedState) → IfErr result (FailsInSegment (D.held disk.old) number last before (D.steps disk.old) (D.steps disk.new)) }
+    ensures held { D.held disk.new ≡ D.held disk.old }
+    ensures quiet { IsQuiet (D.steps disk.old) (D.steps disk.new) }
+{
+    match disk.read_manifest(alloc, number) {
+        Ok(bytes) => own(alloc, number, bytes.as_slice()),
+        Err(fault) => Err(of_file(fault, JournalFile::Manifest(number))),
+    }
+}
+
+// Replays the segment of that number, to which the audit came, of those up to that one.
+fn audit_segment<'a, D: Disk>(
+    alloc: Global,
+    disk: &mut D,
+    reached: &'a Reached,
+    number: u64,
+    last: u64,
+) -> Result<Recovered<'a>, JournalError>
+    ensures segment { IsConfiguredBy (D.held disk.old) number reached.now.config → IfOk result (IsReplayed (D.held disk.old) number reached.now.config) }
+    ensures ended { IfOk result (λ its. number < last → its.is_ended ≡ true) }
+    ensures joined { (before : Option NumberedState) → IsLeftFor before reached.now.config reached.now.left → IfOk result (IsJoined (D.held disk.old) number before reached.now.config) }
+    ensures refused { (before : Option NumberedState) → IsConfiguredBy (D.held disk.old) number reached.now.config → IsLeftFor before reached.now.config reached.now.left
+        → IfErr result (FailsInSegment (D.held disk.old) number last before (D.steps disk.old) (D.steps disk.new)) }
+    ensures held { D.held disk.new ≡ D.held disk.old }
+    ensures quiet { IsQuiet (D.steps disk.old) (D.steps disk.new) }
+{
+    match replayed(alloc, disk, number, &reached.config) {
+        Ok(its) => whole(disk, number, last, its, &reached.left),
+        Err(error) => Err(error),
+    }
+}
+
+// The segment of that number, of those up to that one, if it has its last line where others stand after it, and begins with what the one
+// before it left.
+fn whole<'a, D: Disk>(
+    disk: &mut D,
+    number: u64,
+    last: u64,
+    its: Recovered<'a>,
+    left: &Option<Left>,
+) -> Result<Recovered<'a>, JournalError>
+    ensures same { IfOk result (λ it. it ≡ its.entry) }
+    ensures ended { OnOk result (number < last → its.entry.is_ended ≡ true) }
+    ensures joined { (before : Option NumberedState) (config : Setup) → IsLeftFor before config left.now → IfOk result (IsJoined (D.held disk.old) number before config) }
+    ensures refused { (before : Option NumberedState) (config : Setup) → IsLeftFor before config left.now → IsReplayed (D.held disk.old) number config its.entry
+        → IfErr result (FailsInSegment (D.held disk.old) number last before (D.steps disk.old) (D.steps disk.new)) }
+    ensures held { D.held disk.new ≡ D.held disk.old }
+    ensures quiet { IsQuiet (D.steps disk.old) (D.steps disk.new) }
+{
+    if is_unended(number, last, &its) {
+        return Err(unended(number, its.carried.saturating_add(its.records)));
+    }
+    joined(disk, number, its, left)
+}
+
+// Whether a segment lacks its last line, and others stand after it.
+fn is_unended(number: u64, last: u64, its: &Recovered<'_>) -> bool
+    ensures unended { result ≡ true → (number < last) × (its.now.is_ended ≡ false) }
+    ensures other { result ≡ false → number < last → its.now.is_ended ≡ true }
+{
+    number < last && !its.is_ended
+}
+
+// The segment of that number, if it begins with what the one before it left.
+fn joined<'a, D: Disk>(
+    disk: &mut D,
+    number: u64,
+    its: Recovered<'a>,
+    left: &Option<Left>,
+) -> Result<Recovered<'a>, JournalError>
+    ensures same { IfOk result (λ it. it ≡ its.entry) }
+    ensures joined { (before : Option NumberedState) (config : Setup) → IsLeftFor before config left.now → IfOk result (IsJoined (D.held disk.old) number before config) }
+    ensures refused { (before : Option NumberedState) (config : Setup) (last : ℕ) → IsLeftFor before config left.now → IsReplayed (D.held disk.old) number config its.entry → (number < last → its.entry.is_ended ≡ true)
+        → IfErr result (FailsInSegment (D.held disk.old) number last before (D.steps disk.old) (D.steps disk.new)) }
+    ensures held { D.held disk.new ≡ D.held disk.old }
+    ensures quiet { IsQuiet (D.steps disk.old) (D.steps disk.new) }
+{
+    match left {
+        Some(left) => match begins_with(disk, number, its.carried, left) {
+            Ok(true) => Ok(its),
+            // X5.
+            Ok(false) => Err(OrMemory::Fault(JournalFault::NotContinued(number))),
+            Err(error) => Err(error),
+        },
+        None => Ok(its),
+    }
+}
+
+// X2 of a segment that has so many lines after its first one, and not its last line: the line in whose place that would stand.
+fn unended(number: u64, lines: u64) -> JournalError
+    ensures { result ≡ Fault (Segment number (Form (Line (line_behind lines)))) }
+{
+    let line = (lines as usize).saturating_add(2);
     OrMemory::Fault(JournalFault::Segment(number, RecoveryFault::Form(TraceFault::Line(line))))
 }

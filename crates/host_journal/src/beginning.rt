@@ -14,6 +14,7 @@ use crate::manifests::{given, own};
 use base::OrMemory;
 use engine_config::Config;
 use std::alloc::{AllocError, Global};
+use world_calls::CarriedLine;
 
 /// Which segment a start goes on with.
 #[derive(Drop)]
@@ -24,6 +25,8 @@ pub struct Begun<'m> {
     pub config: Config,
     /// The manifest of a segment that is to be made; none if there is a segment to go on with.
     pub manifest: Option<&'m [u8]>,
+    /// The lines of what the engine takes over, if the segment is to be made and follows another one.
+    pub carried: Option<Vec<CarriedLine>>,
 }
 
 /// Takes the lock, and finds the segment that a start goes on with: the newest one, or the first one, which is to be made. A folder that is
@@ -167,6 +170,7 @@ fn begin_first(alloc: Global, manifest: Option<&[u8]>) -> Result<Begun<'_>, Jour
                 number: 1,
                 config,
                 manifest: Some(bytes),
+                carried: None,
             }),
             Err(error) => Err(error),
         },
@@ -201,6 +205,7 @@ fn go_on<'m, D: Disk>(
             number,
             config,
             manifest: None,
+            carried: None,
         }),
         Err(error) => Err(error),
     }

@@ -35,10 +35,12 @@ pub enum JournalFault {
     Given(ManifestFault),
     /// The manifest of that number is.
     Manifest(u64, ManifestFault),
-    /// X1, X2 or X3: the segment of that number is faulty.
+    /// X1, X2, X3 or X4: the segment of that number is faulty.
     Segment(u64, RecoveryFault),
-    /// The newest segment, which has that number, has its last line.
-    Ended(u64),
+    /// N3: a run of the engine is live that another one was to follow.
+    RunLive,
+    /// N4: the configuration does not have all queues and controllers of what is left.
+    DoesNotFit,
     /// X5: the segment of that number does not go on from the one before it.
     NotContinued(u64),
     /// What the engine is asked cannot be read.

@@ -1,11 +1,9 @@
 // An engine of a journal that is served: what it prints is appended to the segment before it goes out. It relies on `host_live` for what lines
 // ask, and on `journaled` for what goes out.
 
-ghost use Rattle.std.specs.Prelude.{◌≡◌, ℕ, List, Option, Err, IfErr, IfOk, IsOk, IsTrue, OnOk, false};
+ghost use Rattle.std.specs.Prelude.{◌≡◌, ℕ, List, Option, Err, IfErr, IfOk, IsOk, IsTrue, OnOk, false, length};
 ghost use Rattle.base.specs.declared.or_memory.OrMemory.TheVariants.{Fault};
 ghost use Rattle.world_calls.specs.declared.record.Record.{Record as TheRecord};
-ghost use Rattle.world.specs.World.{version_of};
-ghost use Rattle.trace.specs.TraceText.{header};
 ghost use Rattle.engine_core.specs.ByNumber.{IsBehind};
 ghost use Rattle.host_live.specs.Growth.{StandsBehind};
 ghost use Rattle.host_live.specs.Telling.{Continues};
@@ -13,7 +11,7 @@ ghost use Rattle.host_live.specs.declared.serving.LiveFault.TheVariants.{Unread 
 ghost use Rattle.host_journal.specs.Disks.{AllDone, Step, kept_so_far};
 ghost use Rattle.host_journal.specs.Journals.{HasLost, MayStop, ServesInOrder, is_of_write};
 ghost use Rattle.host_live.specs.LinesCome.{EndsALine};
-ghost use Rattle.host_journal.specs.Starts.{first_line};
+ghost use Rattle.host_journal.specs.Made.{IsUnbegun, first_line, made_of};
 ghost use Rattle.host_journal.specs.declared.fault.JournalFault.TheVariants.{Unread};
 
 use crate::beginning::Begun;
@@ -21,18 +19,19 @@ use crate::disk::Disk;
 use crate::fault::{JournalError, JournalFault, JournalFile};
 use crate::journaled::{Journaled, ROOM};
 use crate::lost::Lost;
+use crate::making::first_text;
 use crate::order::Order;
 use base::OrMemory;
-use engine_core::{Config, NumberedEngine};
+use engine_core::NumberedEngine;
 use host_live::{Input, LiveFault, Manner, Reports, serve_on};
-use std::alloc::{AllocError, Global};
+use std::alloc::Global;
 use std::marker::Brand;
-use trace::{WriteFailed, header};
-use world_calls::Version;
+use trace::WriteFailed;
 
 /// Serves an engine of this journal that stands behind a history of so many records, whose segment is open. The lines of what a line of the input
-/// leads to are appended to the segment before they go out, and with `is_synced` they are synced before. If the start made the segment, its first line goes
-/// out first. Neither is the last line of a trace made, nor does it go out: the next start recovers the engine. Once the segment or standard
+/// leads to are appended to the segment before they go out, and with `is_synced` they are synced before. If the start made the segment, its text goes
+/// out first. At the end of the input the last line of the trace is made, unless a run is live: then the next start recovers the engine. Once the
+/// segment or standard
 /// output cannot be written, nothing goes out any more, and the fault says which it was.
 pub fn serve<D: Disk, I: Input, N: Reports>(
     alloc: Global,
@@ -45,14 +44,13 @@ pub fn serve<D: Disk, I: Input, N: Reports>(
     input: &mut I,
     reports: &mut N,
 ) -> (D, Result<(), JournalError>)
-    requires same { engine.setup ≡ begun.now.config }
     requires behind { StandsBehind count engine }
     requires segment { D.segment disk ≡ begun.now.number }
     // No byte goes out that is not in the segment, synced if that is asked for, but for answers between lines; at the end all is out. What
     // was appended is that of what the lines that came asked for, one by one, and each was answered so.
-    ensures order { ServesInOrder engine.entry manner (I.came input.old) (I.came input.new) is_synced (first_line begun.now) (D.steps disk) (D.steps result.0) result.1 }
+    ensures order { ServesInOrder engine.entry count manner (I.came input.old) (I.came input.new) is_synced (first_line begun.now) (D.steps disk) (D.steps result.0) result.1 }
     // What was appended continues the history behind the engine.
-    ensures told { (records : List TheRecord) → IsBehind records engine.entry → Continues begun.now.config records (kept_so_far (D.steps disk)) result.1 (kept_so_far (D.steps result.0)) }
+    ensures told { (records : List TheRecord) → IsBehind records engine.entry → count ≡ length records → Continues engine.entry.setup records (kept_so_far (D.steps disk)) result.1 (kept_so_far (D.steps result.0)) }
     ensures unread { result.1 ≡ Err (Fault Unread) → IsTrue (I.has_failed input.new) }
     ensures still { OnOk result.1 (I.has_failed input.new ≡ I.has_failed input.old) }
     ensures ended { manner.is_told ≡ false → OnOk result.1 (IsTrue (I.has_ended input.new)) }
@@ -63,29 +61,35 @@ pub fn serve<D: Disk, I: Input, N: Reports>(
         Ok(pending) => serve_ordered::<Brand, D, I, N>(
             alloc, disk, pending, begun, engine, count, manner, is_synced, input, reports,
         ),
-        Err(AllocError) => (disk, Err(OrMemory::OutOfMemory)),
+        Err(error) => (disk, Err(error)),
     }
 }
 
-// What waits to go out at first: the first line of a segment that the start made, or nothing.
-fn first_waiting(alloc: Global, begun: &Begun<'_>) -> Result<Vec<u8>, AllocError>
+// What waits to go out at first: the text of a segment that the start made, or nothing.
+fn first_waiting(alloc: Global, begun: &Begun<'_>) -> Result<Vec<u8>, JournalError>
     ensures first { IfOk result (λ pending. pending.items ≡ first_line begun.now) }
     ensures line { EndsALine (first_line begun.now) }
+    ensures refused { IfErr result (IsUnbegun begun.now) }
 {
     match begun.manifest {
-        Some(_) => header_waiting(alloc, begun),
-        None => Vec::with_capacity(alloc, ROOM),
+        Some(_) => text_waiting(alloc, begun),
+        None => Ok(Vec::with_capacity(alloc, ROOM)?),
     }
 }
 
-// The first line of a segment of this configuration.
-fn header_waiting(alloc: Global, begun: &Begun<'_>) -> Result<Vec<u8>, AllocError>
-    ensures first { IfOk result (λ pending. pending.items ≡ header (version_of begun.now.config)) }
+// The text with which a segment begins.
+fn text_waiting(alloc: Global, begun: &Begun<'_>) -> Result<Vec<u8>, JournalError>
+    ensures first { IfOk result (λ pending. pending.items ≡ made_of begun.now) }
+    ensures refused { IfErr result (IsUnbegun begun.now) }
 {
-    let mut pending = Vec::with_capacity(alloc, ROOM)?;
-    let first = header(Version::of(begun.config.helpers()));
-    pending.extend_from_slice(first.as_bytes())?;
-    Ok(pending)
+    match first_text(alloc, begun) {
+        Ok(first) => {
+            let mut pending = Vec::with_capacity(alloc, ROOM)?;
+            pending.extend_from_slice(first.as_slice())?;
+            Ok(pending)
+        }
+        Err(error) => Err(error),
+    }
 }
 
 // Serves the engine in this order of writes.
@@ -107,26 +111,16 @@ fn serve_ordered<O: Order, D: Disk, I: Input, N: Reports>(
     requires first { O.first ≡ pending.items }
     requires line { EndsALine O.first }
     requires synced { O.is_synced ≡ is_synced }
-    requires same { engine.setup ≡ begun.now.config }
     requires behind { StandsBehind count engine }
-    ensures order { ServesInOrder engine.entry manner (I.came input.old) (I.came input.new) O.is_synced O.first O.before (D.steps result.0) result.1 }
-    ensures told { (records : List TheRecord) → IsBehind records engine.entry → Continues begun.now.config records (kept_so_far (D.steps disk)) result.1 (kept_so_far (D.steps result.0)) }
+    ensures order { ServesInOrder engine.entry count manner (I.came input.old) (I.came input.new) O.is_synced O.first O.before (D.steps result.0) result.1 }
+    ensures told { (records : List TheRecord) → IsBehind records engine.entry → count ≡ length records → Continues engine.entry.setup records (kept_so_far (D.steps disk)) result.1 (kept_so_far (D.steps result.0)) }
     ensures unread { result.1 ≡ Err (Fault Unread) → IsTrue (I.has_failed input.new) }
     ensures still { OnOk result.1 (I.has_failed input.new ≡ I.has_failed input.old) }
     ensures ended { manner.is_told ≡ false → OnOk result.1 (IsTrue (I.has_ended input.new)) }
     ensures fault { IfErr result.1 (MayStop begun.now.number O.before (D.steps result.0)) }
 {
     let mut out: Journaled<D, O> = Journaled::of(disk, pending, is_synced);
-    let served = serve_on(
-        alloc,
-        &begun.config,
-        engine,
-        count,
-        manner,
-        input,
-        &mut out,
-        reports,
-    );
+    let served = serve_on(alloc, engine, count, manner, input, &mut out, reports);
     let flushed = out.flush();
     let (disk, lost) = out.into_parts();
     (disk, verdict(begun.number, served, flushed, lost))

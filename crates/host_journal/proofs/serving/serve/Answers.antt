@@ -1,18 +1,19 @@
-use Rattle.std.proofs.Common.{[]}
+use Rattle.std.proofs.Common.{[], refl}
 use Rattle.host_journal.specs.Disks.{kept_so_far}
-use Rattle.host_journal.specs.Starts.{first_line}
+use Rattle.host_journal.specs.Made.{first_line}
 use Rattle.host_journal.proofs.Served.{continues_none, none_failed, unserved, unturned}
+use Rattle.host_journal.proofs.Started.{unbegun_stops}
 use Rattle.host_journal.proofs.serving.serve.Goals as goal
 
 pub returns-in-Err-clause-told : goal.returns-in-Err-clause-told
-returns-in-Err-clause-told g c = λ records behind. continues_none c.args.begun.now.config c.args.engine records (kept_so_far (g.D.Disk.steps c.args.disk)) c.requires.same behind
+returns-in-Err-clause-told g c = λ records behind are. continues_none c.args.engine.setup c.args.engine records (kept_so_far (g.D.Disk.steps c.args.disk)) refl behind
 
 pub returns-in-Err-clause-order : goal.returns-in-Err-clause-order
 returns-in-Err-clause-order g c = record {
   answers = [];
   in_order = unserved c.args.is_synced (first_line c.args.begun.now) (g.D.Disk.steps c.args.disk) [] _;
-  turned = λ records behind. unturned c.args.engine c.args.manner (g.I.Input.came c.args.input.now) records (kept_so_far (g.D.Disk.steps c.args.disk)) behind;
+  turned = λ records behind are. unturned c.args.engine c.args.manner (g.I.Input.came c.args.input.now) records (kept_so_far (g.D.Disk.steps c.args.disk)) behind;
 }
 
 pub returns-in-Err-clause-fault : goal.returns-in-Err-clause-fault
-returns-in-Err-clause-fault g c = none_failed (g.D.Disk.steps c.args.disk)
+returns-in-Err-clause-fault g c = unbegun_stops c.args.begun.now c.args.begun.now.number (g.D.Disk.steps c.args.disk) c.in-Err.error (none_failed (g.D.Disk.steps c.args.disk)) c.in-Err.ensures.refused

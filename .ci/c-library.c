@@ -1,10 +1,21 @@
 /* Tries each call of include/camr_engine.h, nulls and lengths too, and ends with the number of the line where one answers otherwise. */
-#define CAMR_ENGINE_HEAP
-#include "camr_engine.h"
-
+#include <stdbool.h>
 #include <stdio.h>
+#include <stdlib.h>
 #include <string.h>
 #include <sys/resource.h>
+
+/* How many blocks are given before one is refused; with a number below 0 none is. */
+static long before_refusal = -1;
+
+static bool is_refused(void) { return before_refusal >= 0 && before_refusal-- == 0; }
+static void *tried_malloc(size_t n) { return is_refused() ? NULL : malloc(n); }
+static void *tried_realloc(void *p, size_t n) { return is_refused() ? NULL : realloc(p, n); }
+
+#define malloc(n) tried_malloc(n)
+#define realloc(p, n) tried_realloc(p, n)
+#define CAMR_ENGINE_HEAP
+#include "camr_engine.h"
 
 #define WANT(fact) do { if (!(fact)) { fprintf(stderr, "c-library.c:%d: not so: %s\n", __LINE__, #fact); exit(1); } } while (0)
 
@@ -346,6 +357,165 @@ static void ccbs(void)
     camr_close(engine);
 }
 
+/* The front of `trace` up to the first stop of the run, and of a line that is cut off. */
+static const char run_out[] =
+    "camr-trace 2\n"
+    "submit 0 0 1 = ccb 1\n"
+    "dispatch 0 = ccb 1\n"
+    "complete 1 0b 00 - = run 1 freeze 1\n"
+    "advance 1 3 helper 2 = 0\n"
+    "advance 1 2 hel";
+
+/* A guest's freeze of the controller, run 1, which is parked, and run 2, which is out. */
+static const char two_runs[] =
+    "camr-trace 2\n"
+    "submit 0 0 1 = ccb 1\n"
+    "dispatch 0 = ccb 1\n"
+    "complete 1 0b 00 - = run 1 freeze 1\n"
+    "advance 1 3 helper 2 = 0\n"
+    "advance 1 2 helper 4 = 0\n"
+    "dispatch 0 = ccb 1\n"
+    "complete 1 0b 00 - = run 2 freeze 2\n"
+    "cfreeze 0 6 = freeze 3\n"
+    "park 1 = ok\n";
+
+static camr_engine *recovered(const char *text, size_t length)
+{
+    camr_engine *engine;
+    WANT(camr_recover(manifest, sizeof manifest - 1, text, length, &engine, NULL, 0) == CAMR_DONE && engine != NULL);
+    return engine;
+}
+
+static void has_totals(camr_engine *engine, uint64_t history, uint32_t frozen, uint32_t active, uint32_t runs)
+{
+    camr_totals_t totals;
+    WANT(camr_totals(engine, &totals) == CAMR_DONE);
+    WANT(totals.history == history && totals.frozen == frozen && totals.active == active && totals.runs == runs);
+}
+
+/* The next run has this number, was started with this freeze, and ends. */
+static void takes_run(camr_engine *engine, uint32_t number, uint32_t freeze)
+{
+    camr_run *run;
+    uint32_t its_number, its_freeze;
+    uint64_t r0;
+    bool ended;
+    WANT(camr_take_run(engine, &run) == CAMR_DONE && run != NULL);
+    WANT(camr_run_numbers(run, &its_number, &its_freeze) == CAMR_DONE && its_number == number && its_freeze == freeze);
+    WANT(camr_drive(engine, run, &r0, &ended) == CAMR_DONE && ended && r0 == 7);
+    camr_run_free(run);
+}
+
+static void takes_no_run(camr_engine *engine)
+{
+    camr_run *run = (camr_run *)engine;
+    WANT(camr_take_run(engine, &run) == CAMR_UNKNOWN && run == NULL);
+}
+
+static void goes_on_after_a_crash(void)
+{
+    camr_engine *engine = recovered("camr-trace 2\n", 13);
+    char place[512];
+    size_t written;
+    uint64_t next, r0;
+    uint32_t it;
+    bool ended;
+    camr_run *run;
+    has_totals(engine, 0, 0, 0, 0);
+    takes_no_run(engine);
+    WANT(camr_clock(engine, 5, &it) == CAMR_DONE && camr_take(engine, place, sizeof place, &written) == CAMR_DONE);
+    WANT(written == 25 && memcmp(place, "camr-trace 2\nclock 5 = 0\n", 25) == 0);
+    camr_close(engine);
+    engine = recovered(run_out, sizeof run_out - 1);
+    has_totals(engine, 4, 0, 0, 1);
+    WANT(camr_trace(engine, 3, place, sizeof place, &written, &next) == CAMR_TAKEN && written == 0);
+    takes_run(engine, 1, 1);
+    takes_no_run(engine);
+    WANT(camr_take(engine, place, sizeof place, &written) == CAMR_DONE && written == 46);
+    WANT(memcmp(place, trace + sizeof trace - 1 - 46, 46) == 0);
+    camr_close(engine);
+    engine = recovered(two_runs, sizeof two_runs - 1);
+    has_totals(engine, 9, 2, 0, 2);
+    takes_run(engine, 2, 2);
+    takes_no_run(engine);
+    WANT(camr_resume(engine, 1, &run) == CAMR_DONE && camr_drive(engine, run, &r0, &ended) == CAMR_DONE && ended);
+    camr_run_free(run);
+    WANT(camr_guest_release(engine, 3, &it) == CAMR_DONE && it == 0 && camr_guest_release(engine, 3, &it) == CAMR_NO_TOKEN);
+    has_totals(engine, 15, 0, 0, 0);
+    camr_close(engine);
+    engine = recovered(two_runs, sizeof two_runs - 1);
+    camr_close(engine);
+    snprintf(place, sizeof place, "%send 6 0 0 0\n", trace);
+    engine = recovered(place, strlen(place));
+    has_totals(engine, 6, 0, 0, 0);
+    WANT(camr_succeed(&engine, NULL, 0, false, NULL, 0) == CAMR_DONE);
+    camr_close(engine);
+    engine = recovered(same, sizeof same - 1);
+    has_carried(engine, same, sizeof same - 1);
+    takes_no_run(engine);
+    goes_on(engine, 2, 3, 2);
+    camr_close(engine);
+    snprintf(place, sizeof place, "%sclock 10 = 0\n", same);
+    engine = recovered(place, strlen(place));
+    has_totals(engine, 1, 1, 1, 0);
+    WANT(camr_carried(engine, 0, place, sizeof place, &written, &next) == CAMR_TAKEN && written == 0);
+    camr_close(engine);
+}
+
+/* The text has that fault. */
+static void has_fault(const char *text, size_t length, const char *told)
+{
+    camr_engine *none = (camr_engine *)&before_refusal;
+    char fault[16];
+    WANT(camr_recover(manifest, sizeof manifest - 1, text, length, &none, fault, sizeof fault) == CAMR_FAULTY);
+    WANT(none == NULL && strcmp(fault, told) == 0);
+}
+
+#define HAS_FAULT(text, told) has_fault(text, sizeof text - 1, told)
+
+static void goes_not_on(void)
+{
+    camr_engine *none;
+    char fault[4];
+    HAS_FAULT("", "X1 at 1");
+    HAS_FAULT("camr-trace 2", "X1 at 1");
+    HAS_FAULT("camr-trace 2\nclock 5 = 1\nclock\n", "X2 at 3");
+    HAS_FAULT("camr-trace 2\nclock 5 = 0\n\0", "X2 at 3");
+    HAS_FAULT("camr-trace 1\nclock 5 = 1\n", "X3 at 1");
+    HAS_FAULT("camr-trace 2\nclock 5 = 0\nclock 4 = 0\n", "X3 at 3");
+    HAS_FAULT("camr-trace 2\nclock 5 = 0\nend 0 0 0 0\n", "X3 at 3");
+    HAS_FAULT("camr-trace 2 continued\nnumbers 0 0 0\nclock 0\nopenings 0 1\nword 0 0 5\nclock 5 = 1\n", "X4 at 5");
+    WANT(camr_recover("version = 3", 11, "camr", 4, &none, fault, sizeof fault) == CAMR_FAULTY && strcmp(fault, "M2") == 0);
+    WANT(camr_recover(manifest, sizeof manifest - 1, "camr", 4, &none, fault, 1) == CAMR_FAULTY && fault[0] == '\0');
+    WANT(camr_recover(manifest, sizeof manifest - 1, "camr", 4, &none, fault, sizeof fault) == CAMR_FAULTY && strcmp(fault, "X1 ") == 0);
+    WANT(camr_recover(manifest, sizeof manifest - 1, "camr", 4, &none, NULL, 0) == CAMR_FAULTY && none == NULL);
+    WANT(camr_recover("\xff", 1, "camr", 4, &none, NULL, 0) == CAMR_NOT_UTF8);
+    WANT(camr_recover(manifest, sizeof manifest - 1, "\xff", 1, &none, NULL, 0) == CAMR_NOT_UTF8 && none == NULL);
+    WANT(camr_recover(manifest, sizeof manifest - 1, "camr", 4, NULL, NULL, 0) == CAMR_NULL);
+    WANT(camr_recover(NULL, 1, "camr", 4, &none, NULL, 0) == CAMR_NULL && camr_recover(manifest, 1, NULL, 1, &none, NULL, 0) == CAMR_NULL);
+    WANT(camr_recover(manifest, 1, "camr", (size_t)PTRDIFF_MAX + 1, &none, NULL, 0) == CAMR_TOO_LONG && none == NULL);
+    WANT(camr_take_run(NULL, NULL) == CAMR_NULL);
+}
+
+/* Each block is refused once: what is not recovered leaves nothing, and the next try succeeds. */
+static void recovers_short_of_memory(void)
+{
+    camr_engine *engine;
+    camr_result result;
+    long tries = 0;
+    do {
+        before_refusal = tries++;
+        result = camr_recover(manifest, sizeof manifest - 1, two_runs, sizeof two_runs - 1, &engine, NULL, 0);
+        WANT(result == CAMR_DONE || (result == CAMR_OUT_OF_MEMORY && engine == NULL));
+    } while (result != CAMR_DONE);
+    before_refusal = 0;
+    camr_run *run;
+    WANT(tries > 20 && camr_take_run(engine, &run) == CAMR_DONE);
+    before_refusal = -1;
+    camr_run_free(run);
+    camr_close(engine);
+}
+
 static void nulls_and_faults(void)
 {
     camr_engine *engine = opened(), *none;
@@ -386,6 +556,9 @@ int main(void)
     follows();
     follows_not();
     ccbs();
+    goes_on_after_a_crash();
+    goes_not_on();
+    recovers_short_of_memory();
     nulls_and_faults();
     streams();
     return 0;

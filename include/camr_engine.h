@@ -8,16 +8,18 @@
  *
  * RESULTS. A call returns a camr_result.
  *   - CAMR_DONE: the call was carried out. It is recorded if it changes what the engine holds; camr_succeed begins another history.
- *   - CAMR_UNKNOWN to CAMR_CONTROLLER_FROZEN: the call was refused, and the refusal is recorded. Nothing else changed.
+ *   - CAMR_UNKNOWN to CAMR_CONTROLLER_FROZEN: the call was refused, and the refusal is recorded. Nothing else changed. camr_take_run and
+ *     camr_result_text record nothing.
  *   - Every other result: the engine is as before, and nothing is recorded. There is one exception: camr_drive that returns
  *     CAMR_OUT_OF_MEMORY has recorded the stops that the run reached before.
  * What is written through a pointer that is not NULL is 0, false or NULL unless the result is CAMR_DONE, if nothing else is said below.
  * A null pointer gives CAMR_NULL, and a length that no object has gives CAMR_TOO_LONG; the comments below do not repeat it. No call
  * ends the process, and none waits.
  *
- * HANDLES. A camr_engine comes from camr_open and goes with camr_close; camr_succeed makes it the handle of another engine. A camr_run
- * comes from camr_complete or camr_resume and goes with camr_run_free, always, also when the run has ended or is parked. Only the library
- * looks into a handle. A guest's freeze is a number, for which the engine keeps the one token that gives it back.
+ * HANDLES. A camr_engine comes from camr_open or camr_recover and goes with camr_close; camr_succeed makes it the handle of another
+ * engine. A camr_run comes from camr_complete, camr_resume or camr_take_run and goes with camr_run_free, always, also when the run has
+ * ended or is parked. Only the library looks into a handle. A guest's freeze is a number, for which the engine keeps the one token that
+ * gives it back.
  *
  * THREADS. The library starts no thread and takes no lock. A handle is used by one call at a time. The calls that are given an engine
  * are made under a lock of the host's. camr_stretch and camr_run_numbers are given a run alone and need no lock: the private
@@ -25,7 +27,8 @@
  * or the end of a thread, or a sequentially consistent atomic orders that.
  *
  * MEMORY. An engine keeps a record in 40 bytes, and up to 64 more for sense or traced bytes, until the host takes its line
- * (camr_take). A host that takes the lines runs in constant memory. No contract speaks of memory; .ci/c-library measures it.
+ * (camr_take). A host that takes the lines runs in constant memory. camr_recover takes memory for the text and for a record of each line
+ * while it works, and gives that back. No contract speaks of memory; .ci/c-library measures it.
  *
  * WHAT THE HOST PROMISES. The library does not see these things; the host has to keep them.
  *   - A handle is one that was given and is not freed, and is used by one call at a time.
@@ -74,8 +77,8 @@ enum {
     CAMR_NO_COMPLETION = 13,      /* no device reports such a completion */
     CAMR_SPENT = 14,              /* the run has ended or is parked */
     CAMR_NOT_STRETCHED = 15,      /* the run was not taken to its next stop */
-    CAMR_NOT_UTF8 = 16,           /* the manifest is not UTF-8 */
-    CAMR_FAULTY = 17,             /* the manifest is faulty: the text of the fault says why */
+    CAMR_NOT_UTF8 = 16,           /* the manifest is not UTF-8; or, for camr_recover, the trace */
+    CAMR_FAULTY = 17,             /* the manifest is faulty: the text of the fault says why; or, for camr_recover, the trace */
     CAMR_NO_ROOM = 18,            /* not one line more finds room */
     CAMR_NO_TEXT = 19,            /* a record has no text: none of an engine's records is such */
     CAMR_NULL = 20,               /* a pointer is null */
@@ -120,8 +123,8 @@ typedef struct camr_totals_t {
 /* ---- what the library exports --------------------------------------------------------------------------------------------
  *
  * `engine` and `run` lead to the variable in which the host keeps the handle. The variable has to hold a handle, unless the call is one
- * that gives it. Only camr_raw_open, camr_raw_complete, camr_raw_resume, camr_raw_close and camr_raw_run_free write the variable. The
- * host promises that no pointer is null, no length is above PTRDIFF_MAX, and a bool is 0 or 1. */
+ * that gives it. Only camr_raw_open, camr_raw_recover, camr_raw_complete, camr_raw_resume, camr_raw_take_run, camr_raw_close and
+ * camr_raw_run_free write the variable. The host promises that no pointer is null, no length is above PTRDIFF_MAX, and a bool is 0 or 1. */
 uint32_t camr_raw_open(const uint8_t *manifest, size_t length, camr_engine **engine, uint8_t *fault, size_t fault_length,
                        size_t *written);
 void camr_raw_close(camr_engine **engine);
@@ -151,6 +154,9 @@ uint32_t camr_raw_renew(camr_engine **engine, bool fresh);
 uint32_t camr_raw_carried(camr_engine **engine, uint64_t from, uint8_t *place, size_t length, size_t *written, uint64_t *next);
 void camr_raw_ccbs(camr_engine **engine, uint32_t from, uint32_t *numbers, size_t numbers_length, uint32_t *states,
                    size_t states_length, size_t *count);
+uint32_t camr_raw_recover(const uint8_t *manifest, size_t length, const uint8_t *text, size_t text_length, camr_engine **engine,
+                          uint8_t *fault, size_t fault_length, size_t *written);
+bool camr_raw_take_run(camr_engine **engine, camr_run **run);
 bool camr_raw_result_text(uint32_t result, uint8_t *place, size_t length, size_t *written);
 
 /* Whether there can be so many bytes at a place. */
@@ -417,6 +423,61 @@ static inline camr_result camr_ccbs(camr_engine *engine, uint32_t from, uint32_t
     return CAMR_DONE;
 }
 
+/* ---- after a crash ----------------------------------------------------------------------------------------------------------- */
+
+/*
+ * Opens an engine of the text of a manifest, and leads it to where the text of a trace led: what a host wrote of the lines that camr_take
+ * gave, after the lines of camr_carried if the engine followed another one. What stands after the last line feed is ignored: it is a line
+ * that a crash cut off. The last line of the trace may be there; camr_succeed can follow.
+ *
+ * The engine stands after the records of the text, which are its history and count as taken: camr_trace answers CAMR_TAKEN for them, and
+ * camr_carried too if there is one. Waiting and active CCBs, openings, the words of tables, the clock and the greatest numbers given are
+ * those that the records led to. Each run that was out is out again, after its last recorded stop, and is to be taken by camr_take_run.
+ * Parked runs are parked. The freezes of guests are held under their numbers, and the engine keeps their tokens.
+ *
+ * The texts have `length` and `text_length` bytes. The engine goes to *engine, and is the host's until camr_close. If a text is faulty, as
+ * much of the fault's text as finds room is put into `fault`, as by camr_open. A fault of the manifest comes first. The faults of the trace
+ * are those that `camr replay` prints, as "X3 at 17", and come in its order: X1; X2, of any line; X3 at 1 for another version than the
+ * manifest's; X4; X3. If the last line is missing, there are no sums to judge. Bytes after the last line feed that can be the front of no
+ * line, such as zeros, are X2.
+ * Results: CAMR_NOT_UTF8, CAMR_FAULTY, CAMR_OUT_OF_MEMORY; *engine is NULL then, and nothing is left.
+ */
+static inline camr_result camr_recover(const char *manifest, size_t length, const char *text, size_t text_length, camr_engine **engine,
+                                       char *fault, size_t fault_length)
+{
+    uint8_t none = 0, empty = 0;
+    size_t written = 0;
+    if (engine != NULL) *engine = NULL;
+    if (engine == NULL) return CAMR_NULL;
+    camr_result place = camr_place_(manifest, length);
+    if (place != CAMR_DONE) return place;
+    place = camr_place_(text, text_length);
+    if (place != CAMR_DONE) return place;
+    place = camr_place_(fault, fault_length);
+    if (place != CAMR_DONE) return place;
+    camr_engine *recovered = NULL;
+    camr_result result = camr_raw_recover(length != 0 ? (const uint8_t *)manifest : &none, length,
+                                          text_length != 0 ? (const uint8_t *)text : &none, text_length, &recovered,
+                                          fault_length != 0 ? (uint8_t *)fault : &empty, fault_length != 0 ? fault_length - 1 : 0,
+                                          &written);
+    if (fault_length != 0) fault[written] = '\0';
+    if (result == CAMR_DONE) *engine = recovered;
+    return result;
+}
+
+/* Takes a run that was out when the engine was recovered: each of them once, by rising number. It goes to *run, and is the host's until
+ * camr_run_free. The call is not recorded, and takes no memory. Results: CAMR_UNKNOWN if none is left, and for an engine that camr_open
+ * opened; nothing is recorded then either, and *run is NULL. */
+static inline camr_result camr_take_run(camr_engine *engine, camr_run **run)
+{
+    camr_run *its = NULL;
+    if (run != NULL) *run = NULL;
+    if (engine == NULL || run == NULL) return CAMR_NULL;
+    if (!camr_raw_take_run(&engine, &its)) return CAMR_UNKNOWN;
+    *run = its;
+    return CAMR_DONE;
+}
+
 /* ---- a run ---------------------------------------------------------------------------------------------------------------- */
 
 /* Takes a run to its next stop, which is a helper call or the exit, if it is not there. It executes the private instructions of the run,
@@ -494,7 +555,8 @@ static inline void camr_run_free(camr_run *run)
 /* ---- texts, and the heap ---------------------------------------------------------------------------------------------------- */
 
 /* Puts the text of a result into a buffer, as much as finds room. *written is the number of bytes, and the buffer is as before from there
- * on. Results: CAMR_UNKNOWN if there is no such result. */
+ * on. The texts of CAMR_NOT_UTF8 and CAMR_FAULTY name the manifest alone, also if it is the trace that camr_recover refused. Results:
+ * CAMR_UNKNOWN if there is no such result. */
 static inline camr_result camr_result_text(camr_result result, char *buffer, size_t length, size_t *written)
 {
     uint8_t none = 0;

@@ -18,6 +18,7 @@ use Rattle.engine_core.specs.EngineState.{EngineState}
 use Rattle.manifest.specs.declared.fault.ManifestFault.{ManifestFault}
 use Rattle.host_embedding.specs.declared.call_result.CallResult.{CallResult}
 use Rattle.host_embedding.specs.declared.call_result.CallResult.TheVariants.{Done, OutOfMemory, NoCompletion, NotUtf8, Faulty}
+use Rattle.host_embedding.specs.declared.hosted_engine.HostedEngine.{HostedEngine}
 use Rattle.host_embedding.specs.declared.run_handle.HeldRun.{HeldRun}
 use Rattle.host_embedding.specs.declared.run_handle.RunHandle.{RunHandle}
 use Rattle.host_embedding.specs.Calls.{IsCalled, IsCompleted, IsFrozen, IsReleased, IsResumed}
@@ -25,6 +26,9 @@ use Rattle.host_embedding.specs.Held.{is_same_run}
 use Rattle.host_embedding.specs.Results.{number_of, text_of}
 use Rattle.host_opening.specs.declared.opening.OpenFault.{OpenFault}
 use Rattle.host_opening.specs.declared.opening.OpenFault.TheVariants as faults
+use Rattle.host_opening.specs.declared.recovering.RecoverFault.{RecoverFault}
+use Rattle.host_opening.specs.declared.recovering.RecoverFault.TheVariants as unrecovered
+use Rattle.host_embedding.specs.Recovering.{TakesRun}
 use Rattle.camr_c.specs.declared.engine_exports.Sums.{Sums}
 use Rattle.camr_c.specs.declared.engine_slot.EngineSlot.{EngineSlot}
 use Rattle.camr_c.specs.declared.run_slot.RunSlot.{RunSlot}
@@ -46,6 +50,10 @@ abbrev pub Stays : {X : Type 0} → Option X → Option X → (X → Type 0) →
 Stays None new Told = ⊥
 Stays (Some it) new Told = (new ≡ Some it) × Told it
 
+-- there was an engine, there is one, this holds of the two, and the runs that are left to be taken are the same
+abbrev pub EngineTurns : Option HostedEngine → Option HostedEngine → (EngineState → EngineState → Type 0) → Type 0
+EngineTurns old new Told = Turns old new (λ before after. Told before.engine after.engine × (after.left ≡ before.left))
+
 -- the front of that result's text was put into a place, as much as finds room, and what stands after it is what stood there before
 abbrev pub FrontOf : CallResult → List ℕ → List ℕ → ℕ → Type 0
 FrontOf its before place written =
@@ -58,26 +66,39 @@ TextOf number before place written = (its : CallResult) × (number ≡ number_of
 -- ---- calls that name no run
 
 -- the number of what was opened, and what the slot held before and holds then: if nothing was opened, what it held
-abbrev pub IsOpened : Result (Box EngineState) OpenFault → ℕ → Option EngineState → Option EngineState → Type 0
+abbrev pub IsOpened : Result (Box HostedEngine) OpenFault → ℕ → Option HostedEngine → Option HostedEngine → Type 0
 IsOpened (Ok handle) number old new = (number ≡ number_of Done) × (new ≡ Some handle.value)
 IsOpened (Err faults.OutOfMemory) number old new = (number ≡ number_of OutOfMemory) × (new ≡ old)
 IsOpened (Err faults.NotUtf8) number old new = (number ≡ number_of NotUtf8) × (new ≡ old)
 IsOpened (Err (faults.Manifest fault)) number old new = (number ≡ number_of Faulty) × (new ≡ old)
 
+-- the result that stands for why nothing was recovered
+abbrev pub unrecovered_result : RecoverFault → CallResult
+unrecovered_result unrecovered.OutOfMemory = OutOfMemory
+unrecovered_result unrecovered.NotUtf8 = NotUtf8
+unrecovered_result (unrecovered.Manifest fault) = Faulty
+unrecovered_result (unrecovered.Form fault) = Faulty
+unrecovered_result (unrecovered.Replay fault) = Faulty
+
+-- the same of what was recovered
+abbrev pub IsRecovered : Result (Box HostedEngine) RecoverFault → ℕ → Option HostedEngine → Option HostedEngine → Type 0
+IsRecovered (Ok handle) number old new = (number ≡ number_of Done) × (new ≡ Some handle.value)
+IsRecovered (Err fault) number old new = (number ≡ number_of (unrecovered_result fault)) × (new ≡ old)
+
 -- a call of the engine
 abbrev pub Called : ℕ → EngineSlot → EngineSlot → CallAnswer → Call → Type 0
 Called number old new answer call =
-    Did number (λ its. Turns old.held new.held (λ before after. IsCalled its before after answer call))
+    Did number (λ its. EngineTurns old.held new.held (λ before after. IsCalled its before after answer call))
 
 -- a guest freezes a place
 abbrev pub Frozen : ℕ → EngineSlot → EngineSlot → ℕ → Place → ℕ → Type 0
 Frozen number old new freeze place guest =
-    Did number (λ its. Turns old.held new.held (λ before after. IsFrozen its before after freeze place guest))
+    Did number (λ its. EngineTurns old.held new.held (λ before after. IsFrozen its before after freeze place guest))
 
 -- a guest's freeze is given back
 abbrev pub Released : ℕ → EngineSlot → EngineSlot → ℕ → ℕ → Type 0
 Released number old new left freeze =
-    Did number (λ its. Turns old.held new.held (λ before after. IsReleased its before after left freeze))
+    Did number (λ its. EngineTurns old.held new.held (λ before after. IsReleased its before after left freeze))
 
 -- whether a timer holds one of these freezes, and when the first is due
 abbrev pub TellsDue : List Freeze → Bool → ℕ → Type 0
@@ -105,7 +126,7 @@ IsNumberOf (Err fault) number = number ≡ number_of Faulty
 abbrev pub CalledWith : ℕ → EngineSlot → EngineSlot → RunSlot → RunSlot
     → (CallResult → EngineState → EngineState → HeldRun → HeldRun → Type 0) → Type 0
 CalledWith number old new run again Told =
-    Did number (λ its. Turns old.held new.held (λ before after. Turns run.held again.held (λ was is.
+    Did number (λ its. EngineTurns old.held new.held (λ before after. Turns run.held again.held (λ was is.
     Told its before after was.held is.held × is_same_run was is)))
 
 -- what a device reports by these numbers: a completion, where the code is a status's and there may be such a one
@@ -141,3 +162,13 @@ abbrev pub Resumed : ℕ → EngineState → EngineState → ℕ → Bool → Op
 Resumed parked before after number resumed was run =
     (answer : Result (Box RunHandle) CallResult) × IsResumed answer before after parked
     × GoesOut answer number resumed was run
+
+-- ---- the runs that a recovery left
+
+-- whether a run was taken, and what the run's slot held before and holds then: if none was taken, what it held
+abbrev pub GoesTo : Option (Box RunHandle) → Bool → Option RunHandle → Option RunHandle → Type 0
+GoesTo None taken was run = (taken ≡ false) × (run ≡ was)
+GoesTo (Some handle) taken was run = (taken ≡ true) × (run ≡ Some handle.value)
+
+abbrev pub Taken : HostedEngine → HostedEngine → Bool → Option RunHandle → Option RunHandle → Type 0
+Taken before after taken was run = (answer : Option (Box RunHandle)) × TakesRun before answer after × GoesTo answer taken was run

@@ -3,8 +3,8 @@ use Rattle.std.specs.Prelude.{Some}
 use base.Fml.{Fml}
 use denote.Ref.{MutBor}
 use denote.Follow.{follows}
-use Rattle.engine_core.specs.EngineState.{EngineState}
-use Rattle.host_embedding.specs.contracts.engine_handle.EngineHandle.{the_row as engine_row}
+use Rattle.host_embedding.specs.declared.hosted_engine.HostedEngine.{HostedEngine}
+use Rattle.host_embedding.specs.contracts.hosted_engine.HostedEngine.{the_row as engine_row}
 use Rattle.host_embedding.specs.declared.run_handle.RunHandle.{RunHandle}
 use Rattle.host_embedding.specs.contracts.run_handle.RunHandle.{the_row as run_row}
 use Rattle.camr_c.specs.declared.engine_slot.EngineSlot.{EngineSlot}
@@ -13,14 +13,14 @@ use Rattle.camr_c.specs.declared.run_slot.RunSlot.{RunSlot}
 use Rattle.camr_c.specs.contracts.run_slot.RunSlot.{the_row as run_slot_row}
 
 -- the slot with that value behind it
-abbrev pub with_engine : EngineSlot → EngineState → EngineSlot
+abbrev pub with_engine : EngineSlot → HostedEngine → EngineSlot
 with_engine slot x = record { at = slot.at; held = Some x }
 
 abbrev pub with_run : RunSlot → RunHandle → RunSlot
 with_run slot x = record { at = slot.at; held = Some x }
 
 -- once the borrow of the value ends, the slot holds what was last written through it
-abbrev pub lends_engine : MutBor EngineSlot → MutBor EngineState → Fml
+abbrev pub lends_engine : MutBor EngineSlot → MutBor HostedEngine → Fml
 lends_engine slot r = follows engine_slot_row engine_row slot.ghost_name r.ghost_name (with_engine slot.now)
 
 abbrev pub lends_run : MutBor RunSlot → MutBor RunHandle → Fml

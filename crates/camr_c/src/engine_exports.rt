@@ -6,11 +6,11 @@ ghost use Rattle.ccb.specs.declared.place.Place.TheVariants.{Device, Controller}
 ghost use Rattle.world_calls.specs.declared.call.Call.TheVariants.{Submit, Dispatch, Clock};
 ghost use Rattle.world_calls.specs.declared.call_answer.CallAnswer.TheVariants as answers;
 ghost use Rattle.world.specs.TotalsOf.{totals_in};
-ghost use Rattle.engine_core.specs.EngineState.{EngineState};
 ghost use Rattle.host_opening.specs.declared.opening.OpenFault.{OpenFault as TheFault};
 ghost use Rattle.host_opening.specs.Opened.{Opens};
 ghost use Rattle.camr_c.specs.Exports.{Called, Frozen, IsOpened, Released, Stays, TellsDue, sums_of};
 ghost use Rattle.host_embedding.specs.declared.call_result.TheConstants.{RESULTS};
+ghost use Rattle.host_embedding.specs.declared.hosted_engine.HostedEngine.{HostedEngine as TheEngine};
 
 use crate::engine_slot::EngineSlot;
 use crate::raw_box::RawBox;
@@ -37,7 +37,7 @@ pub extern "C" fn camr_raw_open(
     fault: &mut [u8],
     written: &mut usize,
 ) -> u32
-    ensures opened { (answer : Result (Box EngineState) TheFault) × Opens manifest.now answer × IsOpened answer result engine.old.held engine.new.held }
+    ensures opened { (answer : Result (Box TheEngine) TheFault) × Opens manifest.now answer × IsOpened answer result engine.old.held engine.new.held }
     ensures few { result < RESULTS }
     ensures text { written.new ≤ length fault.new }
 {
@@ -79,7 +79,11 @@ pub extern "C" fn camr_raw_submit(
     ensures few { result < RESULTS }
     ensures kept { result ≢ 0 → ccb.new ≡ ccb.old }
 {
-    engine.held().submit(queue, priority, retries, ccb).number()
+    engine
+        .held()
+        .engine
+        .submit(queue, priority, retries, ccb)
+        .number()
 }
 
 #[unsafe(no_mangle)]
@@ -89,7 +93,7 @@ pub extern "C" fn camr_raw_dispatch(engine: &mut EngineSlot, queue: u32, ccb: &m
     ensures few { result < RESULTS }
     ensures kept { result ≢ 0 → ccb.new ≡ ccb.old }
 {
-    engine.held().dispatch(queue, ccb).number()
+    engine.held().engine.dispatch(queue, ccb).number()
 }
 
 #[unsafe(no_mangle)]
@@ -99,17 +103,17 @@ pub extern "C" fn camr_raw_clock(engine: &mut EngineSlot, reading: u64, removed:
     ensures few { result < RESULTS }
     ensures kept { result ≢ 0 → removed.new ≡ removed.old }
 {
-    engine.held().clock(reading, removed).number()
+    engine.held().engine.clock(reading, removed).number()
 }
 
 /// Whether a timer holds a freeze, and when the first is due.
 #[unsafe(no_mangle)]
 pub extern "C" fn camr_raw_next_due(engine: &mut EngineSlot, reading: &mut u64) -> bool
     requires { IsSome engine.old.held }
-    ensures did { Stays engine.old.held engine.new.held (λ its. TellsDue its.world.transport.freezes result reading.new) }
+    ensures did { Stays engine.old.held engine.new.held (λ its. TellsDue its.engine.world.transport.freezes result reading.new) }
     ensures kept { result ≡ false → reading.new ≡ reading.old }
 {
-    match engine.held().next_due() {
+    match engine.held().engine.next_due() {
         Some(due) => {
             *reading = due;
             true
@@ -131,7 +135,11 @@ pub extern "C" fn camr_raw_guest_freeze(
     ensures kept { result ≢ 0 → freeze.new ≡ freeze.old }
 {
     let place = Place::Device(QueueId(queue));
-    engine.held().guest_freeze(place, guest, freeze).number()
+    engine
+        .held()
+        .engine
+        .guest_freeze(place, guest, freeze)
+        .number()
 }
 
 #[unsafe(no_mangle)]
@@ -147,7 +155,11 @@ pub extern "C" fn camr_raw_guest_freeze_controller(
     ensures kept { result ≢ 0 → freeze.new ≡ freeze.old }
 {
     let place = Place::Controller(controller);
-    engine.held().guest_freeze(place, guest, freeze).number()
+    engine
+        .held()
+        .engine
+        .guest_freeze(place, guest, freeze)
+        .number()
 }
 
 #[unsafe(no_mangle)]
@@ -161,15 +173,15 @@ pub extern "C" fn camr_raw_guest_release(
     ensures few { result < RESULTS }
     ensures kept { result ≢ 0 → left.new ≡ left.old }
 {
-    engine.held().guest_release(freeze, left).number()
+    engine.held().engine.guest_release(freeze, left).number()
 }
 
 #[unsafe(no_mangle)]
 pub extern "C" fn camr_raw_totals(engine: &mut EngineSlot, sums: &mut Sums)
     requires { IsSome engine.old.held }
-    ensures did { Stays engine.old.held engine.new.held (λ its. sums.new ≡ sums_of (totals_in its.history its.world)) }
+    ensures did { Stays engine.old.held engine.new.held (λ its. sums.new ≡ sums_of (totals_in its.engine.history its.engine.world)) }
 {
-    let totals = engine.held().totals();
+    let totals = engine.held().engine.totals();
     sums.history = totals.history;
     sums.frozen = totals.frozen;
     sums.active = totals.active;

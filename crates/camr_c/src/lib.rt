@@ -5,6 +5,7 @@
 mod engine_exports;
 mod engine_slot;
 mod raw_box;
+mod recovery_exports;
 mod result_exports;
 mod run_exports;
 mod run_slot;

@@ -4,7 +4,7 @@ ghost use Rattle.std.specs.Prelude.{◌≡◌, ◌≢◌, ◌<◌, false, IsSome
 ghost use Rattle.ccb.specs.Completion.{Outcome};
 ghost use Rattle.host_embedding.specs.Calls.{IsAdvanced, IsDriven, IsParked};
 ghost use Rattle.host_embedding.specs.Held.{is_same_run, out_of, IsStretched};
-ghost use Rattle.camr_c.specs.Exports.{Did, Turns, Stays, CalledWith, IsReported, Completed, Resumed};
+ghost use Rattle.camr_c.specs.Exports.{Did, EngineTurns, Turns, Stays, CalledWith, IsReported, Completed, Resumed};
 ghost use Rattle.host_embedding.specs.declared.call_result.TheConstants.{RESULTS};
 
 use crate::engine_slot::EngineSlot;
@@ -36,14 +36,14 @@ pub extern "C" fn camr_raw_complete(
 ) -> u32
     requires { IsSome engine.old.held }
     ensures did { (report : Option Outcome) × IsReported ccb status scsi sense.now report
-        × Turns engine.old.held engine.new.held (λ before after. Completed report before after result started.new run.old.held run.new.held) }
+        × EngineTurns engine.old.held engine.new.held (λ before after. Completed report before after result started.new run.old.held run.new.held) }
     ensures few { result < RESULTS }
 {
     *started = false;
     let Some(completion) = reported(ccb, status, scsi, sense) else {
         return CallResult::NoCompletion.number();
     };
-    match engine.held().complete(alloc, completion) {
+    match engine.held().engine.complete(alloc, completion) {
         Ok(Some(handle)) => {
             run.fill(RawBox::of(handle));
             *started = true;
@@ -79,7 +79,7 @@ pub extern "C" fn camr_raw_advance(
     ensures few { result < RESULTS }
     ensures kept { result ≢ 0 → (r0.new ≡ r0.old) × (ended.new ≡ ended.old) }
 {
-    engine.held().advance(run.held(), r0, ended).number()
+    engine.held().engine.advance(run.held(), r0, ended).number()
 }
 
 #[unsafe(no_mangle)]
@@ -96,7 +96,7 @@ pub extern "C" fn camr_raw_drive(
     ensures few { result < RESULTS }
     ensures unended { result ≢ 0 → ended.new ≡ false }
 {
-    engine.held().drive(run.held(), r0, ended).number()
+    engine.held().engine.drive(run.held(), r0, ended).number()
 }
 
 #[unsafe(no_mangle)]
@@ -107,7 +107,7 @@ pub extern "C" fn camr_raw_park(engine: &mut EngineSlot, run: &mut RunSlot) -> u
         IsParked its (out_of was) is before after) }
     ensures few { result < RESULTS }
 {
-    engine.held().park(run.held()).number()
+    engine.held().engine.park(run.held()).number()
 }
 
 /// Lets the run of that number go on, which goes into the run's slot, and `resumed` tells so.
@@ -120,11 +120,11 @@ pub extern "C" fn camr_raw_resume(
     resumed: &mut bool,
 ) -> u32
     requires { IsSome engine.old.held }
-    ensures did { Turns engine.old.held engine.new.held (λ before after. Resumed number before after result resumed.new run.old.held run.new.held) }
+    ensures did { EngineTurns engine.old.held engine.new.held (λ before after. Resumed number before after result resumed.new run.old.held run.new.held) }
     ensures few { result < RESULTS }
 {
     *resumed = false;
-    match engine.held().resume(alloc, number) {
+    match engine.held().engine.resume(alloc, number) {
         Ok(handle) => {
             run.fill(RawBox::of(handle));
             *resumed = true;

@@ -8,7 +8,7 @@ ghost use Rattle.host_embedding.specs.Succession.{IsRenewed};
 ghost use Rattle.host_embedding.specs.declared.call_result.CallResult.{CallResult as TheResult};
 ghost use Rattle.host_embedding.specs.declared.call_result.TheConstants.{RESULTS};
 ghost use Rattle.host_opening.specs.Opened.{Succeeds};
-ghost use Rattle.camr_c.specs.Exports.{Did, IsNumberOf, Stays, Turns, numbering_of};
+ghost use Rattle.camr_c.specs.Exports.{Did, IsNumberOf, Stays, EngineTurns, numbering_of};
 
 use crate::engine_slot::EngineSlot;
 use host_embedding::{CallResult, Numbering};
@@ -39,12 +39,17 @@ pub extern "C" fn camr_raw_succeed(
 ) -> u32
     requires { IsSome engine.old.held }
     ensures did { (answer : Result TheResult ManifestFault) × IsNumberOf answer result
-        × Turns engine.old.held engine.new.held (λ before after. Succeeds (numbering_of fresh) manifest.now answer before after) }
+        × EngineTurns engine.old.held engine.new.held (λ before after. Succeeds (numbering_of fresh) manifest.now answer before after) }
     ensures few { result < RESULTS }
     ensures text { written.new ≤ length fault.new }
 {
     *written = 0;
-    match succeed(alloc, engine.held(), manifest, numbering_of(fresh)) {
+    match succeed(
+        alloc,
+        &mut engine.held().engine,
+        manifest,
+        numbering_of(fresh),
+    ) {
         Ok(result) => result.number(),
         Err(its) => {
             *written = put_fault(alloc, &its, fault);
@@ -57,10 +62,14 @@ pub extern "C" fn camr_raw_succeed(
 #[unsafe(no_mangle)]
 pub extern "C" fn camr_raw_renew(alloc: Global, engine: &mut EngineSlot, fresh: bool) -> u32
     requires { IsSome engine.old.held }
-    ensures did { Did result (λ its. Turns engine.old.held engine.new.held (λ before after. IsRenewed its (numbering_of fresh) before after)) }
+    ensures did { Did result (λ its. EngineTurns engine.old.held engine.new.held (λ before after. IsRenewed its (numbering_of fresh) before after)) }
     ensures few { result < RESULTS }
 {
-    engine.held().renew(alloc, numbering_of(fresh)).number()
+    engine
+        .held()
+        .engine
+        .renew(alloc, numbering_of(fresh))
+        .number()
 }
 
 /// Lists the live CCBs from this number on, as many as find room: how many that are.
@@ -73,7 +82,7 @@ pub extern "C" fn camr_raw_ccbs(
     count: &mut usize,
 )
     requires { IsSome engine.old.held }
-    ensures did { Stays engine.old.held engine.new.held (λ its. ListsCcbs its.world.transport.live from numbers.old states.old numbers.new states.new count.new) }
+    ensures did { Stays engine.old.held engine.new.held (λ its. ListsCcbs its.engine.world.transport.live from numbers.old states.old numbers.new states.new count.new) }
 {
-    *count = engine.held().list_ccbs(from, numbers, states);
+    *count = engine.held().engine.list_ccbs(from, numbers, states);
 }

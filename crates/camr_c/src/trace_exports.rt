@@ -6,7 +6,7 @@ ghost use Rattle.world.specs.TotalsOf.{totals_in};
 ghost use Rattle.host_embedding.specs.Lines.{PutsCarried, PutsLines, PutsSums, TakesLines, front_of};
 ghost use Rattle.host_embedding.specs.declared.call_result.CallResult.TheVariants.{NoRoom};
 ghost use Rattle.host_embedding.specs.declared.text_lines.TheConstants.{LONGEST_TAKEN};
-ghost use Rattle.camr_c.specs.Exports.{Did, Stays, Turns};
+ghost use Rattle.camr_c.specs.Exports.{Did, Stays, EngineTurns};
 ghost use Rattle.host_embedding.specs.declared.call_result.TheConstants.{RESULTS};
 
 use crate::engine_slot::EngineSlot;
@@ -24,7 +24,7 @@ pub extern "C" fn camr_raw_trace(
 ) -> u32
     requires { IsSome engine.old.held }
     ensures did { Did result (λ its. Stays engine.old.held engine.new.held (λ it.
-        PutsLines line_of its (front_of it.setup) it.history it.taken from place.old place.new written.new next.new)) }
+        PutsLines line_of its (front_of it.engine.setup) it.engine.history it.engine.taken from place.old place.new written.new next.new)) }
     ensures few { result < RESULTS }
     ensures text { written.new ≤ length place.new }
 {
@@ -32,7 +32,7 @@ pub extern "C" fn camr_raw_trace(
         written: 0,
         next: from,
     };
-    let result = engine.held().put_lines(from, place, &mut put);
+    let result = engine.held().engine.put_lines(from, place, &mut put);
     *written = put.written;
     *next = put.next;
     result.number()
@@ -47,7 +47,7 @@ pub extern "C" fn camr_raw_take(
     written: &mut usize,
 ) -> u32
     requires { IsSome engine.old.held }
-    ensures did { Did result (λ its. (LONGEST_TAKEN ≤ length place.old → its ≢ NoRoom) × Turns engine.old.held engine.new.held (λ before after.
+    ensures did { Did result (λ its. (LONGEST_TAKEN ≤ length place.old → its ≢ NoRoom) × EngineTurns engine.old.held engine.new.held (λ before after.
         (next : ℕ) × TakesLines its before after place.old place.new written.new next)) }
     ensures few { result < RESULTS }
     ensures text { written.new ≤ length place.new }
@@ -56,7 +56,7 @@ pub extern "C" fn camr_raw_take(
         written: 0,
         next: 0,
     };
-    let result = engine.held().take_lines(place, &mut put);
+    let result = engine.held().engine.take_lines(place, &mut put);
     *written = put.written;
     result.number()
 }
@@ -73,7 +73,7 @@ pub extern "C" fn camr_raw_carried(
 ) -> u32
     requires { IsSome engine.old.held }
     ensures did { Did result (λ its. (LONGEST_TAKEN ≤ length place.old → its ≢ NoRoom) × Stays engine.old.held engine.new.held (λ it.
-        PutsCarried its it from place.old place.new written.new next.new)) }
+        PutsCarried its it.engine from place.old place.new written.new next.new)) }
     ensures few { result < RESULTS }
     ensures text { written.new ≤ length place.new }
 {
@@ -81,7 +81,7 @@ pub extern "C" fn camr_raw_carried(
         written: 0,
         next: from,
     };
-    let result = engine.held().put_carried(from, place, &mut put);
+    let result = engine.held().engine.put_carried(from, place, &mut put);
     *written = put.written;
     *next = put.next;
     result.number()
@@ -96,7 +96,7 @@ pub extern "C" fn camr_raw_trace_end(
 ) -> u32
     requires { IsSome engine.old.held }
     ensures did { Did result (λ its. Stays engine.old.held engine.new.held (λ it.
-        PutsSums its (totals_in it.history it.world) place.old place.new written.new)) }
+        PutsSums its (totals_in it.engine.history it.engine.world) place.old place.new written.new)) }
     ensures few { result < RESULTS }
     ensures text { written.new ≤ length place.new }
 {
@@ -104,7 +104,7 @@ pub extern "C" fn camr_raw_trace_end(
         written: 0,
         next: 0,
     };
-    let result = engine.held().put_end(place, &mut put);
+    let result = engine.held().engine.put_end(place, &mut put);
     *written = put.written;
     result.number()
 }

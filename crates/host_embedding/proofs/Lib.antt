@@ -8,4 +8,7 @@ pub mod Listing
 pub mod Guests
 pub mod Handing
 pub mod Taking
+pub mod Remade
+pub mod Recovered
+pub mod Standing
 mod Results

@@ -1,6 +1,7 @@
 pub mod Results
 pub mod Calls
 pub mod Held
+pub mod Recovering
 pub mod Lines
 pub mod Guests
 pub mod Beginning

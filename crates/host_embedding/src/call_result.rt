@@ -31,9 +31,9 @@ pub enum CallResult {
     Spent,
     /// The run was not taken to its next stop. Nothing changed.
     NotStretched,
-    /// The manifest is not UTF-8.
+    /// The manifest, or the text of a trace, is not UTF-8.
     NotUtf8,
-    /// The manifest is faulty: its fault's text tells how.
+    /// The manifest, or the text of a trace, is faulty: the fault's text says how.
     Faulty,
     /// Not one line more finds room.
     NoRoom,

@@ -1,6 +1,7 @@
 // A run as a host holds it: out, at its next stop, or spent. It relies on `engine_core` for runs.
 
-ghost use Rattle.std.specs.Prelude.{◌≡◌};
+ghost use Rattle.std.specs.Prelude.{◌≡◌, IsTrue};
+ghost use Rattle.host_embedding.specs.Recovering.{IsOf};
 ghost use Rattle.host_embedding.specs.Held.{is_same_run, out_of, IsStretched};
 
 use crate::call_result::CallResult;
@@ -74,6 +75,17 @@ impl Drop for RunHandle {
 }
 
 impl RunHandle {
+    /// Whether the run that is out has this number.
+    pub(crate) fn is_of(&self, run: u32) -> bool
+        ensures { IsTrue result → IsOf run self.now.held }
+    {
+        match &self.held {
+            HeldRun::Out(its) => its.number() == run,
+            HeldRun::Stopped(stopped) => stopped.number() == run,
+            HeldRun::Spent => false,
+        }
+    }
+
     /// No run yet.
     pub fn none() -> Self
         ensures { result ≡ record { number = 0; freeze = 0; held = HeldRun.Spent } }

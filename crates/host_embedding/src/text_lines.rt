@@ -57,8 +57,8 @@ fn line(entry: &Record) -> Option<Text>
     }
 }
 
-// The record of that number, which was not handed on.
-fn entry(engine: &Engine, number: u64) -> &Record
+/// The record of that number, which was not handed on.
+pub(crate) fn entry(engine: &Engine, number: u64) -> &Record
     requires kept { engine.now.taken ≤ number }
     requires there { number < length engine.now.history }
     ensures { result.now ≡ slice_index_or engine.now.history number result.now }

@@ -7,6 +7,7 @@ use Rattle.engine_core.specs.EngineState.{EngineState, opened}
 use Rattle.manifest.specs.Meaning.{Named, Means, HasFault}
 use Rattle.manifest.specs.declared.fault.ManifestFault.{ManifestFault}
 use Rattle.host_embedding.specs.Succession.{IsSucceeded}
+use Rattle.host_embedding.specs.declared.hosted_engine.HostedEngine.{HostedEngine}
 use Rattle.host_embedding.specs.declared.call_result.CallResult.{CallResult}
 use Rattle.host_embedding.specs.declared.call_result.CallResult.TheVariants as results
 use Rattle.host_opening.specs.declared.opening.OpenFault.{OpenFault}
@@ -27,9 +28,9 @@ abbrev pub IsRead : List ℕ → Result Setup OpenFault → Type 0
 IsRead text (Ok setup) = (programs : List Named) × Means text setup programs
 IsRead text (Err fault) = IsUnread text fault
 
--- such an engine, or why there is none
-abbrev pub Opens : List ℕ → Result (Box EngineState) OpenFault → Type 0
-Opens text (Ok handle) = IsEngineOf text handle.value
+-- such an engine, of which no run is to be taken, or why there is none
+abbrev pub Opens : List ℕ → Result (Box HostedEngine) OpenFault → Type 0
+Opens text (Ok handle) = IsEngineOf text handle.value.engine × (handle.value.left.items ≡ [])
 Opens text (Err fault) = IsUnread text fault
 
 -- no run is live, and nothing changed

@@ -6,7 +6,7 @@ ghost use Rattle.host_opening.specs.Opened.{IsRead, Opens, Succeeds};
 use base::OrMemory;
 use engine_config::Config;
 use engine_core::Engine;
-use host_embedding::{CallResult, EngineHandle, Numbering, put_front};
+use host_embedding::{CallResult, EngineHandle, HostedEngine, Numbering, put_front};
 use manifest::{ManifestFault, read};
 use std::alloc::Global;
 
@@ -20,7 +20,7 @@ pub enum OpenFault {
 }
 
 /// Opens an engine of a manifest's text, with an empty history.
-pub fn open(alloc: Global, text: &[u8]) -> Result<Box<EngineHandle>, OpenFault>
+pub fn open(alloc: Global, text: &[u8]) -> Result<Box<HostedEngine>, OpenFault>
     ensures { Opens text.now result }
 {
     let config = config_of(alloc, text)?;
@@ -28,7 +28,8 @@ pub fn open(alloc: Global, text: &[u8]) -> Result<Box<EngineHandle>, OpenFault>
         Ok(engine) => engine,
         Err(_) => return Err(OpenFault::OutOfMemory),
     };
-    match Box::new(alloc, EngineHandle::new(alloc, engine)) {
+    let hosted = HostedEngine::new(alloc, EngineHandle::new(alloc, engine));
+    match Box::new(alloc, hosted) {
         Ok(handle) => Ok(handle),
         Err(_) => Err(OpenFault::OutOfMemory),
     }
@@ -55,8 +56,8 @@ pub fn succeed(
     }
 }
 
-// The configuration that a manifest's text says.
-fn config_of(alloc: Global, text: &[u8]) -> Result<Config, OpenFault>
+/// The configuration that a manifest's text says.
+pub(crate) fn config_of(alloc: Global, text: &[u8]) -> Result<Config, OpenFault>
     ensures { IsRead text.now result }
 {
     let Ok(text) = str::from_utf8(text) else {

@@ -1,13 +1,37 @@
 // The calls of a host as they are, each with what it answers: their clauses stay here, so that the checks are proved without them.
 
 use ccb::{CamStatus, CcbId, Completion, Place, QueueId};
-use host_embedding::{CallResult, EngineHandle, Numbering, PutLines, RunHandle};
-use host_opening::{ManifestFault, OpenFault, open};
+use host_embedding::{CallResult, EngineHandle, HostedEngine, Numbering, PutLines, RunHandle};
+use host_opening::{ManifestFault, OpenFault, RecoverFault, open, put_recover_fault, recover};
 use std::alloc::Global;
 
 /// An engine of a manifest's text.
-pub fn opened(alloc: Global, manifest: &[u8]) -> Result<Box<EngineHandle>, OpenFault> {
+pub fn opened(alloc: Global, manifest: &[u8]) -> Result<Box<HostedEngine>, OpenFault> {
     open(alloc, manifest)
+}
+
+/// An engine of a manifest's text that stands where the text of a trace led.
+pub fn recovered(
+    alloc: Global,
+    manifest: &[u8],
+    text: &[u8],
+) -> Result<Box<HostedEngine>, RecoverFault> {
+    recover(alloc, manifest, text)
+}
+
+/// The next run that was out.
+pub fn take_run(engine: &mut HostedEngine) -> Option<Box<RunHandle>> {
+    engine.take_run()
+}
+
+/// How many bytes of a fault's text are in the place.
+pub fn fault_text(alloc: Global, fault: &RecoverFault, place: &mut [u8]) -> usize {
+    put_recover_fault(alloc, fault, place)
+}
+
+pub fn totals(engine: &EngineHandle) -> (u64, u32, u32, u32) {
+    let totals = engine.totals();
+    (totals.history, totals.frozen, totals.active, totals.runs)
 }
 
 pub fn submit(engine: &mut EngineHandle, queue: u32, retries: u32) -> (CallResult, u32) {

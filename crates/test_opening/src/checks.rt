@@ -5,7 +5,7 @@ use crate::calling::{
     live_runs, opened, park, release, resume, stretch, submit, take,
 };
 use ccb::CamStatus;
-use host_embedding::{CallResult, EngineHandle, PutLines, RunHandle};
+use host_embedding::{CallResult, EngineHandle, HostedEngine, PutLines, RunHandle};
 use host_opening::{OpenFault, put_fault};
 use std::alloc::Global;
 use world_calls::CallRefusal;
@@ -34,7 +34,7 @@ exit
 ";
 
 /// What a recovery leaves of a trace: a CCB that times out is tried again, with one retry fewer.
-const TRACE: &str = "camr-trace 2
+pub const TRACE: &str = "camr-trace 2
 submit 0 0 1 = ccb 1
 dispatch 0 = ccb 1
 complete 1 0b 00 - = run 1 freeze 1
@@ -43,7 +43,7 @@ advance 1 2 helper 4 = 0
 advance 1 2 exit = 7
 ";
 
-const END: &str = "end 6 0 0 0
+pub const END: &str = "end 6 0 0 0
 ";
 
 /// How many results there are.
@@ -51,6 +51,15 @@ const RESULTS: u32 = 25;
 
 pub fn engine_of(alloc: Global) -> Option<Box<EngineHandle>> {
     match opened(alloc, MANIFEST.as_bytes()) {
+        Ok(hosted) => alone(alloc, Box::into_inner(hosted)),
+        Err(_) => None,
+    }
+}
+
+// The engine without what was left to be taken.
+fn alone(alloc: Global, hosted: HostedEngine) -> Option<Box<EngineHandle>> {
+    let HostedEngine { engine, left: _ } = hosted;
+    match Box::new(alloc, engine) {
         Ok(engine) => Some(engine),
         Err(_) => None,
     }
@@ -95,7 +104,9 @@ fn goes_to_another_thread<T: Send>(_handle: &T) -> bool {
 }
 
 pub fn handles_go_from_thread_to_thread(alloc: Global) -> Option<bool> {
-    let engine = engine_of(alloc)?;
+    let Ok(engine) = opened(alloc, MANIFEST.as_bytes()) else {
+        return None;
+    };
     let run = RunHandle::none();
     Some(goes_to_another_thread(&engine) && goes_to_another_thread(&run))
 }

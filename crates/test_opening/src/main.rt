@@ -5,6 +5,7 @@
 
 mod calling;
 mod checks;
+mod recoveries;
 mod successions;
 
 use std::alloc::Global;
@@ -33,10 +34,20 @@ enum Check {
     Records,
     Ccbs,
     InRecovery,
+    Empty,
+    RunOut,
+    ParkedRun,
+    Order,
+    Guests,
+    Ended,
+    Continued,
+    Faults,
+    CarriedFaults,
+    First,
 }
 
 /// All checks, with their names.
-const CHECKS: [(&str, Check); 18] = [
+const CHECKS: [(&str, Check); 28] = [
     ("handles_go_from_thread_to_thread", Check::Handles),
     ("recovers", Check::Recovery),
     ("lines_go_on", Check::Lines),
@@ -55,6 +66,16 @@ const CHECKS: [(&str, Check); 18] = [
     ("records_follow_the_carried_lines", Check::Records),
     ("ccbs_are_listed", Check::Ccbs),
     ("a_ccb_in_recovery_is_listed", Check::InRecovery),
+    ("recovers_an_empty_trace", Check::Empty),
+    ("recovers_a_run_that_is_out", Check::RunOut),
+    ("recovers_a_parked_run", Check::ParkedRun),
+    ("takes_runs_in_order", Check::Order),
+    ("recovers_guests_freezes", Check::Guests),
+    ("recovers_an_ended_trace", Check::Ended),
+    ("recovers_a_continued_trace", Check::Continued),
+    ("faulty_traces", Check::Faults),
+    ("faulty_carried_lines", Check::CarriedFaults),
+    ("faulty_manifests_come_first", Check::First),
 ];
 
 impl Check {
@@ -79,6 +100,16 @@ impl Check {
             Check::Records => successions::records_follow_the_carried_lines(alloc),
             Check::Ccbs => successions::ccbs_are_listed(alloc),
             Check::InRecovery => successions::a_ccb_in_recovery_is_listed(alloc),
+            Check::Empty => recoveries::recovers_an_empty_trace(alloc),
+            Check::RunOut => recoveries::recovers_a_run_that_is_out(alloc),
+            Check::ParkedRun => recoveries::recovers_a_parked_run(alloc),
+            Check::Order => recoveries::takes_runs_in_order(alloc),
+            Check::Guests => recoveries::recovers_guests_freezes(alloc),
+            Check::Ended => recoveries::recovers_an_ended_trace(alloc),
+            Check::Continued => recoveries::recovers_a_continued_trace(alloc),
+            Check::Faults => recoveries::faulty_traces(alloc),
+            Check::CarriedFaults => recoveries::faulty_carried_lines(alloc),
+            Check::First => recoveries::faulty_manifests_come_first(alloc),
         }
     }
 }

@@ -30,8 +30,8 @@ use Rattle.std.proofs.raw_atomic.Walks.{proved_at, leaves}
 use Rattle.std.specs.contracts.alloc.Global as heap
 use Rattle.std.proofs.alloc.Global.TheLaws as heap_laws
 use Rattle.std.specs.contracts.impls.GlobalAllocator.TheImpl.{ghosts}
-use Rattle.engine_core.specs.EngineState.{EngineState as Held}
-use Rattle.host_embedding.specs.contracts.engine_handle.EngineHandle.{the_row as T}
+use Rattle.host_embedding.specs.declared.hosted_engine.HostedEngine.{HostedEngine as Held}
+use Rattle.host_embedding.specs.contracts.hosted_engine.HostedEngine.{the_row as T}
 use Rattle.camr_c.specs.Holding.{holds, chunk}
 use Rattle.camr_c.specs.declared.engine_slot.EngineSlot.{EngineSlot as Handle}
 use Rattle.camr_c.specs.contracts.engine_slot.EngineSlot.{the_row as R}

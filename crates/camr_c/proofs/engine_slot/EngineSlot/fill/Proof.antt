@@ -28,7 +28,7 @@ use Rattle.std.proofs.raw_atomic.Walks.{proved_at}
 use Rattle.std.specs.contracts.alloc.Global as heap
 use Rattle.std.proofs.alloc.Global.TheLaws as heap_laws
 use Rattle.std.specs.contracts.impls.GlobalAllocator.TheImpl.{ghosts}
-use Rattle.host_embedding.specs.contracts.engine_handle.EngineHandle.{the_row as T}
+use Rattle.host_embedding.specs.contracts.hosted_engine.HostedEngine.{the_row as T}
 use Rattle.camr_c.specs.declared.engine_slot.EngineSlot.{EngineSlot as Handle}
 use Rattle.camr_c.specs.contracts.engine_slot.EngineSlot.{the_row as R, the_type}
 use Rattle.camr_c.proofs.engine_slot.EngineSlot.TheLaws.{lowers}

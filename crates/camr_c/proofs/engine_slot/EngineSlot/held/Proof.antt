@@ -29,8 +29,8 @@ use denote.Triple.Walked.{says, Stays, stay_dropped, walk_of, ends_at, Goes-spen
 use Rattle.std_alloc.specs.Box.Ownership.{box_owns}
 use Rattle.std.proofs.VecSteps.Shapes.{after}
 use Rattle.std.proofs.raw_atomic.Walks.{proved}
-use Rattle.engine_core.specs.EngineState.{EngineState as Held}
-use Rattle.host_embedding.specs.contracts.engine_handle.EngineHandle.{the_row as T}
+use Rattle.host_embedding.specs.declared.hosted_engine.HostedEngine.{HostedEngine as Held}
+use Rattle.host_embedding.specs.contracts.hosted_engine.HostedEngine.{the_row as T}
 use Rattle.camr_c.specs.Holding.{holds, chunk}
 use Rattle.camr_c.specs.Lending.{with_engine as with_held}
 use Rattle.camr_c.specs.declared.engine_slot.EngineSlot.{EngineSlot as Handle}

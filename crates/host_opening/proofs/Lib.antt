@@ -1,0 +1,2 @@
+pub mod Recoveries
+pub mod Verdicts

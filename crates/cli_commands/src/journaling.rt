@@ -1,23 +1,29 @@
 // An engine with a journal, and the audit of one, over a disk. It relies on `host_journal` for both, on `fault` for how faults are reported, and
 // on `trace_lines` for numbers.
 
-ghost use Rattle.std.specs.Prelude.{◌≡◌, ◌≢◌, ◌≤◌, ◌⊎◌, ℕ, IsTrue, List, Option, false, option_map};
+ghost use Rattle.std.specs.Prelude.{◌≡◌, ◌≢◌, ◌≤◌, ◌⊎◌, ℕ, IsTrue, List, None, Option, false, option_map, true};
 ghost use Rattle.std.specs.Io.KnownBytes.{Appends, Keeps};
 ghost use Rattle.base.specs.declared.or_memory.OrMemory.{OrMemory as Error};
 ghost use Rattle.host_journal.specs.Audits.{FailsToAudit, IsAudited};
-ghost use Rattle.host_journal.specs.Disks.{IsQuiet, Step};
+ghost use Rattle.host_live.specs.Growth.{StandsBehind};
+ghost use Rattle.host_recovery.specs.declared.recovering.Recovered.{Recovered as TheRecovered};
+ghost use Rattle.host_journal.specs.Disks.{Held, IsQuiet, Step};
+ghost use Rattle.host_journal.specs.declared.beginning.Begun.{Begun as TheBegun};
 ghost use Rattle.host_journal.specs.Starts.{Finds, HasEntered};
 ghost use Rattle.host_journal.specs.declared.auditing.Audited.{Audited as Found};
 ghost use Rattle.host_journal.specs.declared.fault.JournalFault.{JournalFault as Reason};
 ghost use Rattle.host_journal.specs.declared.fault.JournalFault.TheVariants.{Segment};
-ghost use Rattle.cli_commands.specs.Journaling.{IsStatus, IsStatusOf, Starts, audit_text, status_of_fault};
+ghost use Rattle.cli_commands.specs.Journaling.{HasNext, HasOpened, IsNextGiven, IsServedTo, IsStatus, IsStatusOf, Starts, audit_text, status_of_fault};
 
 use crate::fault::Fault;
 use crate::files::write;
 use crate::serving::{INPUT, Telling};
 use base::OrMemory;
+use engine_core::NumberedEngine;
+use engine_succession::Numbering;
 use host_journal::{
-    Audited, Begun, Disk, JournalError, JournalFault, JournalFile, audit, begin, open, serve,
+    Audited, Begun, Disk, JournalError, JournalFault, JournalFile, NextManifest, audit, begin,
+    follow, manifest_of, open, serve,
 };
 use host_live::{Input, Manner};
 use host_recovery::{Recovered, RecoveryFault};
@@ -53,8 +59,11 @@ pub fn serve_journal<D: Disk, I: Input, E: Write>(
         None => "",
     };
     let place = Place { folder, path };
-    match begin(alloc, &mut disk, bytes_of(manifest)) {
-        Ok(begun) => serve_begun(alloc, disk, place, &begun, manner, is_synced, input, err),
+    let given = bytes_of(manifest);
+    match begin(alloc, &mut disk, given) {
+        Ok(begun) => serve_begun(
+            alloc, disk, place, &begun, given, manner, is_synced, input, err,
+        ),
         Err(fault) => (disk, report(alloc, fault, place, err)),
     }
 }
@@ -76,32 +85,98 @@ struct Place<'a> {
     path: &'a str,
 }
 
-// The same of the engine of this segment.
+// The same of the engine of this segment; if that was shut, of the engine of the segment that follows, with the manifest that is given.
 fn serve_begun<D: Disk, I: Input, E: Write>(
     alloc: Global,
     mut disk: D,
     place: Place<'_>,
     begun: &Begun<'_>,
+    given: Option<&[u8]>,
     manner: Manner,
     is_synced: bool,
     input: &mut I,
     err: &mut E,
 ) -> (D, u8)
     ensures status { result.1 ≤ 2 }
-    ensures starts { (given : Option (List ℕ)) (old : Option (List Step)) → Finds (D.held disk) given begun.now → HasEntered given old (D.steps disk) → Starts manner is_synced (D.held disk) given old (I.came input.old) (D.steps result.0) (I.came input.new) result.1 }
+    ensures starts { (old : Option (List Step)) → Finds (D.held disk) (option_map (λ bytes. bytes.now) given.entry) begun.now → HasEntered (option_map (λ bytes. bytes.now) given.entry) old (D.steps disk)
+        → Starts manner is_synced (D.held disk) (option_map (λ bytes. bytes.now) given.entry) old (I.came input.old) (D.steps result.0) (I.came input.new) result.1 }
     ensures read { result.1 ≡ 0 → I.has_failed input.new ≡ I.has_failed input.old }
     ensures ended { manner.is_told ≡ false → result.1 ≡ 0 → IsTrue (I.has_ended input.new) }
 {
-    let recovered = match open(alloc, &mut disk, begun) {
-        Ok(recovered) => recovered,
-        Err(fault) => return (disk, report(alloc, fault, place, err)),
-    };
-    if begun.manifest.is_none() {
-        tell_recovered(&recovered, err);
+    match open(alloc, &mut disk, begun) {
+        Ok(recovered) => serve_opened(
+            alloc, disk, place, begun, recovered, given, manner, is_synced, input, err,
+        ),
+        Err(fault) => (disk, report(alloc, fault, place, err)),
     }
+}
+
+// The same of a segment that was opened.
+fn serve_opened<D: Disk, I: Input, E: Write>(
+    alloc: Global,
+    disk: D,
+    place: Place<'_>,
+    begun: &Begun<'_>,
+    recovered: Recovered<'_>,
+    given: Option<&[u8]>,
+    manner: Manner,
+    is_synced: bool,
+    input: &mut I,
+    err: &mut E,
+) -> (D, u8)
+    requires behind { StandsBehind recovered.records recovered.engine }
+    requires segment { D.segment disk ≡ begun.now.number }
+    ensures status { result.1 ≤ 2 }
+    ensures starts { (held : Held) (old : Option (List Step)) → (recovered.entry.is_ended ≡ true → D.held disk ≡ held) → HasOpened held (option_map (λ bytes. bytes.now) given.entry) old begun.now recovered.entry (D.steps disk)
+        → Starts manner is_synced held (option_map (λ bytes. bytes.now) given.entry) old (I.came input.old) (D.steps result.0) (I.came input.new) result.1 }
+    ensures read { result.1 ≡ 0 → I.has_failed input.new ≡ I.has_failed input.old }
+    ensures ended { manner.is_told ≡ false → result.1 ≡ 0 → IsTrue (I.has_ended input.new) }
+{
+    if recovered.is_ended {
+        return serve_after(
+            alloc,
+            disk,
+            place,
+            begun.number,
+            &recovered.engine,
+            given,
+            manner,
+            is_synced,
+            input,
+            err,
+        );
+    }
+    if begun.manifest.is_none() {
+        report_recovered(&recovered, err);
+    }
+    serve_engine(
+        alloc, disk, place, begun, recovered, manner, is_synced, input, err,
+    )
+}
+
+// Serves the engine of this segment.
+fn serve_engine<D: Disk, I: Input, E: Write>(
+    alloc: Global,
+    disk: D,
+    place: Place<'_>,
+    begun: &Begun<'_>,
+    recovered: Recovered<'_>,
+    manner: Manner,
+    is_synced: bool,
+    input: &mut I,
+    err: &mut E,
+) -> (D, u8)
+    requires behind { StandsBehind recovered.records recovered.engine }
+    requires segment { D.segment disk ≡ begun.now.number }
+    ensures status { result.1 ≤ 2 }
+    ensures served { IsServedTo recovered.entry.engine recovered.entry.records begun.now manner is_synced (D.steps disk) (I.came input.old) (D.steps result.0) (I.came input.new) result.1 }
+    ensures read { result.1 ≡ 0 → I.has_failed input.new ≡ I.has_failed input.old }
+    ensures ended { manner.is_told ≡ false → result.1 ≡ 0 → IsTrue (I.has_ended input.new) }
+{
     let mut telling = Telling { err: &mut *err };
     let Recovered {
         engine,
+        carried: _,
         records,
         whole: _,
         is_ended: _,
@@ -123,10 +198,144 @@ fn serve_begun<D: Disk, I: Input, E: Write>(
     }
 }
 
+// Serves the engine that follows the one of the segment of that number, which was shut, with the manifest that is given, or that of this
+// segment.
+fn serve_after<D: Disk, I: Input, E: Write>(
+    alloc: Global,
+    disk: D,
+    place: Place<'_>,
+    number: u64,
+    engine: &NumberedEngine<'_>,
+    given: Option<&[u8]>,
+    manner: Manner,
+    is_synced: bool,
+    input: &mut I,
+    err: &mut E,
+) -> (D, u8)
+    ensures status { result.1 ≤ 2 }
+    ensures starts { (held : Held) (old : Option (List Step)) (begun : TheBegun) (recovered : TheRecovered) → D.held disk ≡ held → begun.number ≡ number → recovered.engine ≡ engine.now → recovered.is_ended ≡ true
+        → HasOpened held (option_map (λ bytes. bytes.now) given.entry) old begun recovered (D.steps disk)
+        → Starts manner is_synced held (option_map (λ bytes. bytes.now) given.entry) old (I.came input.old) (D.steps result.0) (I.came input.new) result.1 }
+    ensures read { result.1 ≡ 0 → I.has_failed input.new ≡ I.has_failed input.old }
+    ensures ended { manner.is_told ≡ false → result.1 ≡ 0 → IsTrue (I.has_ended input.new) }
+{
+    match given {
+        Some(bytes) => {
+            let manifest = NextManifest::Given(bytes);
+            serve_next(
+                alloc, disk, place, number, engine, manifest, manner, is_synced, input, err,
+            )
+        }
+        None => serve_same(
+            alloc, disk, place, number, engine, manner, is_synced, input, err,
+        ),
+    }
+}
+
+// The same with the manifest of this segment.
+fn serve_same<D: Disk, I: Input, E: Write>(
+    alloc: Global,
+    mut disk: D,
+    place: Place<'_>,
+    number: u64,
+    engine: &NumberedEngine<'_>,
+    manner: Manner,
+    is_synced: bool,
+    input: &mut I,
+    err: &mut E,
+) -> (D, u8)
+    ensures status { result.1 ≤ 2 }
+    ensures starts { (held : Held) (old : Option (List Step)) (begun : TheBegun) (recovered : TheRecovered) → D.held disk ≡ held → begun.number ≡ number → recovered.engine ≡ engine.now → recovered.is_ended ≡ true
+        → HasOpened held None old begun recovered (D.steps disk) → Starts manner is_synced held None old (I.came input.old) (D.steps result.0) (I.came input.new) result.1 }
+    ensures read { result.1 ≡ 0 → I.has_failed input.new ≡ I.has_failed input.old }
+    ensures ended { manner.is_told ≡ false → result.1 ≡ 0 → IsTrue (I.has_ended input.new) }
+{
+    match manifest_of(alloc, &mut disk, number) {
+        Ok(bytes) => {
+            let manifest = NextManifest::Same(bytes.as_slice());
+            serve_next(
+                alloc, disk, place, number, engine, manifest, manner, is_synced, input, err,
+            )
+        }
+        Err(fault) => (disk, report(alloc, fault, place, err)),
+    }
+}
+
+// The same with this manifest.
+fn serve_next<D: Disk, I: Input, E: Write>(
+    alloc: Global,
+    disk: D,
+    place: Place<'_>,
+    number: u64,
+    engine: &NumberedEngine<'_>,
+    manifest: NextManifest<'_>,
+    manner: Manner,
+    is_synced: bool,
+    input: &mut I,
+    err: &mut E,
+) -> (D, u8)
+    ensures status { result.1 ≤ 2 }
+    ensures starts { (held : Held) (given : Option (List ℕ)) (old : Option (List Step)) (begun : TheBegun) (recovered : TheRecovered) → begun.number ≡ number → recovered.engine ≡ engine.now → recovered.is_ended ≡ true
+        → HasOpened held given old begun recovered (D.steps disk) → IsNextGiven given (held.manifests number) manifest.entry
+        → Starts manner is_synced held given old (I.came input.old) (D.steps result.0) (I.came input.new) result.1 }
+    ensures read { result.1 ≡ 0 → I.has_failed input.new ≡ I.has_failed input.old }
+    ensures ended { manner.is_told ≡ false → result.1 ≡ 0 → IsTrue (I.has_ended input.new) }
+{
+    match follow(alloc, number, engine, manifest, Numbering::Same) {
+        Ok(next) => serve_made(alloc, disk, place, &next, manner, is_synced, input, err),
+        Err(fault) => (disk, report(alloc, fault, place, err)),
+    }
+}
+
+// Makes the next segment, and serves its engine.
+fn serve_made<D: Disk, I: Input, E: Write>(
+    alloc: Global,
+    mut disk: D,
+    place: Place<'_>,
+    next: &Begun<'_>,
+    manner: Manner,
+    is_synced: bool,
+    input: &mut I,
+    err: &mut E,
+) -> (D, u8)
+    ensures status { result.1 ≤ 2 }
+    ensures starts { (held : Held) (given : Option (List ℕ)) (old : Option (List Step)) → HasNext held given old next.now (D.steps disk)
+        → Starts manner is_synced held given old (I.came input.old) (D.steps result.0) (I.came input.new) result.1 }
+    ensures read { result.1 ≡ 0 → I.has_failed input.new ≡ I.has_failed input.old }
+    ensures ended { manner.is_told ≡ false → result.1 ≡ 0 → IsTrue (I.has_ended input.new) }
+{
+    match open(alloc, &mut disk, next) {
+        Ok(recovered) => {
+            report_carried(&recovered, err);
+            serve_engine(
+                alloc, disk, place, next, recovered, manner, is_synced, input, err,
+            )
+        }
+        Err(fault) => (disk, report(alloc, fault, place, err)),
+    }
+}
+
 // Reports what was recovered.
-fn tell_recovered<E: Write>(recovered: &Recovered<'_>, err: &mut E) {
+fn report_recovered<E: Write>(recovered: &Recovered<'_>, err: &mut E) {
     let totals = recovered.engine.totals(recovered.records);
     let _ = writeln!(err, "camr: recovered {}", Notice::Sums(totals));
+}
+
+// Reports what was carried over.
+fn report_carried<E: Write>(recovered: &Recovered<'_>, err: &mut E) {
+    let freezes = recovered.engine.totals(0).frozen;
+    let ccbs = count_ccbs(&recovered.engine);
+    let _ = writeln!(err, "camr: carried over {freezes} freezes, {ccbs} CCBs");
+}
+
+// How many CCBs are live.
+fn count_ccbs(engine: &NumberedEngine<'_>) -> usize {
+    for place in 0..usize::MAX {
+        if engine.ccb_at(place).is_none() {
+            return place;
+        }
+    }
+    usize::MAX
 }
 
 /// Replays the segments of a journal, whose folder the disk is, and returns the status: 0 if all are accepted, which is reported on `out`; 1
@@ -204,9 +413,8 @@ fn report_fault<E: Write>(alloc: Global, fault: &JournalFault, place: Place<'_>,
         JournalFault::Segment(number, fault) => {
             report_segment(alloc, *number, fault, place, err)
         }
-        JournalFault::Ended(number) => {
-            tell(writeln!(err, "camr: {number:06}.trace ended").is_ok())
-        }
+        JournalFault::RunLive => refuse("N3", err),
+        JournalFault::DoesNotFit => refuse("N4", err),
         JournalFault::NotContinued(number) => {
             tell(writeln!(err, "camr: {number:06}.trace X5").is_ok())
         }

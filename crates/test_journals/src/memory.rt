@@ -121,15 +121,19 @@ impl Memory {
         self.make(name, bytes).map_err(|_| DiskFault::OutOfMemory)
     }
 
-    /// The bytes of the first segment.
+    // The bytes of a file.
+    fn bytes_of(&self, name: &str) -> Option<&[u8]> {
+        match self.files.iter().find(|file| file.name.as_str() == name) {
+            Some(file) => Some(file.bytes.as_slice()),
+            None => None,
+        }
+    }
+
+    /// The bytes of the newest segment, which is the first or the second one.
     pub(crate) fn segment(&self) -> &[u8] {
-        match self
-            .files
-            .iter()
-            .find(|file| file.name.as_str() == "000001.trace")
-        {
-            Some(file) => file.bytes.as_slice(),
-            None => &[],
+        match self.bytes_of("000002.trace") {
+            Some(bytes) => bytes,
+            None => self.bytes_of("000001.trace").unwrap_or(&[]),
         }
     }
 
@@ -271,6 +275,7 @@ impl Disk for Memory {
     fn make_segment(&mut self, number: u64, bytes: &[u8]) -> Result<(), DiskFault> {
         let name = format!(in self.alloc; "{number:06}.trace").map_err(|_| DiskFault::OutOfMemory)?;
         self.make_whole(name, bytes)?;
+        self.from = 0;
         self.open_segment(number)
     }
 

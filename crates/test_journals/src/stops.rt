@@ -95,12 +95,15 @@ fn served(alloc: Global, disk: Memory, input: &'static [u8], is_synced: bool) ->
     )
 }
 
-// Whether an audit accepts the journal.
+// Whether an audit accepts the journal, whose last segment is open if a run was live at the end of the input.
 fn is_accepted(alloc: Global, disk: &mut Memory) -> bool {
     let mut out = Vec::new(alloc);
     let mut err = Vec::new(alloc);
     let status = audit_journal(alloc, disk, "DIR", &mut out, &mut err);
-    status == 0 && out.as_slice().ends_with(b" records, accepted, open\n")
+    let text = out.as_slice();
+    let is_told = text.ends_with(b" records, accepted\n")
+        || text.ends_with(b" records, accepted, open\n");
+    status == 0 && is_told
 }
 
 // A copy of so many bytes from the front.
@@ -111,15 +114,18 @@ fn front_of(alloc: Global, bytes: &[u8], count: usize) -> Option<Vec<u8>> {
     }
 }
 
-// Whether a start after the stop goes on from what stands there whole, and puts out just what it adds.
+// Whether a start after the stop goes on from what stands there whole, in a segment that follows if this one has its end, and puts out just
+// what it adds.
 fn goes_on(alloc: Global, mut disk: Memory, is_synced: bool) -> Option<bool> {
     disk.restart();
     let from = disk.from;
     let whole = disk.segment();
     let before = front_of(alloc, whole, from)?;
     let (mut disk, status) = served(alloc, disk, MORE, is_synced);
+    let from = disk.from;
+    let before = before.as_slice().get(..from).unwrap_or(&[]);
     let segment = disk.segment();
-    let is_more = segment.starts_with(before.as_slice()) && segment.len() > from;
+    let is_more = segment.starts_with(before) && segment.len() > from;
     let is_told = segment.get(from..) == Some(disk.out.as_slice());
     Some(status == 0 && !disk.is_early && is_more && is_told && is_accepted(alloc, &mut disk))
 }

@@ -109,6 +109,24 @@ pub(crate) const SCENARIOS: &[Explanation] = &[
         example: "grelease 1",
         mended: "gfreeze 0 7\ngrelease 1",
     },
+    // N3
+    Explanation {
+        meaning: "of `camr live` alone: the line asks for another engine while a run is live",
+        cause: "a run is parked, or stays out",
+        advice: None,
+        shown: Shown::Command,
+        example: "printf 'rotate\\n' | camr live --step --journal DIR",
+        mended: "printf 'drive 1\\nrotate\\n' | camr live --step --journal DIR",
+    },
+    // N4
+    Explanation {
+        meaning: "of `camr live` alone: the manifest lacks a queue or a controller that a live CCB or a freeze names",
+        cause: "a queue was taken out of the manifest while one of its CCBs waits",
+        advice: None,
+        shown: Shown::Command,
+        example: "camr live --journal DIR fewer.toml",
+        mended: "camr live --journal DIR",
+    },
 ];
 
 /// The codes from J1 on, of journals.

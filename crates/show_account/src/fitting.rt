@@ -3,19 +3,37 @@
 
 use ccb::{Place, QueueId};
 use engine_config::Config;
-use show_events::{Event, Filter, RefusedFilter, SenseFilter};
+use show_events::{Event, Filter, RefusedFilter, SenseFilter, Subject};
 use show_sense::sense_code;
 
 /// Whether the event fits all that is wanted.
 pub fn fits(filter: &Filter, event: &Event, config: &Config) -> bool {
-    is_wanted(filter.ccb, event.subject.ccb)
-        && is_wanted(filter.run, event.subject.run)
-        && is_wanted(filter.freeze, event.subject.freeze)
-        && is_at(filter.queue, event.subject.place, config)
-        && filter.from.is_none_or(|from| from <= event.clock)
-        && filter.to.is_none_or(|to| event.clock <= to)
+    is_about(filter, &event.subject, event.clock, config)
         && has_reported(filter, event)
         && is_refused(filter.refused, event)
+}
+
+/// Whether something that was there at that clock reading, and is no event, fits all that is wanted.
+pub(crate) fn fits_carried(
+    filter: &Filter,
+    subject: &Subject,
+    clock: u64,
+    config: &Config,
+) -> bool {
+    is_about(filter, subject, clock, config)
+        && filter.status.is_none()
+        && filter.sense.is_none()
+        && filter.refused.is_none()
+}
+
+// Whether it is about what is wanted, and within the times that are wanted.
+fn is_about(filter: &Filter, subject: &Subject, clock: u64, config: &Config) -> bool {
+    is_wanted(filter.ccb, subject.ccb)
+        && is_wanted(filter.run, subject.run)
+        && is_wanted(filter.freeze, subject.freeze)
+        && is_at(filter.queue, subject.place, config)
+        && filter.from.is_none_or(|from| from <= clock)
+        && filter.to.is_none_or(|to| clock <= to)
 }
 
 // Whether it is a completion that reports what is wanted of completions, or nothing is.

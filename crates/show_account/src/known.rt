@@ -1,8 +1,10 @@
-// Which numbers there are in a trace: CCBs, runs and freezes are numbered from 1. It relies on `show_events` for what is wanted.
+// Which numbers there are in a trace: CCBs, runs and freezes are numbered from 1, and in a continued trace go on from the greatest numbers
+// that were given before it. It relies on `show_events` for what is wanted, and on `world_calls` for what was carried over.
 
 use cli_text_page::Page;
 use engine_config::Config;
 use show_events::{Event, Filter, Happening};
+use world_calls::CarriedLine;
 
 /// The greatest numbers that came up to some record.
 #[derive(Clone, Copy, Default)]
@@ -26,16 +28,25 @@ impl Known {
         self.freeze = self.freeze.max(subject.freeze.unwrap_or(0));
     }
 
-    /// What of all that is wanted is not there at all.
-    pub fn missing(&self, filter: &Filter, config: &Config) -> Missing {
+    /// What of all that is wanted is not there at all, in a trace with these carried lines.
+    pub fn missing(
+        &self,
+        filter: &Filter,
+        config: &Config,
+        carried: Option<&[CarriedLine]>,
+    ) -> Missing {
+        let lines = carried.unwrap_or(&[]);
+        let last = last_of(lines);
+        let has_ccb = has_ccb(filter.ccb, lines);
+        let has_freeze = has_freeze(filter.freeze, lines);
         Missing {
             queue: match filter.queue {
                 Some(queue) if u32::from(queue) >= config.queues() => Some(u64::from(queue)),
                 _ => None,
             },
-            ccb: unknown(filter.ccb, self.ccb),
-            run: unknown(filter.run, self.run),
-            freeze: unknown(filter.freeze, self.freeze),
+            ccb: unknown(filter.ccb, last.ccb, self.ccb, has_ccb),
+            run: unknown(filter.run, last.run, self.run, false),
+            freeze: unknown(filter.freeze, last.freeze, self.freeze, has_freeze),
         }
     }
 }
@@ -59,11 +70,53 @@ impl Missing {
     }
 }
 
-// The number that is wanted, if there is none of that number.
-fn unknown(wanted: Option<u32>, greatest: u32) -> Option<u64> {
-    match wanted {
-        Some(number) if number == 0 || number > greatest => Some(u64::from(number)),
-        _ => None,
+// The greatest numbers that were given before the trace.
+fn last_of(lines: &[CarriedLine]) -> Known {
+    for line in lines {
+        if let CarriedLine::Numbers { ccb, freeze, run } = line {
+            return Known {
+                ccb: *ccb,
+                run: *run,
+                freeze: *freeze,
+            };
+        }
+    }
+    Known::default()
+}
+
+// Whether a CCB of that number was carried over.
+fn has_ccb(wanted: Option<u32>, lines: &[CarriedLine]) -> bool {
+    for line in lines {
+        if let CarriedLine::Ccb(it) = line {
+            if wanted == Some(it.number.0) {
+                return true;
+            }
+        }
+    }
+    false
+}
+
+// Whether a freeze of that number was carried over.
+fn has_freeze(wanted: Option<u32>, lines: &[CarriedLine]) -> bool {
+    for line in lines {
+        if let CarriedLine::Freeze(it) = line {
+            if wanted == Some(it.number) {
+                return true;
+            }
+        }
+    }
+    false
+}
+
+// The number that is wanted, if there is none of that number: it was not carried over, and not given in the trace, whose numbers come after
+// the last one and go up to the greatest one.
+fn unknown(wanted: Option<u32>, last: u32, greatest: u32, is_carried: bool) -> Option<u64> {
+    let number = wanted?;
+    let is_given = last < number && number <= greatest;
+    if is_given || is_carried {
+        None
+    } else {
+        Some(u64::from(number))
     }
 }
 

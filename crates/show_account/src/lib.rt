@@ -2,12 +2,14 @@
 // which of them are wanted, and on `cli_text_page` for the page that the lines are put on.
 #![tactic(auto)]
 
+mod carried;
 mod fitting;
 mod known;
 mod line;
 mod names;
 mod writing;
 
+pub use carried::put_carried_sums;
 pub use fitting::fits;
 pub use known::{Known, Missing};
 pub use line::{put_code, put_failure, put_why_not};

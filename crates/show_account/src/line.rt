@@ -2,7 +2,7 @@
 // statuses and sense data.
 
 use crate::names::{failure_of, name_of_code, status_name};
-use ccb::{CallRefusal, CamStatus};
+use ccb::{CallRefusal, CamStatus, Place};
 use cli_text_page::Page;
 use show_events::{Cause, Event, Programs, Subject, Values};
 use show_sense::{put_scsi_status, put_sense, sense_code};
@@ -12,9 +12,26 @@ const TIME: usize = 6;
 
 /// Puts the line of an event after what is there; the place of each is padded to that many bytes.
 pub(crate) fn put_line(event: &Event, programs: &Programs<'_>, width: usize, page: &mut Page) {
-    put_time(event.clock, page);
-    put_place(&event.subject, width, page);
+    let subject = &event.subject;
+    let nowhere = if subject.ccb.is_none() && subject.run.is_none() {
+        "clock"
+    } else {
+        "-"
+    };
+    put_head(event.clock, subject.place, nowhere, width, page);
     put_text(event, programs, page);
+}
+
+/// Puts what stands before the text of a line: when it was, and where, or this word if it was nowhere.
+pub(crate) fn put_head(
+    clock: u64,
+    place: Option<Place>,
+    nowhere: &str,
+    width: usize,
+    page: &mut Page,
+) {
+    put_time(clock, page);
+    put_place(place, nowhere, width, page);
 }
 
 // A time, with blanks before it.
@@ -27,19 +44,15 @@ fn put_time(clock: u64, page: &mut Page) {
     page.fill("{} ms  ", &[clock]);
 }
 
-// Where it was, with blanks after it: `clock`, if it is about nothing else, and `-`, if the place is not known.
-fn put_place(subject: &Subject, width: usize, page: &mut Page) {
+// Where it was, with blanks after it.
+fn put_place(place: Option<Place>, nowhere: &str, width: usize, page: &mut Page) {
     let before = page.len();
-    match subject.place {
+    match place {
         Some(place) => {
             page.text(place.kind_word());
             page.fill(" {}", &[u64::from(place.number())]);
         }
-        None => page.text(if subject.ccb.is_none() && subject.run.is_none() {
-            "clock"
-        } else {
-            "-"
-        }),
+        None => page.text(nowhere),
     }
     let wide = page.len().saturating_sub(before);
     page.blanks(width.saturating_sub(wide));
@@ -220,6 +233,7 @@ fn put_cause(cause: Cause, page: &mut Page) {
             page.text(failure_of(status));
         }
         Cause::Guest(guest) => page.fill("guest {} took it", &[u64::from(guest)]),
+        Cause::CarriedOver => page.text("it was carried over"),
     }
 }
 

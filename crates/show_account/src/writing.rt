@@ -1,5 +1,7 @@
-// The account of a whole trace, or of what of it is wanted. It relies on `show_events` for the events, and on `line` for their lines.
+// The account of a whole trace, or of what of it is wanted. It relies on `show_events` for the events, on `line` for their lines, and on
+// `carried` for what was carried over.
 
+use crate::carried::put_carried;
 use crate::fitting::fits;
 use crate::known::Known;
 use crate::line::put_line;
@@ -12,10 +14,11 @@ use std::io::Write;
 use world_calls::Record;
 
 /// Writes a line for each event of a trace of this configuration that fits the filter: the clock in milliseconds, the queue or the
-/// controller, and what happened. If none fits it says so, and if there is no such queue, CCB, run or freeze it says that. The programs
-/// are the manifest's, with their names. The trace is one that a replay accepts, or is open. Of its lines it keeps nothing: what it takes
-/// is for what is live, and a byte for each CCB. It fails if memory is refused, as such an error, or if the writer does; some may be out
-/// then.
+/// controller, and what happened. Of a continued trace it first writes what was carried over: a line with the sums, and one for each CCB, each
+/// freeze, each word and each changed number of openings that fits. If no event fits it says so, and if there is no such queue, CCB, run or
+/// freeze it says that. The programs are the manifest's, with their names. The trace is one that a replay accepts, or is open. Of its lines it
+/// keeps nothing: what it takes is for what is live or was carried over, and a byte for each CCB that was submitted. It fails if memory is
+/// refused, as such an error, or if the writer does; some may be out then.
 pub fn account<'a, W: Write>(
     alloc: Global,
     config: &'a Config,
@@ -24,7 +27,7 @@ pub fn account<'a, W: Write>(
     filter: &Filter,
     out: &mut W,
 ) -> io::Result<()> {
-    let mut telling = Telling::open(alloc, config, named)?;
+    let mut telling = Telling::open(alloc, config, named, shown)?;
     telling.write(shown, filter, out)
 }
 
@@ -45,11 +48,12 @@ impl<'a> Telling<'a> {
         alloc: Global,
         config: &'a Config,
         named: &'a [NamedAccepted<'a>],
-    ) -> Result<Self, AllocError> {
+        shown: Shown<'_>,
+    ) -> io::Result<Self> {
         Ok(Telling {
             config,
             programs: Programs::new(alloc, config, named)?,
-            walk: Walk::open(alloc, config)?,
+            walk: Walk::of(alloc, config, shown)?,
             events: Vec::new(alloc),
             known: Known::default(),
             page: Page::new(alloc),
@@ -63,6 +67,10 @@ impl<'a> Telling<'a> {
         filter: &Filter,
         out: &mut W,
     ) -> io::Result<()> {
+        if let Some(lines) = shown.carried {
+            let width = width_of(self.config);
+            put_carried(lines, filter, self.config, width, &mut self.page);
+        }
         let mut has_any = false;
         for record in shown.trace.records.iter() {
             if self.goes_on(record, filter)? {
@@ -73,7 +81,9 @@ impl<'a> Telling<'a> {
         if !has_any {
             self.page.text("no event fits\n");
         }
-        self.known.missing(filter, self.config).put(&mut self.page);
+        self.known
+            .missing(filter, self.config, shown.carried)
+            .put(&mut self.page);
         if let Ending::Open | Ending::Cut = shown.ending {
             self.page.fill(shown.words(), &[shown.line()]);
             self.page.text("\n");

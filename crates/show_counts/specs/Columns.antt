@@ -1,9 +1,12 @@
 -- What the columns of a summary are: how many records are so.
-use Rattle.std.specs.Prelude.{◌≡◌, ℕ, ◌+◌, ◌*◌, ◌<◌, ◌==◌, ◌&&◌, nat_lt, Bool, false, List, [], ◌∷◌, Option, Some, None, count_by, length, slice_index_or, if◌then◌else◌}
+use Rattle.std.specs.Prelude.{◌≡◌, ℕ, ◌+◌, ◌*◌, ◌<◌, ◌==◌, nat_lt, Bool, false, List, [], ◌∷◌, Option, Some, None, count_by, length, slice_index_or, if◌then◌else◌}
+use Rattle.std.specs.BTreeMap.{BTreeMap, get}
+use Rattle.std.specs.Ordering.{nat_cmp}
+use Rattle.world_calls.specs.declared.carried_line.CarriedLine.{CarriedLine}
 use Rattle.world_calls.specs.declared.record.Record.{Record}
 use Rattle.show_counts.specs.declared.cells.Rows.{Rows}
 use Rattle.show_counts.specs.declared.cells.Rows.TheVariants as rows
-use Rattle.show_counts.specs.Told.{submission, recovery}
+use Rattle.show_counts.specs.Told.{carried, submission, recovery}
 
 -- that number, if it is told of this one
 abbrev pub told_of : ℕ → Option (ℕ × ℕ) → Option ℕ
@@ -19,9 +22,14 @@ abbrev pub first_told : (Record → Option (ℕ × ℕ)) → ℕ → List Record
 first_told tells number [] = None
 first_told tells number (record_ ∷ records) = or_later (told_of number (tells record_)) (first_told tells number records)
 
--- the queue of a CCB: that of the submission that was answered by it
-abbrev pub queue_of : List Record → ℕ → Option ℕ
-queue_of records ccb = first_told submission ccb records
+-- the queue of a CCB that lines carry over
+abbrev pub carried_queue : ℕ → List CarriedLine → Option ℕ
+carried_queue ccb [] = None
+carried_queue ccb (line ∷ lines) = or_later (told_of ccb (carried line)) (carried_queue ccb lines)
+
+-- the queue of a CCB: the one with which it was carried over, or that of the submission that was answered by it
+abbrev pub queue_of : List CarriedLine → List Record → ℕ → Option ℕ
+queue_of lines records ccb = or_later (carried_queue ccb lines) (first_told submission ccb records)
 
 -- the CCB of a run: that of the completion that was answered by it
 abbrev pub ccb_of : List Record → ℕ → Option ℕ
@@ -32,8 +40,8 @@ and_then None next = None
 and_then (Some it) next = next it
 
 -- the queue of a run is that of its CCB
-abbrev pub queue_of_run : List Record → ℕ → Option ℕ
-queue_of_run records run = and_then (ccb_of records run) (queue_of records)
+abbrev pub queue_of_run : List CarriedLine → List Record → ℕ → Option ℕ
+queue_of_run lines records run = and_then (ccb_of records run) (queue_of lines records)
 
 -- the cell of a table with so many columns, in the row of a queue
 abbrev pub cell : ℕ → Option ℕ → ℕ → Option ℕ
@@ -51,15 +59,15 @@ second_told None = None
 second_told (Some pair) = Some pair.1
 
 -- what a table has at a number
-abbrev pub at : List (Option ℕ) → ℕ → Option ℕ
-at table number = slice_index_or table number None
+unfoldable pub at : BTreeMap ℕ ℕ → ℕ → Option ℕ
+at table number = get nat_cmp table number
 
 -- the queue of a run by a table of runs and one of CCBs
-abbrev pub at_both : List (Option ℕ) → List (Option ℕ) → ℕ → Option ℕ
+abbrev pub at_both : BTreeMap ℕ ℕ → BTreeMap ℕ ℕ → ℕ → Option ℕ
 at_both ccbs runs run = and_then (at runs run) (at ccbs)
 
 -- the cell of what is told, by its row
-abbrev pub cell_by : Rows → List (Option ℕ) → List (Option ℕ) → ℕ → Option (ℕ × ℕ) → Option ℕ
+abbrev pub cell_by : Rows → BTreeMap ℕ ℕ → BTreeMap ℕ ℕ → ℕ → Option (ℕ × ℕ) → Option ℕ
 cell_by rows.Told ccbs runs columns pair = second_told pair
 cell_by rows.OfCcb ccbs runs columns pair = cell_of columns (at ccbs) pair
 cell_by rows.OfRun ccbs runs columns pair = cell_of columns (at_both ccbs runs) pair

@@ -1,19 +1,24 @@
--- What a record tells that is counted.
-use Rattle.std.specs.Prelude.{◌≡◌, ℕ, ◌==◌, List, [], ◌∷◌, Option, Some, None, if◌then◌else◌}
+-- What a record tells that is counted, and what a carried line tells.
+use Rattle.std.specs.Prelude.{ℕ, ◌==◌, Option, Some, None, if◌then◌else◌}
 use Rattle.ccb.specs.Status.{code_of}
-use Rattle.ccb.specs.Completion.{Outcome}
-use Rattle.helpers.specs.declared.table.Helper.{Helper as TheHelper}
 use Rattle.helpers.specs.Table.{number_of}
 use Rattle.world_calls.specs.declared.call.Call.{Call}
 use Rattle.world_calls.specs.declared.call.Call.TheVariants.{Submit, Dispatch, Complete}
 use Rattle.world_calls.specs.declared.call_answer.CallAnswer.{CallAnswer}
 use Rattle.world_calls.specs.declared.call_answer.CallAnswer.TheVariants.{Ccb, Done, Started}
+use Rattle.world_calls.specs.declared.carried_line.CarriedLine.{CarriedLine}
+use Rattle.world_calls.specs.declared.carried_line.CarriedLine.TheVariants as lines
 use Rattle.world_calls.specs.declared.record.Record.{Record}
 use Rattle.world_calls.specs.declared.record.Record.TheVariants.{Called, Advance}
 use Rattle.world_calls.specs.declared.record.StoppedAt.{StoppedAt}
 use Rattle.show_counts.specs.declared.told.Tells.{Tells}
 use Rattle.show_counts.specs.declared.told.Tells.TheVariants as tells
 use Rattle.world_calls.specs.declared.record.StoppedAt.TheVariants.{Helper, Trace, Finish, Exit}
+
+-- a CCB that a line carries over, and its queue
+abbrev pub carried : CarriedLine → Option (ℕ × ℕ)
+carried (lines.Ccb it) = Some (it.number.0, it.queue.0)
+carried line = None
 
 -- a pair of numbers, if there are both
 abbrev pub pair_with : Option ℕ → ℕ → Option (ℕ × ℕ)

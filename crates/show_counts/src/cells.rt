@@ -1,7 +1,9 @@
 // In which cell of a table with a row for each queue a record stands. It relies on `told` for what a record tells.
 
-ghost use Rattle.std.specs.Prelude.{◌≡◌, ◌+◌, ◌*◌, ◌^◌, ◌≤◌, None, slice_index_or};
+ghost use Rattle.std.specs.Prelude.{◌≡◌, ◌+◌, ◌*◌, ◌^◌, ◌≤◌, None};
 ghost use Rattle.show_counts.specs.Columns.{at, at_both, cell, cell_by, cell_of, second_told};
+
+use std::collections::BTreeMap;
 
 /// By what the row of a record is found.
 #[derive(Clone, Copy, PartialEq, Eq)]
@@ -17,18 +19,16 @@ pub(crate) enum Rows {
 /// Of which queue each CCB is, and of which CCB each run, by their numbers.
 #[derive(Clone, Copy)]
 pub(crate) struct Found<'a> {
-    pub(crate) ccbs: &'a [Option<u32>],
-    pub(crate) runs: &'a [Option<u32>],
+    pub(crate) ccbs: &'a BTreeMap<u32, u32>,
+    pub(crate) runs: &'a BTreeMap<u32, u32>,
 }
 
 /// What a table has at a number.
-pub(crate) fn at(table: &[Option<u32>], number: u32) -> Option<u32>
+#[tactic(auto, unfolding(crate::specs::Columns::at))]
+pub(crate) fn at(table: &BTreeMap<u32, u32>, number: u32) -> Option<u32>
     ensures { result ≡ at table.now number }
 {
-    match table.get(number as usize) {
-        Some(it) => *it,
-        None => None,
-    }
+    table.get(&number).copied()
 }
 
 // The queue of a run.

@@ -6,12 +6,12 @@ ghost use Rattle.show_counts.specs.Told.{completion, failure, finish, helper_cal
 ghost use Rattle.show_counts.specs.declared.counts.TheConstants.{CODES, HELPERS};
 
 use crate::cells::{Found, Rows};
-use crate::first::first_told;
+use crate::first::{ccbs_of, runs_of};
 use crate::tally::tally;
 use crate::told::Tells;
 use base_chunked_list::ChunkedList;
 use std::alloc::{AllocError, Global};
-use world_calls::Record;
+use world_calls::{CarriedLine, Record};
 
 /// How many columns a table of status codes or of final codes has: a code is below it.
 pub const CODES: u32 = 64;
@@ -39,24 +39,26 @@ pub struct Counts {
     pub zeros: Vec<u64>,
 }
 
-/// Counts the records of a trace, for so many queues. The queue of a CCB is that of the first submission which was answered by its
-/// number, the CCB of a run that of the first completion which was answered by the run's. A record of another queue is not counted.
-/// While it counts it takes eight bytes for each CCB and each run.
+/// Counts the records of a trace with these carried lines, for so many queues. The queue of a CCB is the one with which it was carried over,
+/// or else that of the first submission which was answered by its number; the CCB of a run is that of the first completion which was
+/// answered by the run's. A record of another queue is not counted. While it counts it takes memory for each CCB and each run, however
+/// great their numbers are.
 pub fn count_records(
     alloc: Global,
     queues: u32,
+    lines: &[CarriedLine],
     records: &ChunkedList<Record>,
 ) -> Result<Counts, AllocError>
     ensures submissions { IfOk result (λ it. AreCounts (λ r. second_told (submission r)) queues records.now.items it.submissions.items) }
     ensures starts { IfOk result (λ it. AreCounts (λ r. second_told (start r)) queues records.now.items it.starts.items) }
-    ensures completions { IfOk result (λ it. AreCounts (λ r. cell_of CODES (queue_of records.now.items) (completion r)) (queues * CODES) records.now.items it.completions.items) }
-    ensures recoveries { IfOk result (λ it. AreCounts (λ r. cell_of 1 (queue_of records.now.items) (failure r)) queues records.now.items it.recoveries.items) }
-    ensures finishes { IfOk result (λ it. AreCounts (λ r. cell_of CODES (queue_of_run records.now.items) (finish r)) (queues * CODES) records.now.items it.finishes.items) }
-    ensures calls { IfOk result (λ it. AreCounts (λ r. cell_of HELPERS (queue_of_run records.now.items) (helper_call r)) (queues * HELPERS) records.now.items it.calls.items) }
-    ensures zeros { IfOk result (λ it. AreCounts (λ r. cell_of HELPERS (queue_of_run records.now.items) (zero_answer r)) (queues * HELPERS) records.now.items it.zeros.items) }
+    ensures completions { IfOk result (λ it. AreCounts (λ r. cell_of CODES (queue_of lines.now records.now.items) (completion r)) (queues * CODES) records.now.items it.completions.items) }
+    ensures recoveries { IfOk result (λ it. AreCounts (λ r. cell_of 1 (queue_of lines.now records.now.items) (failure r)) queues records.now.items it.recoveries.items) }
+    ensures finishes { IfOk result (λ it. AreCounts (λ r. cell_of CODES (queue_of_run lines.now records.now.items) (finish r)) (queues * CODES) records.now.items it.finishes.items) }
+    ensures calls { IfOk result (λ it. AreCounts (λ r. cell_of HELPERS (queue_of_run lines.now records.now.items) (helper_call r)) (queues * HELPERS) records.now.items it.calls.items) }
+    ensures zeros { IfOk result (λ it. AreCounts (λ r. cell_of HELPERS (queue_of_run lines.now records.now.items) (zero_answer r)) (queues * HELPERS) records.now.items it.zeros.items) }
 {
-    let ccbs = first_told(alloc, Tells::Submission, records)?;
-    let runs = first_told(alloc, Tells::Recovery, records)?;
+    let ccbs = ccbs_of(alloc, lines, records)?;
+    let runs = runs_of(alloc, records)?;
     let found = Found {
         ccbs: &ccbs,
         runs: &runs,

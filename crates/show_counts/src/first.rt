@@ -1,53 +1,75 @@
-// What the first record tells of each number that tells anything of it, as a table. It relies on `told` for what a record tells.
+// What is told first of each number of which anything is told, as a table. It relies on `told` for what a line or a record tells.
 
-ghost use Rattle.std.specs.Prelude.{◌≡◌, ◌+◌, ◌^◌, ◌<◌, ◌≤◌, ◌==◌, ℕ, Some, None, IfOk, OnOk, length, slice_index_or};
-ghost use Rattle.show_counts.specs.Columns.{at, first_told, or_later, told_of};
+ghost use Rattle.std.specs.Prelude.{◌≡◌, ℕ, IfOk, OnOk};
+ghost use Rattle.show_counts.specs.Columns.{at, carried_queue, ccb_of, first_told, or_later, queue_of, told_of};
 ghost use Rattle.show_counts.specs.Told.{told_by};
 
-use crate::cells::at;
-use crate::told::Tells;
+use crate::told::{Tells, carried};
 use base_chunked_list::ChunkedList;
 use std::alloc::{AllocError, Global};
-use world_calls::Record;
+use std::collections::BTreeMap;
+use world_calls::{CarriedLine, Record};
 
-/// By each number what the first record tells of it that tells anything. It takes eight bytes a number, up to the greatest.
-pub(crate) fn first_told(
+/// The queue of each CCB that these lines carry over, or that a record submits.
+pub(crate) fn ccbs_of(
     alloc: Global,
-    tells: Tells,
+    lines: &[CarriedLine],
     records: &ChunkedList<Record>,
-) -> Result<Vec<Option<u32>>, AllocError>
-    ensures { IfOk result (λ table. (number : ℕ) → at table.items number ≡ first_told (told_by tells) number records.now.items) }
+) -> Result<BTreeMap<u32, u32>, AllocError>
+    ensures { IfOk result (λ table. (number : ℕ) → at table number ≡ queue_of lines.now records.now.items number) }
 {
-    let mut table = Vec::new(alloc);
-    for record in records.iter() {
-        keep(&mut table, tells.told(record))?;
+    let mut table = queues_of(alloc, lines)?;
+    add_first_told(&mut table, Tells::Submission, records)?;
+    Ok(table)
+}
+
+/// The CCB of each run that a record begins.
+pub(crate) fn runs_of(
+    alloc: Global,
+    records: &ChunkedList<Record>,
+) -> Result<BTreeMap<u32, u32>, AllocError>
+    ensures { IfOk result (λ table. (number : ℕ) → at table number ≡ ccb_of records.now.items number) }
+{
+    let mut table = BTreeMap::new(alloc);
+    add_first_told(&mut table, Tells::Recovery, records)?;
+    Ok(table)
+}
+
+// The queue of each CCB that these lines carry over, by its number.
+fn queues_of(alloc: Global, lines: &[CarriedLine]) -> Result<BTreeMap<u32, u32>, AllocError>
+    ensures { IfOk result (λ table. (number : ℕ) → at table number ≡ carried_queue number lines.now) }
+{
+    let mut table = BTreeMap::new(alloc);
+    for line in lines {
+        keep(&mut table, carried(line))?;
     }
     Ok(table)
 }
 
+// Adds by each number what the first record tells of it that tells anything, where the table has nothing of that number yet.
+fn add_first_told(
+    table: &mut BTreeMap<u32, u32>,
+    tells: Tells,
+    records: &ChunkedList<Record>,
+) -> Result<(), AllocError>
+    ensures { OnOk result ((number : ℕ) → at table.new number ≡ or_later (at table.old number) (first_told (told_by tells) number records.now.items)) }
+{
+    for record in records.iter() {
+        keep(table, tells.told(record))?;
+    }
+    Ok(())
+}
+
 // Keeps what is told, where nothing is kept of that number.
-fn keep(table: &mut Vec<Option<u32>>, pair: Option<(u32, u32)>) -> Result<(), AllocError>
-    ensures { OnOk result ((number : ℕ) → at table.new.items number ≡ or_later (at table.old.items number) (told_of number pair)) }
+#[tactic(auto, unfolding(crate::specs::Columns::at))]
+fn keep(table: &mut BTreeMap<u32, u32>, pair: Option<(u32, u32)>) -> Result<(), AllocError>
+    ensures { OnOk result ((number : ℕ) → at table.new number ≡ or_later (at table.old number) (told_of number pair)) }
 {
     let Some((first, second)) = pair else {
         return Ok(());
     };
-    if at(table, first).is_some() {
-        return Ok(());
+    if !table.contains_key(&first) {
+        let _ = table.insert(first, second)?;
     }
-    make_place(table, first)?;
-    table[first as usize] = Some(second);
     Ok(())
-}
-
-// There is a place for that number.
-fn make_place(table: &mut Vec<Option<u32>>, number: u32) -> Result<(), AllocError>
-    ensures place { OnOk result (number < length table.new.items) }
-    ensures same { (other : ℕ) → at table.new.items other ≡ at table.old.items other }
-{
-    let place = number as usize;
-    if place < table.len() {
-        return Ok(());
-    }
-    table.resize(place + 1, None)
 }

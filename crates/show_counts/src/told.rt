@@ -1,9 +1,10 @@
-// What a record tells that is counted: two numbers, if it tells them. It relies on `world_calls` for records.
+// What a record tells that is counted, and what a carried line tells: two numbers, if it tells them. It relies on `world_calls` for records
+// and lines.
 
 ghost use Rattle.std.specs.Prelude.{◌≡◌};
-ghost use Rattle.show_counts.specs.Told.{ccb_in, code_at, completed_by, completed_in, completion, failure, finish, finished_by, helper_at, helper_call, its_second, pair_with, recovered_by, recovery, run_in, start, started_by, submission, submitted_by, told_by, zero_answer};
+ghost use Rattle.show_counts.specs.Told.{carried, ccb_in, code_at, completed_by, completed_in, completion, failure, finish, finished_by, helper_at, helper_call, its_second, pair_with, recovered_by, recovery, run_in, start, started_by, submission, submitted_by, told_by, zero_answer};
 
-use world_calls::{Call, CallAnswer, Record, StoppedAt};
+use world_calls::{Call, CallAnswer, CarriedLine, Record, StoppedAt};
 
 /// What two numbers a record may tell.
 #[derive(Clone, Copy, PartialEq, Eq)]
@@ -41,6 +42,16 @@ impl Tells {
             Tells::HelperCall => helper_call(entry),
             Tells::ZeroAnswer => zero_answer(entry),
         }
+    }
+}
+
+/// Of a CCB that a line carries over: the CCB, and its queue.
+pub(crate) fn carried(line: &CarriedLine) -> Option<(u32, u32)>
+    ensures { result ≡ carried line.now }
+{
+    match line {
+        CarriedLine::Ccb(it) => Some((it.number.0, it.queue.0)),
+        _ => None,
     }
 }
 

@@ -30,6 +30,8 @@ pub enum Cause {
     },
     /// A guest took it, by the number that it chose.
     Guest(u32),
+    /// It was carried over with its timer, and the engine before this one knew why.
+    CarriedOver,
 }
 
 /// The values of an event, as far as it has them: which ones, `Happening` says of each.

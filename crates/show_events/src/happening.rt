@@ -19,7 +19,7 @@ pub enum Happening {
     Failed,
     /// The CCB failed, and the run begins without a freeze.
     FailedAtLimit,
-    /// A completion was refused. The CCB has its queue if it was ever submitted.
+    /// A completion was refused. The CCB has its queue if it was ever carried over or submitted.
     NotCompleted,
     /// A guest took the freeze.
     FrozenByGuest,

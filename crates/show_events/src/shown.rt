@@ -1,6 +1,6 @@
 // A trace that is to be shown. It relies on `world_calls` for traces.
 
-use world_calls::Trace;
+use world_calls::{CarriedLine, Trace};
 
 /// How a trace ends: with its last line; without it; or within a line.
 #[derive(Clone, Copy)]
@@ -10,9 +10,10 @@ pub enum Ending {
     Cut,
 }
 
-/// A trace as far as it goes, and how it ends.
+/// A trace as far as it goes, with the lines of what its engine took over, if it took over anything, and how it ends.
 #[derive(Clone, Copy)]
 pub struct Shown<'a> {
+    pub carried: Option<&'a [CarriedLine]>,
     pub trace: &'a Trace,
     pub ending: Ending,
 }
@@ -27,9 +28,15 @@ impl Shown<'_> {
         }
     }
 
-    /// The number of that line: of the last one that is whole, or of the one that is cut. The first line is before the records.
+    /// The number of that line: of the last one that is whole, or of the one that is cut. The first line is before the records, and so are
+    /// carried lines.
     pub fn line(&self) -> u64 {
-        let whole = (self.trace.records.len() as u64).saturating_add(1);
+        let carried = match self.carried {
+            Some(lines) => lines.len() as u64,
+            None => 0,
+        };
+        let records = self.trace.records.len() as u64;
+        let whole = records.saturating_add(carried).saturating_add(1);
         match self.ending {
             Ending::Cut => whole.saturating_add(1),
             Ending::Whole | Ending::Open => whole,

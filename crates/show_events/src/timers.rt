@@ -94,7 +94,7 @@ impl Walk<'_> {
                 status: _,
                 run,
             } => (Some(ccb), Some(run)),
-            Cause::Guest(_) => (None, None),
+            Cause::Guest(_) | Cause::CarriedOver => (None, None),
         };
         let subject = Subject {
             ccb,

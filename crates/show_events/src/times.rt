@@ -1,10 +1,12 @@
 // What of a trace the world does not say: since when a CCB is where it is, a freeze is there, and a run is live; and the queue of each CCB,
-// also of one that is finished. It relies on `event` for why a freeze is there.
+// also of one that is finished. It relies on `event` for why a freeze is there, and on `world_calls` for what was there from the beginning.
 
 use crate::event::Cause;
 use ccb::{CamStatus, Place, QueueId};
+use freeze_ledger::Holder;
 use std::alloc::{AllocError, Global};
 use std::collections::BTreeMap;
+use world_calls::CarriedLine;
 
 /// Of a freeze: its place, since when it is there, and why.
 #[derive(Clone, Copy)]
@@ -23,23 +25,47 @@ pub struct RunTimes {
     pub instructions: u64,
 }
 
-/// Of all that is live; and of each CCB that was submitted its queue, by its number less 1.
+/// Of all that is live; and of each CCB that was carried over or submitted its queue.
 #[derive(Drop)]
 pub(crate) struct Times {
     pub(crate) ccbs: BTreeMap<u32, u64>,
     pub(crate) freezes: BTreeMap<u32, FreezeTimes>,
     pub(crate) runs: BTreeMap<u32, RunTimes>,
+    // of those that were carried over, by their numbers, none of which is above `last`
+    carried: BTreeMap<u32, u8>,
+    last: u32,
+    // of those that were submitted, whose numbers come after that one
     queues: Vec<u8>,
 }
 
 impl Times {
-    /// Nothing is live, and no CCB was submitted.
+    /// Nothing is live, and no CCB was carried over or submitted.
     pub(crate) fn new(alloc: Global) -> Self {
         Times {
             ccbs: BTreeMap::new(alloc),
             freezes: BTreeMap::new(alloc),
             runs: BTreeMap::new(alloc),
+            carried: BTreeMap::new(alloc),
+            last: 0,
             queues: Vec::new(alloc),
+        }
+    }
+
+    /// Takes a line of what was carried over: a CCB is where it is since that reading, and a freeze is there.
+    pub(crate) fn carry(&mut self, line: &CarriedLine, clock: u64) -> Result<(), AllocError> {
+        match line {
+            CarriedLine::Numbers { ccb, .. } => {
+                self.last = *ccb;
+                Ok(())
+            }
+            CarriedLine::Ccb(it) => {
+                let _ = self.move_ccb(it.number.0, clock)?;
+                let queue = u8::try_from(it.queue.0).unwrap_or(u8::MAX);
+                let _ = self.carried.insert(it.number.0, queue)?;
+                Ok(())
+            }
+            CarriedLine::Freeze(it) => self.take(it.number, it.place, left_by(it.holder), clock),
+            _ => Ok(()),
         }
     }
 
@@ -55,9 +81,13 @@ impl Times {
         Ok(())
     }
 
-    /// The queue to which the CCB of that number was submitted, if there was one.
+    /// The queue of the CCB of that number, if one was carried over or submitted.
     pub(crate) fn queue_of(&self, ccb: u32) -> Option<QueueId> {
-        let queue = self.queues.get(ccb.wrapping_sub(1) as usize)?;
+        let queue = if ccb > self.last {
+            self.queues.get((ccb - self.last - 1) as usize)?
+        } else {
+            self.carried.get(&ccb)?
+        };
         Some(QueueId(u32::from(*queue)))
     }
 
@@ -90,5 +120,13 @@ impl Times {
             let _ = self.freezes.insert(freeze, times)?;
         }
         Ok(())
+    }
+}
+
+// Why a freeze is there that was carried over, by who holds it.
+fn left_by(holder: Holder) -> Cause {
+    match holder {
+        Holder::Guest(guest) => Cause::Guest(guest),
+        Holder::Timer(_) | Holder::Run(_) => Cause::CarriedOver,
     }
 }

@@ -1,16 +1,20 @@
 // The walk along a trace: an engine is led through its records, and each record is told as events. It relies on `engine_core` for the
-// world, and on `called`, `advanced` and `timers` for what a record tells.
+// world, on `engine_succession` for one that begins with carried lines, and on `called`, `advanced` and `timers` for what a record tells.
 
 use crate::event::{Event, Subject, Values};
 use crate::happening::Happening;
+use crate::shown::Shown;
 use crate::times::{FreezeTimes, RunTimes, Times};
 use ccb::Place;
 use engine_config::Config;
 use engine_core::NumberedEngine;
+use engine_succession::{BeginFault, begin_numbered};
 use freeze_ledger::Holder;
 use std::alloc::{AllocError, Global};
 use std::collections::BTreeMap;
-use world_calls::Record;
+use std::io;
+use std::io::ErrorKind;
+use world_calls::{CarriedLine, Record};
 
 /// The world after some records of a trace, with what only time tells.
 #[derive(Drop)]
@@ -23,14 +27,53 @@ pub struct Walk<'a> {
 }
 
 impl<'a> Walk<'a> {
-    /// The world before the first record of a trace of this configuration.
-    pub fn open(alloc: Global, config: &'a Config) -> Result<Self, AllocError> {
-        Ok(Walk {
+    /// The world before the first record of a trace of this configuration: of a continued one, with what its lines carry over, which is
+    /// there since the carried clock reading. None if no engine of the configuration begins with these lines.
+    pub fn open(
+        alloc: Global,
+        config: &'a Config,
+        carried: Option<&[CarriedLine]>,
+    ) -> Result<Option<Self>, AllocError> {
+        let Some(lines) = carried else {
+            let engine = NumberedEngine::open(alloc, config)?;
+            return Ok(Some(Walk::along(alloc, config, engine)));
+        };
+        match begin_numbered(alloc, config, lines) {
+            Ok(engine) => {
+                let mut walk = Walk::along(alloc, config, engine);
+                walk.carry(lines)?;
+                Ok(Some(walk))
+            }
+            Err(BeginFault::DoesNotFit(_)) => Ok(None),
+            Err(BeginFault::OutOfMemory) => Err(AllocError),
+        }
+    }
+
+    /// The same of a trace that is shown. An error of the kind `InvalidInput` if no engine begins so, which no trace has that a replay accepts.
+    pub fn of(alloc: Global, config: &'a Config, shown: Shown<'_>) -> io::Result<Self> {
+        match Walk::open(alloc, config, shown.carried)? {
+            Some(walk) => Ok(walk),
+            None => Err(io::Error::from(ErrorKind::InvalidInput)),
+        }
+    }
+
+    // The walk of an engine that has come to no record.
+    fn along(alloc: Global, config: &'a Config, engine: NumberedEngine<'a>) -> Self {
+        Walk {
             config,
-            engine: NumberedEngine::open(alloc, config)?,
+            engine,
             times: Times::new(alloc),
             came: Vec::new(alloc),
-        })
+        }
+    }
+
+    // Takes what was carried over.
+    fn carry(&mut self, lines: &[CarriedLine]) -> Result<(), AllocError> {
+        let clock = self.engine.clock();
+        for line in lines {
+            self.times.carry(line, clock)?;
+        }
+        Ok(())
     }
 
     /// Goes on by one record, which has to follow as a replay says, and puts what it tells after the events: one event a

@@ -1,6 +1,7 @@
 // The account of a whole trace, or of what of it is wanted, as lines of JSON. It relies on `show_events` for the events, on `show_account` for which
 // of them are wanted, and on `event` for their objects.
 
+use crate::carried::put_carried_line;
 use crate::event::put_event;
 use crate::json::Json;
 use engine_config::Config;
@@ -12,9 +13,9 @@ use std::io::Write;
 use world_calls::Record;
 
 /// Writes an object for each event of a trace of this configuration that fits the filter, a line each, and a last one that says how the trace ends
-/// and what of all that is wanted is not there. The events are those of the account, in its order. The programs are the manifest's, with
-/// their names. The trace is one that a replay accepts, or is open. Of its lines it keeps nothing. It fails if memory is refused, as such an error,
-/// or if the writer does; some may be out then.
+/// and what of all that is wanted is not there. Of a continued trace it first writes one that has all that was carried over, whatever is wanted.
+/// The events are those of the account, in its order. The programs are the manifest's, with their names. The trace is one that a replay accepts,
+/// or is open. Of its lines it keeps nothing. It fails if memory is refused, as such an error, or if the writer does; some may be out then.
 pub fn write_account<'a, W: Write>(
     alloc: Global,
     config: &'a Config,
@@ -23,7 +24,7 @@ pub fn write_account<'a, W: Write>(
     filter: &Filter,
     out: &mut W,
 ) -> io::Result<()> {
-    let mut telling = Telling::open(alloc, config, named)?;
+    let mut telling = Telling::open(alloc, config, named, shown)?;
     telling.write(shown, filter, out)
 }
 
@@ -46,11 +47,12 @@ impl<'a> Telling<'a> {
         alloc: Global,
         config: &'a Config,
         named: &'a [NamedAccepted<'a>],
-    ) -> Result<Self, AllocError> {
+        shown: Shown<'_>,
+    ) -> io::Result<Self> {
         Ok(Telling {
             config,
             programs: Programs::new(alloc, config, named)?,
-            walk: Walk::open(alloc, config)?,
+            walk: Walk::of(alloc, config, shown)?,
             events: Vec::new(alloc),
             known: Known::default(),
             count: 0,
@@ -65,6 +67,9 @@ impl<'a> Telling<'a> {
         filter: &Filter,
         out: &mut W,
     ) -> io::Result<()> {
+        if let Some(lines) = shown.carried {
+            put_carried_line(lines, self.config, &mut self.json);
+        }
         for record in shown.trace.records.iter() {
             self.goes_on(record, filter)?;
             self.json.write_to(out)?;
@@ -89,7 +94,7 @@ impl<'a> Telling<'a> {
 
     // Puts the last line: how many events fit, of how many records, how the trace ends, and what is missing.
     fn put_end(&mut self, shown: Shown<'_>, filter: &Filter) {
-        let missing = self.known.missing(filter, self.config);
+        let missing = self.known.missing(filter, self.config, shown.carried);
         let json = &mut self.json;
         json.begin();
         json.word("kind", "end");

@@ -142,7 +142,7 @@ fn put_freeze(event: &Event, json: &mut Json) {
     }
 }
 
-// Why there was a freeze: a failure with its CCB, its run and its status, or a guest.
+// Why there was a freeze: a failure with its CCB, its run and its status, or a guest; or that it was carried over.
 fn put_cause(cause: Cause, json: &mut Json) {
     json.begin_at("cause");
     match cause {
@@ -152,6 +152,7 @@ fn put_cause(cause: Cause, json: &mut Json) {
             put_status("status", status, json);
         }
         Cause::Guest(guest) => json.number("guest", u64::from(guest)),
+        Cause::CarriedOver => json.flag("carried_over", true),
     }
     json.end();
 }

@@ -3,6 +3,7 @@
 
 use crate::json::Json;
 use ccb::{CamStatus, Place};
+use freeze_ledger::Holder;
 use helpers::Helper;
 use show_account::{name_of_code, status_name};
 use show_sense::{SenseCode, scsi_status_name, sense_code, sense_key_name};
@@ -52,6 +53,18 @@ pub(crate) fn put_sense(bytes: &[u8], json: &mut Json) {
 /// Puts the number of a queue or of a controller, under the word for its kind.
 pub fn put_place(place: Place, json: &mut Json) {
     json.number(place.kind_word(), u64::from(place.number()));
+}
+
+/// Puts who holds a freeze, as an object.
+pub fn put_holder(holder: Option<Holder>, json: &mut Json) {
+    json.begin_at("holder");
+    match holder {
+        Some(Holder::Run(run)) => json.number("run", u64::from(run)),
+        Some(Holder::Timer(due)) => json.digits("timer_due", due),
+        Some(Holder::Guest(guest)) => json.number("guest", u64::from(guest)),
+        None => {}
+    }
+    json.end();
 }
 
 /// Puts the members of a helper: its number and its name.

@@ -5,17 +5,20 @@ use crate::output::{Output, Point};
 use show_events::{Event, Happening};
 use std::alloc::{AllocError, Global};
 use std::collections::BTreeMap;
+use world_calls::CarriedCcb;
 
 /// The thread of the first lane.
 const FIRST: u64 = 1;
 
-/// A CCB that is active: in which lane, since when, and for the how manieth time; and where it failed before, if it did.
+/// A CCB that is active: in which lane, since when, and for the how manieth time; where it failed before, if it did; and whether it was carried
+/// over, so that it was active before.
 #[derive(Clone, Copy)]
 struct Active {
     lane: Taken,
     since: u64,
     attempt: u64,
     failed: Option<Point>,
+    is_carried: bool,
 }
 
 /// The CCBs that are active, and those that failed and did not start since.
@@ -34,6 +37,30 @@ impl Ccbs {
             active: BTreeMap::new(alloc),
             failed: BTreeMap::new(alloc),
         })
+    }
+
+    /// Takes a CCB that was carried over at that time.
+    pub(crate) fn carry(
+        &mut self,
+        it: &CarriedCcb,
+        at: u64,
+        output: &mut Output,
+    ) -> Result<(), AllocError> {
+        if !it.is_active {
+            return Ok(());
+        }
+        let Some(lane) = self.lanes.take(it.queue.0, output) else {
+            return Ok(());
+        };
+        let active = Active {
+            lane,
+            since: at,
+            attempt: u64::from(it.attempts),
+            failed: None,
+            is_carried: true,
+        };
+        let _ = self.active.insert(it.number.0, active)?;
+        Ok(())
     }
 
     /// Takes what an event at that time says.
@@ -85,6 +112,7 @@ impl Ccbs {
             since: at,
             attempt: event.values.numbers[0],
             failed: self.failed.remove(&ccb),
+            is_carried: false,
         };
         let _ = self.active.insert(ccb, active)?;
         Ok(())
@@ -131,7 +159,8 @@ fn put(ccb: u32, active: &Active, at: u64, ended: Option<&Event>, output: &mut O
         track: active.lane.track,
         at: active.since,
     };
-    output.put_active(ccb, active.attempt, from, at, ended);
+    output.begin_active(ccb, active.attempt, from, at);
+    output.end_active(active.is_carried, ended);
     if let Some(failed) = active.failed {
         output.put_arrow(failed, from);
     }

@@ -1,6 +1,7 @@
 // Freezes, by who holds them. It relies on `show_events` for the events.
 
 use crate::output::Output;
+use freeze_ledger::{Freeze, Holder};
 use show_events::{Event, Happening};
 use std::alloc::{AllocError, Global};
 use std::collections::BTreeMap;
@@ -32,6 +33,28 @@ impl Freezes {
         Freezes {
             held: BTreeMap::new(alloc),
         }
+    }
+
+    /// Takes a freeze that was carried over at that time.
+    pub(crate) fn carry(
+        &mut self,
+        it: &Freeze,
+        at: u64,
+        output: &mut Output,
+    ) -> Result<(), AllocError> {
+        let name = match it.holder {
+            Holder::Guest(_) => BY_GUEST,
+            Holder::Timer(_) | Holder::Run(_) => BY_TIMER,
+        };
+        let process = output.process(it.place);
+        let stretch = output.carry_freeze(name, it, process, at);
+        let held = Held {
+            process,
+            name,
+            stretch,
+        };
+        let _ = self.held.insert(it.number, held)?;
+        Ok(())
     }
 
     /// Takes what an event at that time says.

@@ -2,17 +2,21 @@
 
 use ccb::{Place, QueueId};
 use engine_config::Config;
+use freeze_ledger::Freeze;
 use show_events::{Event, Shown};
-use show_json::{Json, put_ending, put_facts};
+use show_json::{Json, put_ending, put_facts, put_holder, put_place};
 use std::alloc::Global;
 use std::io;
 use std::io::Write;
 
 /// How many numbers of places there may be: two for each of 64 queues.
-const PLACES: usize = 128;
+pub(crate) const PLACES: usize = 128;
 
 /// The member that says of what lasts that the trace ends before it does.
 const OPEN: &str = "open_at_end";
+
+/// The member that says that it was carried over, and lasted before the trace begins.
+const CARRIED: &str = "carried_over";
 
 /// Where something is drawn: a process, which is a queue or a controller, and a thread of it.
 #[derive(Clone, Copy)]
@@ -123,15 +127,8 @@ impl Output {
         end(json);
     }
 
-    /// Puts that a CCB was active from that point on, by the event that ended it; without one it is active at the end.
-    pub(crate) fn put_active(
-        &mut self,
-        ccb: u32,
-        attempt: u64,
-        from: Point,
-        at: u64,
-        ended: Option<&Event>,
-    ) {
+    /// Begins that a CCB was active from that point on up to that time, for the so manieth time.
+    pub(crate) fn begin_active(&mut self, ccb: u32, attempt: u64, from: Point, at: u64) {
         let json = &mut self.json;
         begin("X", "ccb", from, json);
         json.number("dur", at.saturating_sub(from.at));
@@ -140,6 +137,14 @@ impl Output {
         json.end_words();
         json.begin_at("args");
         json.number("attempt", attempt);
+    }
+
+    /// Ends it: whether the CCB was carried over, and by the event that ended it; without one it is active at the end.
+    pub(crate) fn end_active(&mut self, is_carried: bool, ended: Option<&Event>) {
+        let json = &mut self.json;
+        if is_carried {
+            json.flag(CARRIED, true);
+        }
         put_ended(ended, json);
         end(json);
     }
@@ -186,7 +191,29 @@ impl Output {
     /// Puts that a place is frozen by a holder of that kind from then on, and answers the number of this stretch.
     pub(crate) fn begin_freeze(&mut self, name: &str, event: &Event, process: u64, at: u64) -> u64 {
         self.stretches = self.stretches.saturating_add(1);
-        self.put_freeze("b", name, self.stretches, process, at, Some(event));
+        let json = &mut self.json;
+        begin_stretch("b", name, self.stretches, whole(process, at), json);
+        put_facts(event, json);
+        end(json);
+        self.stretches
+    }
+
+    /// The same by a freeze that was carried over.
+    pub(crate) fn carry_freeze(
+        &mut self,
+        name: &str,
+        freeze: &Freeze,
+        process: u64,
+        at: u64,
+    ) -> u64 {
+        self.stretches = self.stretches.saturating_add(1);
+        let json = &mut self.json;
+        begin_stretch("b", name, self.stretches, whole(process, at), json);
+        put_place(freeze.place, json);
+        json.number("freeze", u64::from(freeze.number));
+        put_holder(Some(freeze.holder), json);
+        json.flag(CARRIED, true);
+        end(json);
         self.stretches
     }
 
@@ -199,24 +226,9 @@ impl Output {
         process: u64,
         at: u64,
     ) {
-        self.put_freeze("e", name, stretch, process, at, ended);
-    }
-
-    fn put_freeze(
-        &mut self,
-        phase: &str,
-        name: &str,
-        stretch: u64,
-        process: u64,
-        at: u64,
-        event: Option<&Event>,
-    ) {
         let json = &mut self.json;
-        begin(phase, "freeze", whole(process, at), json);
-        json.number("id", stretch);
-        json.word("name", name);
-        json.begin_at("args");
-        put_ended(event, json);
+        begin_stretch("e", name, stretch, whole(process, at), json);
+        put_ended(ended, json);
         end(json);
     }
 
@@ -275,6 +287,14 @@ fn begin_known(name: &str, track: Track, json: &mut Json) {
     json.begin_line();
     json.word("ph", "M");
     put_track(track, json);
+    json.word("name", name);
+    json.begin_at("args");
+}
+
+// Begins an event that begins or ends the stretch of that number, for which a place is frozen.
+fn begin_stretch(phase: &str, name: &str, stretch: u64, point: Point, json: &mut Json) {
+    begin(phase, "freeze", point, json);
+    json.number("id", stretch);
     json.word("name", name);
     json.begin_at("args");
 }

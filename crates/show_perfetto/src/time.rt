@@ -20,8 +20,8 @@ pub(crate) struct Time {
 }
 
 impl Time {
-    /// The time before the first record of a trace.
-    pub(crate) fn of(trace: &Trace) -> Self {
+    /// The time before the first record of a trace, where the clock reads that.
+    pub(crate) fn of(trace: &Trace, clock: u64) -> Self {
         let mut has_clock = false;
         for record in trace.records.iter() {
             if is_reading(record) {
@@ -30,7 +30,7 @@ impl Time {
         }
         Time {
             has_clock,
-            clock: 0,
+            clock,
             count: 0,
         }
     }
@@ -45,12 +45,13 @@ impl Time {
     }
 
     /// The microsecond: that of the clock's reading and of the record's number there, of which the first is 0 and the last one of this
-    /// millisecond stands for all further ones. If no clock was read, a record is a microsecond.
+    /// millisecond stands for all further ones. If no clock was read, a record is a microsecond after the reading at the beginning.
     pub(crate) fn at(&self) -> u64 {
-        if !self.has_clock {
-            return self.count;
-        }
-        let further = self.count.saturating_sub(1).min(MILLISECOND - 1);
+        let further = if self.has_clock {
+            self.count.saturating_sub(1).min(MILLISECOND - 1)
+        } else {
+            self.count
+        };
         self.clock
             .saturating_mul(MILLISECOND)
             .saturating_add(further)

@@ -3,11 +3,12 @@
 
 use crate::ccbs::Ccbs;
 use crate::freezes::Freezes;
-use crate::output::Output;
+use crate::output::{Output, PLACES};
 use crate::runs::Runs;
-use ccb::QueueId;
+use ccb::{Place, QueueId};
 use show_events::{Event, Happening, Programs, Walk};
 use std::alloc::{AllocError, Global};
+use world_calls::CarriedLine;
 
 /// All that lasts at a moment.
 #[derive(Drop)]
@@ -25,6 +26,31 @@ impl Tracks {
             runs: Runs::new(alloc, queues)?,
             freezes: Freezes::new(alloc),
         })
+    }
+
+    /// Takes what was carried over at that time, after which the world is that of the walk.
+    pub(crate) fn carry(
+        &mut self,
+        lines: &[CarriedLine],
+        at: u64,
+        walk: &Walk<'_>,
+        output: &mut Output,
+    ) -> Result<(), AllocError> {
+        let mut frozen = [0u64; PLACES];
+        for line in lines {
+            match line {
+                CarriedLine::Openings { queue, openings: _ } => {
+                    put_first_waiting(QueueId(*queue), at, walk, output);
+                }
+                CarriedLine::Ccb(it) => self.ccbs.carry(it, at, output)?,
+                CarriedLine::Freeze(it) => {
+                    self.freezes.carry(it, at, output)?;
+                    put_more_frozen(it.place, &mut frozen, at, output);
+                }
+                _ => {}
+            }
+        }
+        Ok(())
     }
 
     /// Takes what an event at that time says, after which the world is that of the walk.
@@ -51,6 +77,22 @@ impl Tracks {
     }
 }
 
+// Puts how many CCBs of a queue wait before the first record, if any does.
+fn put_first_waiting(queue: QueueId, at: u64, walk: &Walk<'_>, output: &mut Output) {
+    let waiting = waiting(queue, walk);
+    if waiting > 0 {
+        put_count("waiting", waiting, Place::Device(queue), at, output);
+    }
+}
+
+// Puts how often a place is frozen with one freeze more.
+fn put_more_frozen(place: Place, frozen: &mut [u64; PLACES], at: u64, output: &mut Output) {
+    if let Some(count) = frozen.get_mut(place.index()) {
+        *count = count.saturating_add(1);
+        put_count("frozen", *count, place, at, output);
+    }
+}
+
 // Puts how many CCBs wait, or how often a place is frozen, if the event changed that.
 fn put_counts(event: &Event, at: u64, walk: &Walk<'_>, output: &mut Output) {
     let Some(place) = event.subject.place else {
@@ -58,9 +100,8 @@ fn put_counts(event: &Event, at: u64, walk: &Walk<'_>, output: &mut Output) {
     };
     match event.happening {
         Happening::Submitted | Happening::Started | Happening::Requeued => {
-            let waiting = waiting(event, walk);
-            let process = output.process(place);
-            output.put_count("waiting", waiting, process, at);
+            let waiting = waiting(QueueId(event.queue().unwrap_or(u32::MAX)), walk);
+            put_count("waiting", waiting, place, at, output);
         }
         Happening::Failed
         | Happening::FrozenByRun
@@ -68,16 +109,19 @@ fn put_counts(event: &Event, at: u64, walk: &Walk<'_>, output: &mut Output) {
         | Happening::GivenBackByRun
         | Happening::GivenBackByGuest
         | Happening::TimerCame => {
-            let process = output.process(place);
-            output.put_count("frozen", u64::from(event.values.frozen), process, at);
+            put_count("frozen", u64::from(event.values.frozen), place, at, output);
         }
         _ => {}
     }
 }
 
-// How many CCBs wait at the event's queue.
-fn waiting(event: &Event, walk: &Walk<'_>) -> u64 {
-    let queue = QueueId(event.queue().unwrap_or(u32::MAX));
+fn put_count(name: &str, count: u64, place: Place, at: u64, output: &mut Output) {
+    let process = output.process(place);
+    output.put_count(name, count, process, at);
+}
+
+// How many CCBs wait in a queue.
+fn waiting(queue: QueueId, walk: &Walk<'_>) -> u64 {
     match walk.engine().queue_info(queue) {
         Some(info) => u64::from(info.waiting),
         None => 0,

@@ -8,14 +8,15 @@ use show_events::{Event, NamedAccepted, Programs, Shown, Walk};
 use std::alloc::{AllocError, Global};
 use std::io;
 use std::io::Write;
-use world_calls::{Record, Trace};
+use world_calls::Record;
 
 /// Writes a trace of this configuration as trace events, a line each. A queue is a process, and so is a controller that was frozen. A process has
 /// threads on which CCBs were active, each beside those that were active at the same time, and threads of runs, with the helpers that they called; async
 /// events for which it was frozen by a run, a timer or a guest; and counts of the CCBs that wait and of the freezes. An arrow leads from a failure of a
-/// CCB to its next start. What lasts at the end ends there, and says so. The programs are the manifest's, with their names. The trace is one that a
-/// replay accepts, or is open. Of its lines it keeps nothing: what it takes is for what is live, and a byte for each CCB. It fails if memory is
-/// refused, as such an error, or if the writer does; some may be out then.
+/// CCB to its next start. What was carried over begins at the carried clock reading, and what lasts at the end ends there; both say so. The programs are
+/// the manifest's, with their names. The trace is one that a replay accepts, or is open. Of its lines it keeps nothing: what it takes is for what is
+/// live or was carried over, and a byte for each CCB that was submitted. It fails if memory is refused, as such an error, or if the writer does; some
+/// may be out then.
 pub fn write_trace_events<'a, W: Write>(
     alloc: Global,
     config: &'a Config,
@@ -23,7 +24,7 @@ pub fn write_trace_events<'a, W: Write>(
     shown: Shown<'_>,
     out: &mut W,
 ) -> io::Result<()> {
-    let mut telling = Telling::open(alloc, config, named, shown.trace)?;
+    let mut telling = Telling::open(alloc, config, named, shown)?;
     telling.write(shown, out)
 }
 
@@ -44,13 +45,15 @@ impl<'a> Telling<'a> {
         alloc: Global,
         config: &'a Config,
         named: &'a [NamedAccepted<'a>],
-        trace: &Trace,
-    ) -> Result<Self, AllocError> {
+        shown: Shown<'_>,
+    ) -> io::Result<Self> {
+        let walk = Walk::of(alloc, config, shown)?;
+        let time = Time::of(shown.trace, walk.clock());
         Ok(Telling {
             programs: Programs::new(alloc, config, named)?,
-            walk: Walk::open(alloc, config)?,
+            walk,
             events: Vec::new(alloc),
-            time: Time::of(trace),
+            time,
             tracks: Tracks::new(alloc, config.queues())?,
             output: Output::new(alloc, config),
         })
@@ -59,6 +62,10 @@ impl<'a> Telling<'a> {
     // Writes all of a trace.
     fn write<W: Write>(&mut self, shown: Shown<'_>, out: &mut W) -> io::Result<()> {
         self.output.begin();
+        if let Some(lines) = shown.carried {
+            let at = self.time.at();
+            self.tracks.carry(lines, at, &self.walk, &mut self.output)?;
+        }
         for record in shown.trace.records.iter() {
             self.goes_on(record)?;
             self.output.write_to(out)?;

@@ -12,13 +12,14 @@ use show_events::{Event, NamedAccepted, Programs, Shown, Walk};
 use std::alloc::{AllocError, Global};
 use std::io;
 use std::io::Write;
-use world_calls::{Record, Trace};
+use world_calls::Record;
 
 /// Writes the picture of a trace of this configuration as SVG: a lane for each queue and each controller, over the clock in milliseconds,
 /// or over the records if the clock never moved. In a lane stand the stretches for which a CCB was active, one waited, and the place was
 /// frozen by a run, a timer or a guest, each with its numbers as a hover text, and marks where a CCB failed and where a run finished one.
-/// Stretches too thin to see are drawn together, and the picture says so. The programs are the manifest's, with their names. The trace is
-/// one that a replay accepts, or is open. It fails if memory is refused, as such an error, or if the writer does; some may be out then.
+/// What was carried over begins at the left edge. Stretches too thin to see are drawn together, and the picture says so. The programs are the
+/// manifest's, with their names. The trace is one that a replay accepts, or is open. It fails if memory is refused, as such an error, or if
+/// the writer does; some may be out then.
 pub fn draw<'a, W: Write>(
     alloc: Global,
     config: &'a Config,
@@ -26,7 +27,7 @@ pub fn draw<'a, W: Write>(
     shown: Shown<'_>,
     out: &mut W,
 ) -> io::Result<()> {
-    let mut picture = Picture::open(alloc, config, named, shown.trace)?;
+    let mut picture = Picture::open(alloc, config, named, shown)?;
     picture.write(shown, out)
 }
 
@@ -50,16 +51,21 @@ impl<'a> Picture<'a> {
         alloc: Global,
         config: &'a Config,
         named: &'a [NamedAccepted<'a>],
-        trace: &Trace,
-    ) -> Result<Self, AllocError> {
-        let scale = Scale::of(trace);
+        shown: Shown<'_>,
+    ) -> io::Result<Self> {
+        let walk = Walk::of(alloc, config, shown)?;
+        let carried = match shown.carried {
+            Some(_) => Some(walk.clock()),
+            None => None,
+        };
+        let scale = Scale::of(shown.trace, carried);
         let programs = Programs::new(alloc, config, named)?;
         let lanes = Lanes::of(config, &programs);
         Ok(Picture {
             scale,
             lanes,
             programs,
-            walk: Walk::open(alloc, config)?,
+            walk,
             events: Vec::new(alloc),
             tracking: Tracking::new(alloc),
             drawing: Drawing::new(alloc, scale, lanes)?,
@@ -69,9 +75,11 @@ impl<'a> Picture<'a> {
     }
 
     // Goes along the trace to its end.
-    fn go(&mut self, trace: &Trace) -> Result<(), AllocError> {
+    fn go(&mut self, shown: Shown<'_>) -> Result<(), AllocError> {
+        let carried = shown.carried.unwrap_or(&[]);
+        self.tracking.carry(carried, self.scale.first)?;
         let mut number = 0usize;
-        for record in trace.records.iter() {
+        for record in shown.trace.records.iter() {
             number = number.saturating_add(1);
             self.step(record, number)?;
         }
@@ -95,7 +103,7 @@ impl<'a> Picture<'a> {
 
     // Writes the picture of the whole trace.
     fn write<W: Write>(&mut self, shown: Shown<'_>, out: &mut W) -> io::Result<()> {
-        self.go(shown.trace)?;
+        self.go(shown)?;
         let (columns, stretches) = self.drawing.limit();
         let thin = Thin {
             stretches,

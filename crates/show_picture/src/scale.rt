@@ -22,11 +22,12 @@ pub(crate) struct Scale {
 }
 
 impl Scale {
-    /// That of a trace: from 0, or from its first clock reading if nothing is before it, to its last one; or over its records.
-    pub(crate) fn of(trace: &Trace) -> Self {
-        let mut first = 0;
-        let mut last = 0;
-        let mut is_first = true;
+    /// That of a trace: from the clock reading that was carried over, or else from 0, or from its first reading if nothing is before it; to
+    /// its last one; or over its records.
+    pub(crate) fn of(trace: &Trace, carried: Option<u64>) -> Self {
+        let mut first = carried.unwrap_or(0);
+        let mut last = first;
+        let mut is_first = carried.is_none();
         for record in trace.records.iter() {
             if let Some(reading) = reading_of(record) {
                 if is_first {

@@ -59,6 +59,8 @@ pub(crate) enum What {
     OfRun { freeze: u32, run: u32, ccb: u32 },
     /// A freeze is held by the guest of that number.
     OfGuest { freeze: u32, guest: u32 },
+    /// A freeze, by its number, was carried over with its timer.
+    CarriedOver(u32),
 }
 
 /// Something was so from one place of the clock to another.
@@ -88,6 +90,10 @@ impl Stretch {
             (What::OfGuest { freeze, guest }, _) => page.fill(
                 "freeze {} is held by guest {}",
                 &[u64::from(freeze), u64::from(guest)],
+            ),
+            (What::CarriedOver(freeze), _) => page.fill(
+                "freeze {} is held by a timer, and was carried over",
+                &[u64::from(freeze)],
             ),
         }
     }

@@ -1,10 +1,14 @@
-// Follows what is so along a trace, and reports each stretch at its end. It relies on `show_events` for the events.
+// Follows what is so along a trace, and reports each stretch at its end. It relies on `show_events` for the events, and on `world_calls` for
+// what was so before them.
 
 use crate::drawing::Drawing;
 use crate::stretch::{Row, Stretch, What};
+use ccb::Place;
+use freeze_ledger::{Freeze, Holder};
 use show_events::{Event, Happening};
 use std::alloc::{AllocError, Global};
 use std::collections::BTreeMap;
+use world_calls::{CarriedCcb, CarriedLine};
 
 /// What is so at a moment, by the numbers of CCBs and of freezes: as a stretch that has no end yet.
 #[derive(Drop)]
@@ -20,6 +24,52 @@ impl Tracking {
             ccbs: BTreeMap::new(alloc),
             freezes: BTreeMap::new(alloc),
         }
+    }
+
+    /// Takes what was carried over, at the place of the clock at which the picture begins.
+    pub(crate) fn carry(&mut self, lines: &[CarriedLine], at: u64) -> Result<(), AllocError> {
+        for line in lines {
+            match line {
+                CarriedLine::Ccb(it) => self.carry_ccb(it, at)?,
+                CarriedLine::Freeze(it) => self.carry_freeze(it, at)?,
+                _ => {}
+            }
+        }
+        Ok(())
+    }
+
+    fn carry_ccb(&mut self, it: &CarriedCcb, at: u64) -> Result<(), AllocError> {
+        let ccb = it.number.0;
+        let stretch = Stretch {
+            place: Place::Device(it.queue),
+            row: if it.is_active {
+                Row::Active
+            } else {
+                Row::Waiting
+            },
+            what: What::Ccb(ccb),
+            from: at,
+            to: at,
+        };
+        let _ = self.ccbs.insert(ccb, stretch)?;
+        Ok(())
+    }
+
+    fn carry_freeze(&mut self, it: &Freeze, at: u64) -> Result<(), AllocError> {
+        let freeze = it.number;
+        let (row, what) = match it.holder {
+            Holder::Guest(guest) => (Row::HeldByGuest, What::OfGuest { freeze, guest }),
+            Holder::Timer(_) | Holder::Run(_) => (Row::HeldByTimer, What::CarriedOver(freeze)),
+        };
+        let stretch = Stretch {
+            place: it.place,
+            row,
+            what,
+            from: at,
+            to: at,
+        };
+        let _ = self.freezes.insert(freeze, stretch)?;
+        Ok(())
     }
 
     /// Takes what an event at that place of the clock says: the stretch that ends with it, if one does.

@@ -10,7 +10,7 @@ use engine_config::Config;
 use helpers::Helper;
 use show_counts::{CODES, Counts, HELPERS};
 use show_events::{NamedAccepted, Shown};
-use show_json::{Json, put_code, put_ending, put_helper};
+use show_json::{Json, put_carried, put_code, put_ending, put_helper};
 use std::alloc::Global;
 use std::io;
 use std::io::Write;
@@ -24,12 +24,17 @@ pub fn write_summary<W: Write>(
     shown: Shown<'_>,
     out: &mut W,
 ) -> io::Result<()> {
-    let sums = Sums::of(alloc, config, named, shown.trace)?;
+    let sums = Sums::of(alloc, config, named, shown)?;
     let mut json = Json::new(alloc);
     json.begin();
     json.word("kind", "summary");
     json.number("records", shown.trace.records.len() as u64);
     put_ending(shown, &mut json);
+    if let Some(lines) = shown.carried {
+        json.begin_at("carried");
+        put_carried(lines, config, &mut json);
+        json.end();
+    }
     put_all(&sums, &mut json);
     json.end();
     json.line();

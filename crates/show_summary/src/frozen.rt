@@ -1,6 +1,7 @@
 // How long places were frozen. It relies on `show_events` for when a freeze comes and goes.
 
 use ccb::Place;
+use freeze_ledger::Freeze;
 use show_events::{Event, Happening};
 
 /// How long a place was frozen, in milliseconds.
@@ -48,6 +49,16 @@ impl FrozenPlaces {
     pub(crate) fn new() -> Self {
         FrozenPlaces {
             places: [Frozen::default(); PLACES],
+        }
+    }
+
+    /// Takes a freeze that was carried over at that reading. They come by rising number: the first one of a place begins the time for which
+    /// it is frozen.
+    pub(crate) fn carry(&mut self, freeze: &Freeze, clock: u64) {
+        if let Some(frozen) = self.places.get_mut(freeze.place.index()) {
+            if frozen.since.is_none() {
+                frozen.begin(clock, freeze.number);
+            }
         }
     }
 

@@ -3,9 +3,8 @@
 
 use ccb::CcbId;
 use engine_core::CcbState;
-use freeze_ledger::Holder;
 use show_events::{FreezeTimes, RunTimes, Walk};
-use show_json::{Json, put_place};
+use show_json::{Json, put_holder, put_place};
 
 /// Puts what is left, as lists.
 pub(crate) fn put_left(walk: &Walk<'_>, json: &mut Json) {
@@ -59,19 +58,8 @@ fn put_freeze(walk: &Walk<'_>, freeze: u32, times: &FreezeTimes, json: &mut Json
     json.number("freeze", u64::from(freeze));
     put_place(times.place, json);
     json.digits("since", times.since);
-    json.begin_at("holder");
     put_holder(walk.holder(times.place, freeze), json);
     json.end();
-    json.end();
-}
-
-fn put_holder(holder: Option<Holder>, json: &mut Json) {
-    match holder {
-        Some(Holder::Run(run)) => json.number("run", u64::from(run)),
-        Some(Holder::Timer(due)) => json.digits("timer_due", due),
-        Some(Holder::Guest(guest)) => json.number("guest", u64::from(guest)),
-        None => {}
-    }
 }
 
 fn put_ccb(walk: &Walk<'_>, ccb: u32, since: u64, json: &mut Json) {

@@ -47,6 +47,13 @@ impl AllOpenings {
         AllOpenings { queues }
     }
 
+    /// Takes how many openings of a queue were carried over.
+    pub(crate) fn carry(&mut self, queue: u32, count: u32) {
+        if let Some(openings) = self.queues.get_mut(queue as usize) {
+            openings.first = u64::from(count);
+        }
+    }
+
     /// Takes what an event says.
     pub(crate) fn see(&mut self, event: &Event) {
         let Happening::Helped(HelperEffect::SetOpenings) = event.happening else {

@@ -11,6 +11,7 @@ use crate::words::Words;
 use engine_config::Config;
 use show_events::{Event, Programs};
 use std::alloc::{AllocError, Global};
+use world_calls::CarriedLine;
 
 /// All that was seen along a trace.
 #[derive(Drop)]
@@ -41,6 +42,22 @@ impl Seen {
             reports,
             words,
         })
+    }
+
+    /// Takes what was carried over at that reading.
+    pub(crate) fn carry(&mut self, lines: &[CarriedLine], clock: u64) {
+        for line in lines {
+            match line {
+                CarriedLine::Openings { queue, openings } => {
+                    self.openings.carry(*queue, *openings);
+                }
+                CarriedLine::Word { table, index, word } => {
+                    self.words.carry(*table, *index, *word);
+                }
+                CarriedLine::Freeze(freeze) => self.frozen.carry(freeze, clock),
+                _ => {}
+            }
+        }
     }
 
     /// Takes what an event says.

@@ -7,6 +7,7 @@ use crate::sums::Sums;
 use cli_text_page::Page;
 use engine_config::Config;
 use helpers::Helper;
+use show_account::put_carried_sums;
 use show_counts::{Counts, HELPERS};
 use show_events::{Ending, NamedAccepted, Shown};
 use std::alloc::Global;
@@ -24,9 +25,12 @@ pub fn summarise<W: Write>(
     shown: Shown<'_>,
     out: &mut W,
 ) -> io::Result<()> {
-    let sums = Sums::of(alloc, config, named, shown.trace)?;
+    let sums = Sums::of(alloc, config, named, shown)?;
     let mut page = Page::new(alloc);
     page.fill("{} records\n", &[shown.trace.records.len() as u64]);
+    if let Some(lines) = shown.carried {
+        put_carried_sums(lines, &mut page);
+    }
     if let Ending::Open | Ending::Cut = shown.ending {
         page.fill(shown.words(), &[shown.line()]);
         page.text("\n");

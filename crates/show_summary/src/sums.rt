@@ -4,8 +4,9 @@
 use crate::seen::Seen;
 use engine_config::Config;
 use show_counts::{Counts, count_records};
-use show_events::{Event, NamedAccepted, Programs, Walk};
+use show_events::{Event, NamedAccepted, Programs, Shown, Walk};
 use std::alloc::{AllocError, Global};
+use std::io;
 use world_calls::Trace;
 
 /// The sums of a trace, and the world at its end.
@@ -24,16 +25,19 @@ impl<'a> Sums<'a> {
         alloc: Global,
         config: &'a Config,
         named: &'a [NamedAccepted<'a>],
-        trace: &Trace,
-    ) -> Result<Self, AllocError> {
+        shown: Shown<'_>,
+    ) -> io::Result<Self> {
+        let lines = shown.carried.unwrap_or(&[]);
         let mut sums = Sums {
             config,
             programs: Programs::new(alloc, config, named)?,
-            counts: count_records(alloc, config.queues(), &trace.records)?,
+            counts: count_records(alloc, config.queues(), lines, &shown.trace.records)?,
             seen: Seen::new(alloc, config)?,
-            walk: Walk::open(alloc, config)?,
+            walk: Walk::of(alloc, config, shown)?,
         };
-        sums.see_all(alloc, trace)?;
+        let clock = sums.walk.clock();
+        sums.seen.carry(lines, clock);
+        sums.see_all(alloc, shown.trace)?;
         Ok(sums)
     }
 

@@ -23,6 +23,11 @@ impl Words {
         Ok(Words { tables })
     }
 
+    /// Takes a word that was carried over.
+    pub(crate) fn carry(&mut self, table: u32, index: u32, word: u64) {
+        self.set(u64::from(table), u64::from(index), word);
+    }
+
     /// Takes what an event says.
     pub(crate) fn see(&mut self, event: &Event) {
         let numbers = event.values.numbers;

@@ -5,3 +5,4 @@ pub mod Turning
 pub mod Outcomes
 pub mod Spelled
 pub mod Underway
+pub mod Finishing

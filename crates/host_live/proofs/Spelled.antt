@@ -15,15 +15,16 @@ use Rattle.trace_lines.proofs.Tests.{joined, parts_of, same_bytes, same_text}
 use Rattle.ccb.specs.declared.place.Place.TheVariants.{Controller, Device}
 use Rattle.world_calls.specs.declared.call.Call.{Call as TheCall}
 use Rattle.world_calls.specs.declared.call.Call.TheVariants as calls
-use Rattle.host_live.specs.Requests.{call_text, drive_text, own_text, request_text, step_text, told_text, named_text}
+use Rattle.host_live.specs.Requests.{call_text, drive_text, own_text, request_text, step_text, succession_text, succession_words, told_text, named_text}
+use Rattle.host_live.specs.declared.request.Succession.{Succession}
 use Rattle.host_live.specs.declared.request.Request.{Request}
-use Rattle.host_live.specs.declared.request.Request.TheVariants.{Call, Step, Drive, Drain, Totals, Ccbs, Quit, Help}
+use Rattle.host_live.specs.declared.request.Request.TheVariants.{Call, Step, Drive, Drain, Totals, Ccbs, Succeed, Quit, Help}
 
 -- ---- a line is of one kind
 
--- which by its letters: `quit`, `help`, `totals`, `ccbs`, `step`, `drive`, `drain`, and all else
+-- which by its letters: `quit`, `help`, `rotate` and `reload`, `totals`, `ccbs`, `step`, `drive`, `drain`, and all else
 kind_at : List ℕ → ℕ
-kind_at text = cond (get_or text 0 0 == 113) 6 (cond (get_or text 0 0 == 104) 7 (cond (get_or text 0 0 == 116) 4 (cond (get_or text 1 0 == 99) 5 (cond (get_or text 1 0 == 116) 1 (cond (get_or text 2 0 == 105) 2 (cond (get_or text 3 0 == 105) 3 0))))))
+kind_at text = cond (get_or text 0 0 == 113) 7 (cond (get_or text 0 0 == 104) 8 (cond (get_or text 0 0 == 114) (cond (get_or text 2 0 == 116) 6 (cond (get_or text 2 0 == 108) 6 0)) (cond (get_or text 0 0 == 116) 4 (cond (get_or text 1 0 == 99) 5 (cond (get_or text 1 0 == 116) 1 (cond (get_or text 2 0 == 105) 2 (cond (get_or text 3 0 == 105) 3 0)))))))
 
 kind_of : Request → ℕ
 kind_of (Call call) = 0
@@ -32,8 +33,9 @@ kind_of (Drive run) = 2
 kind_of Drain = 3
 kind_of Totals = 4
 kind_of Ccbs = 5
-kind_of Quit = 6
-kind_of Help = 7
+kind_of (Succeed how) = 6
+kind_of Quit = 7
+kind_of Help = 8
 
 begins : (word : List ℕ) (fields : Option (List ℕ)) (line : List ℕ) → option_append (Some word) fields ≡ Some line → (rest : List ℕ) × (fields ≡ Some rest) × (line ≡ word ++ rest)
 begins word fields line e =
@@ -52,6 +54,16 @@ call_kind (calls.Clock reading) line e = ap kind_at (begins (word_text words.Clo
 call_kind (calls.Park run) line e = ap kind_at (begins (word_text words.Park) _ line e).2
 call_kind (calls.Resume run) line e = ap kind_at (begins (word_text words.Resume) _ line e).2
 
+words_kind : (is_reloaded is_fresh : Bool) (line : List ℕ) → succession_words is_reloaded is_fresh ≡ Some line → kind_at line ≡ 6
+unfolding kind_at
+words_kind false false line e = ap kind_at (sym (same_text (codes "rotate") line e))
+words_kind false true line e = ap kind_at (sym (same_text (codes "rotate fresh") line e))
+words_kind true false line e = ap kind_at (sym (same_text (codes "reload") line e))
+words_kind true true line e = ap kind_at (sym (same_text (codes "reload fresh") line e))
+
+succession_kind : (how : Succession) (line : List ℕ) → succession_text how ≡ Some line → kind_at line ≡ 6
+succession_kind how line e = words_kind how.is_reloaded how.is_fresh line e
+
 kind_is : (told : Bool) (request : Request) (line : List ℕ) → request_text told request ≡ Some line → kind_at line ≡ kind_of request
 unfolding kind_at kind_of
 kind_is told (Call call) line e = call_kind call line e
@@ -60,6 +72,7 @@ kind_is told (Drive run) line e = ap kind_at (begins (codes "drive ") _ line e).
 kind_is told Drain line e = ap kind_at (sym (same_text (codes "drain") line e))
 kind_is told Totals line e = ap kind_at (sym (same_text (codes "totals") line e))
 kind_is told Ccbs line e = ap kind_at (sym (same_text (codes "ccbs") line e))
+kind_is told (Succeed how) line e = succession_kind how line e
 kind_is true Quit line e = ap kind_at (sym (same_text (codes "quit") line e))
 kind_is false Quit line e = absurd cc
 kind_is true Help line e = ap kind_at (sym (same_text (codes "help") line e))
@@ -78,6 +91,7 @@ drain_only line is (Drive other) e = let kind : true ≡ false = ap (λ (n : ℕ
 drain_only line is Drain e = refl
 drain_only line is Totals e = let kind : true ≡ false = ap (λ (n : ℕ). n == 3) (same_kind true Drain Totals line (ap Some (sym is)) e) in absurd cc
 drain_only line is Ccbs e = let kind : true ≡ false = ap (λ (n : ℕ). n == 3) (same_kind true Drain Ccbs line (ap Some (sym is)) e) in absurd cc
+drain_only line is (Succeed how) e = let kind : true ≡ false = ap (λ (n : ℕ). n == 3) (same_kind true Drain (Succeed how) line (ap Some (sym is)) e) in absurd cc
 drain_only line is Quit e = absurd cc
 drain_only line is Help e = absurd cc
 
@@ -94,6 +108,7 @@ totals_only line is (Drive other) e = let kind : true ≡ false = ap (λ (n : �
 totals_only line is Drain e = let kind : true ≡ false = ap (λ (n : ℕ). n == 4) (same_kind true Totals Drain line (ap Some (sym is)) e) in absurd cc
 totals_only line is Totals e = refl
 totals_only line is Ccbs e = let kind : true ≡ false = ap (λ (n : ℕ). n == 4) (same_kind true Totals Ccbs line (ap Some (sym is)) e) in absurd cc
+totals_only line is (Succeed how) e = let kind : true ≡ false = ap (λ (n : ℕ). n == 4) (same_kind true Totals (Succeed how) line (ap Some (sym is)) e) in absurd cc
 totals_only line is Quit e = absurd cc
 totals_only line is Help e = absurd cc
 
@@ -110,6 +125,7 @@ ccbs_only line is (Drive other) e = let kind : true ≡ false = ap (λ (n : ℕ)
 ccbs_only line is Drain e = let kind : true ≡ false = ap (λ (n : ℕ). n == 5) (same_kind true Ccbs Drain line (ap Some (sym is)) e) in absurd cc
 ccbs_only line is Totals e = let kind : true ≡ false = ap (λ (n : ℕ). n == 5) (same_kind true Ccbs Totals line (ap Some (sym is)) e) in absurd cc
 ccbs_only line is Ccbs e = refl
+ccbs_only line is (Succeed how) e = let kind : true ≡ false = ap (λ (n : ℕ). n == 5) (same_kind true Ccbs (Succeed how) line (ap Some (sym is)) e) in absurd cc
 ccbs_only line is Quit e = absurd cc
 ccbs_only line is Help e = absurd cc
 
@@ -126,6 +142,7 @@ step_only line run reads (Drive other) e = let kind : true ≡ false = ap (λ (n
 step_only line run reads Drain e = let kind : true ≡ false = ap (λ (n : ℕ). n == 1) (same_kind true (Step run) Drain line reads.said e) in absurd cc
 step_only line run reads Totals e = let kind : true ≡ false = ap (λ (n : ℕ). n == 1) (same_kind true (Step run) Totals line reads.said e) in absurd cc
 step_only line run reads Ccbs e = let kind : true ≡ false = ap (λ (n : ℕ). n == 1) (same_kind true (Step run) Ccbs line reads.said e) in absurd cc
+step_only line run reads (Succeed how) e = let kind : true ≡ false = ap (λ (n : ℕ). n == 1) (same_kind true (Step run) (Succeed how) line reads.said e) in absurd cc
 step_only line run reads Quit e = absurd cc
 step_only line run reads Help e = absurd cc
 
@@ -140,30 +157,75 @@ drive_only line run reads (Drive other) e = let same = reads.back other e in cc
 drive_only line run reads Drain e = let kind : true ≡ false = ap (λ (n : ℕ). n == 2) (same_kind true (Drive run) Drain line reads.said e) in absurd cc
 drive_only line run reads Totals e = let kind : true ≡ false = ap (λ (n : ℕ). n == 2) (same_kind true (Drive run) Totals line reads.said e) in absurd cc
 drive_only line run reads Ccbs e = let kind : true ≡ false = ap (λ (n : ℕ). n == 2) (same_kind true (Drive run) Ccbs line reads.said e) in absurd cc
+drive_only line run reads (Succeed how) e = let kind : true ≡ false = ap (λ (n : ℕ). n == 2) (same_kind true (Drive run) (Succeed how) line reads.said e) in absurd cc
 drive_only line run reads Quit e = absurd cc
 drive_only line run reads Help e = absurd cc
 
 pub drive_reads : (line : List ℕ) (run : ℕ) → Reads drive_text line (Some run) → Reads own_text line (Some (Drive run))
 drive_reads line run reads = record { said = reads.said; back = λ request e. drive_only line run reads request e }
 
+succeed_only : (line : List ℕ) (how : Succession) → Reads succession_text line (Some how) → (request : Request) → own_text request ≡ Some line → ◌≡◌ {A = Option Request} (Some (Succeed how)) (Some request)
+unfolding kind_of
+succeed_only line how reads (Call other) e = absurd cc
+succeed_only line how reads (Step other) e = let kind : true ≡ false = ap (λ (n : ℕ). n == 6) (same_kind true (Succeed how) (Step other) line reads.said e) in absurd cc
+succeed_only line how reads (Drive other) e = let kind : true ≡ false = ap (λ (n : ℕ). n == 6) (same_kind true (Succeed how) (Drive other) line reads.said e) in absurd cc
+succeed_only line how reads Drain e = let kind : true ≡ false = ap (λ (n : ℕ). n == 6) (same_kind true (Succeed how) Drain line reads.said e) in absurd cc
+succeed_only line how reads Totals e = let kind : true ≡ false = ap (λ (n : ℕ). n == 6) (same_kind true (Succeed how) Totals line reads.said e) in absurd cc
+succeed_only line how reads Ccbs e = let kind : true ≡ false = ap (λ (n : ℕ). n == 6) (same_kind true (Succeed how) Ccbs line reads.said e) in absurd cc
+succeed_only line how reads (Succeed other) e = let same = reads.back other e in cc
+succeed_only line how reads Quit e = absurd cc
+succeed_only line how reads Help e = absurd cc
+
+pub succeed_reads : (line : List ℕ) (how : Succession) → Reads succession_text line (Some how) → Reads own_text line (Some (Succeed how))
+succeed_reads line how reads = record { said = reads.said; back = λ request e. succeed_only line how reads request e }
+
 not_this : (word line : List ℕ) → bytes_eq line word ≡ false → bytes_eq word word ≡ true → Some word ≡ Some line → ⊥
 not_this word line other same e =
     let bad : true ≡ false = sym same ∙ (ap (λ (l : List ℕ). bytes_eq l word) (same_text word line e) ∙ other) in
     absurd cc
 
-none_own : (line : List ℕ) → bytes_eq line (codes "drain") ≡ false → bytes_eq line (codes "totals") ≡ false → bytes_eq line (codes "ccbs") ≡ false → Reads step_text line None → Reads drive_text line None
-    → (request : Request) → own_text request ≡ Some line → ◌≡◌ {A = Option Request} None (Some request)
-none_own line no_drain no_totals no_ccbs step drive (Call call) e = absurd cc
-none_own line no_drain no_totals no_ccbs step drive (Step run) e = let same = step.back run e in absurd cc
-none_own line no_drain no_totals no_ccbs step drive (Drive run) e = let same = drive.back run e in absurd cc
-none_own line no_drain no_totals no_ccbs step drive Drain e = absurd (not_this (codes "drain") line no_drain refl e)
-none_own line no_drain no_totals no_ccbs step drive Totals e = absurd (not_this (codes "totals") line no_totals refl e)
-none_own line no_drain no_totals no_ccbs step drive Ccbs e = absurd (not_this (codes "ccbs") line no_ccbs refl e)
-none_own line no_drain no_totals no_ccbs step drive Quit e = absurd cc
-none_own line no_drain no_totals no_ccbs step drive Help e = absurd cc
+-- ---- how another engine is to follow
 
-pub none_reads : (line : List ℕ) → bytes_eq line (codes "drain") ≡ false → bytes_eq line (codes "totals") ≡ false → bytes_eq line (codes "ccbs") ≡ false → Reads step_text line None → Reads drive_text line None → Reads own_text line None
-none_reads line no_drain no_totals no_ccbs step drive = record { said = tt; back = λ request e. none_own line no_drain no_totals no_ccbs step drive request e }
+-- by its second letter and its eighth
+how_at : List ℕ → Succession
+how_at text = record { is_reloaded = get_or text 1 0 == 101; is_fresh = get_or text 7 0 == 102 }
+
+words_are : (is_reloaded is_fresh : Bool) (line : List ℕ) → succession_words is_reloaded is_fresh ≡ Some line → how_at line ≡ record { is_reloaded = is_reloaded; is_fresh = is_fresh }
+unfolding how_at
+words_are false false line e = ap how_at (sym (same_text (codes "rotate") line e))
+words_are false true line e = ap how_at (sym (same_text (codes "rotate fresh") line e))
+words_are true false line e = ap how_at (sym (same_text (codes "reload") line e))
+words_are true true line e = ap how_at (sym (same_text (codes "reload fresh") line e))
+
+how_is : (how : Succession) (line : List ℕ) → succession_text how ≡ Some line → how_at line ≡ how
+how_is how line e = words_are how.is_reloaded how.is_fresh line e
+
+pub succession_reads : (line : List ℕ) (how : Succession) → succession_text how ≡ Some line → Reads succession_text line (Some how)
+succession_reads line how said = record { said = said; back = λ other e. ap Some (sym (how_is how line said) ∙ how_is other line e) }
+
+no_words : (line : List ℕ) → bytes_eq line (codes "rotate") ≡ false → bytes_eq line (codes "rotate fresh") ≡ false → bytes_eq line (codes "reload") ≡ false → bytes_eq line (codes "reload fresh") ≡ false → (is_reloaded is_fresh : Bool) → succession_words is_reloaded is_fresh ≡ Some line → ⊥
+no_words line a b c d false false e = not_this (codes "rotate") line a refl e
+no_words line a b c d false true e = not_this (codes "rotate fresh") line b refl e
+no_words line a b c d true false e = not_this (codes "reload") line c refl e
+no_words line a b c d true true e = not_this (codes "reload fresh") line d refl e
+
+pub no_succession_reads : (line : List ℕ) → bytes_eq line (codes "rotate") ≡ false → bytes_eq line (codes "rotate fresh") ≡ false → bytes_eq line (codes "reload") ≡ false → bytes_eq line (codes "reload fresh") ≡ false → Reads succession_text line None
+no_succession_reads line a b c d = record { said = tt; back = λ how e. absurd (no_words line a b c d how.is_reloaded how.is_fresh e) }
+
+none_own : (line : List ℕ) → bytes_eq line (codes "drain") ≡ false → bytes_eq line (codes "totals") ≡ false → bytes_eq line (codes "ccbs") ≡ false → Reads succession_text line None → Reads step_text line None → Reads drive_text line None
+    → (request : Request) → own_text request ≡ Some line → ◌≡◌ {A = Option Request} None (Some request)
+none_own line no_drain no_totals no_ccbs succession step drive (Call call) e = absurd cc
+none_own line no_drain no_totals no_ccbs succession step drive (Step run) e = let same = step.back run e in absurd cc
+none_own line no_drain no_totals no_ccbs succession step drive (Drive run) e = let same = drive.back run e in absurd cc
+none_own line no_drain no_totals no_ccbs succession step drive Drain e = absurd (not_this (codes "drain") line no_drain refl e)
+none_own line no_drain no_totals no_ccbs succession step drive Totals e = absurd (not_this (codes "totals") line no_totals refl e)
+none_own line no_drain no_totals no_ccbs succession step drive Ccbs e = absurd (not_this (codes "ccbs") line no_ccbs refl e)
+none_own line no_drain no_totals no_ccbs succession step drive (Succeed how) e = let same = succession.back how e in absurd cc
+none_own line no_drain no_totals no_ccbs succession step drive Quit e = absurd cc
+none_own line no_drain no_totals no_ccbs succession step drive Help e = absurd cc
+
+pub none_reads : (line : List ℕ) → bytes_eq line (codes "drain") ≡ false → bytes_eq line (codes "totals") ≡ false → bytes_eq line (codes "ccbs") ≡ false → Reads succession_text line None → Reads step_text line None → Reads drive_text line None → Reads own_text line None
+none_reads line no_drain no_totals no_ccbs succession step drive = record { said = tt; back = λ request e. none_own line no_drain no_totals no_ccbs succession step drive request e }
 
 -- ---- what is asked for only where lines are answered
 
@@ -174,12 +236,13 @@ told_off line (Drive run) e = cc
 told_off line Drain e = cc
 told_off line Totals e = cc
 told_off line Ccbs e = cc
+told_off line (Succeed how) e = cc
 told_off line Quit e = cc
 told_off line Help e = cc
 
 -- ---- either
 
-own_low : (line : List ℕ) (request : Request) → own_text request ≡ Some line → kind_at line < 6
+own_low : (line : List ℕ) (request : Request) → own_text request ≡ Some line → kind_at line < 7
 unfolding kind_of
 own_low line (Call call) e = absurd cc
 own_low line (Step run) e = let kind : kind_at line ≡ 1 = kind_is true (Step run) line e in omega (arith, kind)
@@ -187,10 +250,11 @@ own_low line (Drive run) e = let kind : kind_at line ≡ 2 = kind_is true (Drive
 own_low line Drain e = let kind : kind_at line ≡ 3 = kind_is true Drain line e in omega (arith, kind)
 own_low line Totals e = let kind : kind_at line ≡ 4 = kind_is true Totals line e in omega (arith, kind)
 own_low line Ccbs e = let kind : kind_at line ≡ 5 = kind_is true Ccbs line e in omega (arith, kind)
+own_low line (Succeed how) e = let kind : kind_at line ≡ 6 = kind_is true (Succeed how) line e in omega (arith, kind)
 own_low line Quit e = absurd cc
 own_low line Help e = absurd cc
 
-told_high : (told : Bool) (line : List ℕ) (request : Request) → told_text told request ≡ Some line → 6 ≤ kind_at line
+told_high : (told : Bool) (line : List ℕ) (request : Request) → told_text told request ≡ Some line → 7 ≤ kind_at line
 unfolding kind_of
 told_high false line request e = absurd (told_off line request e)
 told_high true line (Call call) e = absurd cc
@@ -199,8 +263,9 @@ told_high true line (Drive run) e = absurd cc
 told_high true line Drain e = absurd cc
 told_high true line Totals e = absurd cc
 told_high true line Ccbs e = absurd cc
-told_high true line Quit e = let kind : kind_at line ≡ 6 = kind_is true Quit line e in omega (arith, kind)
-told_high true line Help e = let kind : kind_at line ≡ 7 = kind_is true Help line e in omega (arith, kind)
+told_high true line (Succeed how) e = absurd cc
+told_high true line Quit e = let kind : kind_at line ≡ 7 = kind_is true Quit line e in omega (arith, kind)
+told_high true line Help e = let kind : kind_at line ≡ 8 = kind_is true Help line e in omega (arith, kind)
 
 not_both : (told : Bool) (line : List ℕ) (one other : Request) → told_text told one ≡ Some line → own_text other ≡ Some line → ⊥
 not_both told line one other e f =
@@ -216,6 +281,7 @@ told_said true line (Drive run) e = absurd cc
 told_said true line Drain e = absurd cc
 told_said true line Totals e = absurd cc
 told_said true line Ccbs e = absurd cc
+told_said true line (Succeed how) e = absurd cc
 told_said true line Quit e = e
 told_said true line Help e = e
 
@@ -226,6 +292,7 @@ told_back told line one reads (Drive run) e = absurd (not_both told line one (Dr
 told_back told line one reads Drain e = absurd (not_both told line one Drain reads.said e)
 told_back told line one reads Totals e = absurd (not_both told line one Totals reads.said e)
 told_back told line one reads Ccbs e = absurd (not_both told line one Ccbs reads.said e)
+told_back told line one reads (Succeed how) e = absurd (not_both told line one (Succeed how) reads.said e)
 told_back told line one reads Quit e = reads.back Quit e
 told_back told line one reads Help e = reads.back Help e
 
@@ -240,6 +307,7 @@ plain_said told line (Some (Drive run)) e = e
 plain_said told line (Some Drain) e = e
 plain_said told line (Some Totals) e = e
 plain_said told line (Some Ccbs) e = e
+plain_said told line (Some (Succeed how)) e = e
 plain_said told line (Some Quit) e = absurd cc
 plain_said told line (Some Help) e = absurd cc
 
@@ -250,6 +318,7 @@ plain_back told line read none own (Drive run) e = own.back (Drive run) e
 plain_back told line read none own Drain e = own.back Drain e
 plain_back told line read none own Totals e = own.back Totals e
 plain_back told line read none own Ccbs e = own.back Ccbs e
+plain_back told line read none own (Succeed how) e = own.back (Succeed how) e
 plain_back told line read none own Quit e = let same = none.back Quit e in absurd cc
 plain_back told line read none own Help e = let same = none.back Help e in absurd cc
 
@@ -299,6 +368,7 @@ word_said told line (Drive run) e = e
 word_said told line Drain e = e
 word_said told line Totals e = e
 word_said told line Ccbs e = e
+word_said told line (Succeed how) e = e
 word_said told line Quit e = e
 word_said told line Help e = e
 
@@ -310,6 +380,7 @@ word_no_call told line (Drive run) call e f = let kind : false ≡ true = ap (λ
 word_no_call told line Drain call e f = let kind : false ≡ true = ap (λ (n : ℕ). n == 0) (same_kind told Drain (Call call) line e f) in cc
 word_no_call told line Totals call e f = let kind : false ≡ true = ap (λ (n : ℕ). n == 0) (same_kind told Totals (Call call) line e f) in cc
 word_no_call told line Ccbs call e f = let kind : false ≡ true = ap (λ (n : ℕ). n == 0) (same_kind told Ccbs (Call call) line e f) in cc
+word_no_call told line (Succeed how) call e f = let kind : false ≡ true = ap (λ (n : ℕ). n == 0) (same_kind told (Succeed how) (Call call) line e f) in cc
 word_no_call told line Quit call e f = let kind : false ≡ true = ap (λ (n : ℕ). n == 0) (same_kind told Quit (Call call) line e f) in cc
 word_no_call told line Help call e f = let kind : false ≡ true = ap (λ (n : ℕ). n == 0) (same_kind told Help (Call call) line e f) in cc
 
@@ -320,6 +391,7 @@ word_back told line one reads (Drive run) e = reads.back (Drive run) e
 word_back told line one reads Drain e = reads.back Drain e
 word_back told line one reads Totals e = reads.back Totals e
 word_back told line one reads Ccbs e = reads.back Ccbs e
+word_back told line one reads (Succeed how) e = reads.back (Succeed how) e
 word_back told line one reads Quit e = reads.back Quit e
 word_back told line one reads Help e = reads.back Help e
 
@@ -333,6 +405,7 @@ call_is_back told line call word reads (Drive run) e = let same = word.back (Dri
 call_is_back told line call word reads Drain e = let same = word.back Drain e in absurd cc
 call_is_back told line call word reads Totals e = let same = word.back Totals e in absurd cc
 call_is_back told line call word reads Ccbs e = let same = word.back Ccbs e in absurd cc
+call_is_back told line call word reads (Succeed how) e = let same = word.back (Succeed how) e in absurd cc
 call_is_back told line call word reads Quit e = let same = word.back Quit e in absurd cc
 call_is_back told line call word reads Help e = let same = word.back Help e in absurd cc
 
@@ -346,6 +419,7 @@ none_is_back told line word reads (Drive run) e = word.back (Drive run) e
 none_is_back told line word reads Drain e = word.back Drain e
 none_is_back told line word reads Totals e = word.back Totals e
 none_is_back told line word reads Ccbs e = word.back Ccbs e
+none_is_back told line word reads (Succeed how) e = word.back (Succeed how) e
 none_is_back told line word reads Quit e = word.back Quit e
 none_is_back told line word reads Help e = word.back Help e
 

@@ -2,11 +2,9 @@
 use Rattle.std.proofs.Common.{◌≡◌, ◌∙◌, ℕ, List, [], ◌∷◌, ◌++◌, sym, ap, subst}
 use Rattle.world_calls.specs.declared.record.Record.{Record}
 use Rattle.world_calls.specs.declared.trace.Version.{Version}
-use Rattle.engine_core.specs.ByNumber.{NumberedState, IsBehind, RecordFollows, opened_numbered}
-use Rattle.engine_core.proofs.Numbered.{behind_begun}
+use Rattle.engine_core.specs.ByNumber.{NumberedState, IsBehind, RecordFollows}
 use Rattle.trace.specs.HasText.{AllHaveText, HasText}
 use Rattle.trace_of_history.proofs.Each.{each_record_has_text}
-use Rattle.world.specs.Beginning.{Begins}
 use Rattle.world.specs.World.{Setup, version_of}
 use Rattle.world.specs.Lawful.{IsLawful}
 use Rattle.world.specs.WorldRun.{WorldRun}
@@ -40,14 +38,6 @@ underway_still engine printed now way version = record {
   version = version ∙ way.version;
   records = way.records;
   behind = way.behind;
-}
-
-pub underway_first : (setup : Setup) (engine : NumberedState) (printed : Printed) → IsLawful setup → Begins setup → engine ≡ opened_numbered setup → printed.lines.version ≡ version_of setup → IsUnderway engine printed
-underway_first setup engine printed lawful begins opened version = record {
-  lawful = subst (λ (e : NumberedState). IsLawful e.setup) (sym opened) lawful;
-  version = version ∙ ap (λ (e : NumberedState). version_of e.setup) (sym opened);
-  records = [];
-  behind = subst (IsBehind []) (sym opened) (behind_begun setup begins);
 }
 
 pub underway_resumed : (setup : Setup) (engine : NumberedState) (printed : Printed) (count : ℕ) → IsLawful setup → engine.setup ≡ setup → printed.lines.version ≡ version_of setup → StandsBehind count engine → IsUnderway engine printed

@@ -8,10 +8,10 @@ use Rattle.world_calls.specs.declared.record.Record.TheVariants.{Called, Advance
 use Rattle.world_calls.specs.declared.trace.Version.{Version}
 use Rattle.world.specs.World.{Setup, version_of}
 use Rattle.world.specs.Lawful.{IsLawful}
-use Rattle.engine_core.specs.ByNumber.{NumberedState, IsAdvanceOf, IsBehind, opened_numbered}
+use Rattle.engine_core.specs.ByNumber.{NumberedState, IsAdvanceOf, IsBehind}
 use Rattle.trace.specs.Growing.{Goes, StopsIn}
 use Rattle.trace.specs.Sinks.{HasFailed}
-use Rattle.trace.specs.TraceText.{header, records_text}
+use Rattle.trace.specs.TraceText.{records_text}
 use Rattle.host_live.specs.declared.printed.Printed.{Printed}
 use Rattle.host_live.specs.declared.printed_engine.Advanced.{Advanced}
 use Rattle.host_live.specs.declared.printed_engine.Advanced.TheVariants as advanced
@@ -21,17 +21,9 @@ pub record PrintedState : Type 0 where
   pub engine : NumberedState
   pub printed : Printed
 
--- the first line of a trace waits
-abbrev pub begun : Version → Printed
-begun version = record { lines = record { version = version; waiting = header version }; count = 0; has_failed = false }
-
 -- the lines of so many records went out before
 abbrev pub resumed : Version → ℕ → Printed
 resumed version count = record { lines = record { version = version; waiting = [] }; count = count; has_failed = false }
-
--- nothing was asked
-abbrev pub opened_printed : Setup → PrintedState
-opened_printed setup = record { engine = opened_numbered setup; printed = begun (version_of setup) }
 
 -- nothing was asked since these many records
 abbrev pub resumed_printed : ℕ → NumberedState → PrintedState
@@ -68,11 +60,6 @@ pub record GrowsBy (more : List Record) (old : PrintedState) (at : Option (List 
   pub setup : new.engine.setup ≡ old.engine.setup
   pub follows : (records : List Record) → IsBehind records old.engine → IsBehind (records ++ more) new.engine
   pub printed : PrintsAll old.printed at failed more new.printed to fails
-
--- some records more
-pub record Grows (old : PrintedState) (at : Option (List ℕ)) (failed : ℕ) (new : PrintedState) (to : Option (List ℕ)) (fails : ℕ) : Type 0 where
-  pub more : List Record
-  pub by : GrowsBy more old at failed new to fails
 
 -- some records more, of which that holds
 pub record GrowsAs (These : List Record → Type 0) (old : PrintedState) (at : Option (List ℕ)) (failed : ℕ) (new : PrintedState) (to : Option (List ℕ)) (fails : ℕ) : Type 0 where

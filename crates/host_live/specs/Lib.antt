@@ -7,3 +7,4 @@ pub mod Telling
 pub mod Requests
 pub mod Served
 pub mod Turns
+pub mod Successions

@@ -1,12 +1,13 @@
 -- How a request is spelled: as the line of a call, or by a word of its own.
-use Rattle.std.specs.Prelude.{ℕ, Bool, true, Option, Some, None, List, codes}
+use Rattle.std.specs.Prelude.{ℕ, Bool, true, false, Option, Some, None, List, codes}
 use Rattle.std.specs.Fmt.{option_append}
 use Rattle.trace_lines.specs.Calls.{values_of, word_of}
 use Rattle.trace_lines.specs.Lines.{line_text}
 use Rattle.trace_lines.specs.Texts.{number_text}
 use Rattle.world_calls.specs.declared.call.Call.{Call as TheCall}
 use Rattle.host_live.specs.declared.request.Request.{Request}
-use Rattle.host_live.specs.declared.request.Request.TheVariants.{Call, Step, Drive, Drain, Totals, Ccbs, Quit, Help}
+use Rattle.host_live.specs.declared.request.Succession.{Succession}
+use Rattle.host_live.specs.declared.request.Request.TheVariants.{Call, Step, Drive, Drain, Totals, Ccbs, Succeed, Quit, Help}
 
 abbrev pub call_text : TheCall → Option (List ℕ)
 call_text call = line_text (word_of call) (values_of call)
@@ -17,6 +18,16 @@ step_text run = option_append (Some (codes "step ")) (number_text run)
 abbrev pub drive_text : ℕ → Option (List ℕ)
 drive_text run = option_append (Some (codes "drive ")) (number_text run)
 
+-- another engine is to follow, with the manifest read again or not, and numbers anew or not
+abbrev pub succession_words : (is_reloaded is_fresh : Bool) → Option (List ℕ)
+succession_words false false = Some (codes "rotate")
+succession_words false true = Some (codes "rotate fresh")
+succession_words true false = Some (codes "reload")
+succession_words true true = Some (codes "reload fresh")
+
+abbrev pub succession_text : Succession → Option (List ℕ)
+succession_text how = succession_words how.is_reloaded how.is_fresh
+
 -- what is asked for that is no call, whether lines are answered or not
 abbrev pub own_text : Request → Option (List ℕ)
 own_text (Call call) = None
@@ -25,6 +36,7 @@ own_text (Drive run) = drive_text run
 own_text Drain = Some (codes "drain")
 own_text Totals = Some (codes "totals")
 own_text Ccbs = Some (codes "ccbs")
+own_text (Succeed how) = succession_text how
 own_text Quit = None
 own_text Help = None
 

@@ -1,16 +1,21 @@
 -- What a live engine served: of its input, of its answers, and of the trace that is out.
-use Rattle.std.specs.Prelude.{◌≡◌, ◌≢◌, ◌⊎◌, ℕ, Bool, true, false, Option, Some, Result, Ok, Err, List, [], ◌++◌, MatchBool, ⊤}
+use Rattle.std.specs.Prelude.{◌≡◌, ◌≢◌, ◌⊎◌, ℕ, Bool, true, false, Option, Some, None, Result, Ok, Err, List, [], ◌∷◌, ◌++◌, MatchBool, ⊤}
 use Rattle.world_calls.specs.declared.record.Record.{Record}
-use Rattle.world.specs.World.{Setup, version_of}
-use Rattle.engine_core.specs.ByNumber.{NumberedState, opened_numbered}
-use Rattle.trace.specs.TraceText.{header}
+use Rattle.world.specs.World.{version_of}
+use Rattle.engine_core.specs.ByNumber.{NumberedState}
 use Rattle.host_live.specs.Answering.{Answer, AreBehind, IsLong, with_answers}
 use Rattle.host_live.specs.Drafts.{IsDraftOf}
 use Rattle.host_live.specs.Growth.{GrowsBy, PrintedState}
-use Rattle.host_live.specs.Inputs.{CameState, known_of}
+use Rattle.host_live.specs.Inputs.{CameState}
 use Rattle.host_live.specs.LinesCome.{IsAll, Stands}
-use Rattle.host_live.specs.Telling.{IsBegun, IsContinued, IsContinuedInPart, IsOutBehind, IsWrittenOut}
-use Rattle.host_live.specs.Turns.{AreDriven, AreOfRuns, Ends, Follows, IsOfClock, IsReading, OneTurn, Quits, Stops, StopsAt, Turn, TurnInPart, answer_to, is_answered}
+use Rattle.host_live.specs.Successions.{IsDecided, asked_of, fault_of_unfollowed}
+use Rattle.host_live.specs.Telling.{IsContinued, IsContinuedInPart, IsOutBehind}
+use Rattle.host_live.specs.Turns.{AreDriven, AreOfRuns, Asks, Ends, EndsAsked, Follows, IsOfClock, IsReading, OneTurn, Point, Quits, Stops, StopsAt, Turn, TurnInPart, answer_to, is_answered}
+use Rattle.host_live.specs.declared.answering.After.{After}
+use Rattle.host_live.specs.declared.answering.After.TheVariants as after
+use Rattle.host_live.specs.declared.answering.Turn.{Turn as CarriedOut}
+use Rattle.host_live.specs.declared.answering.Turn.TheVariants as turn
+use Rattle.host_live.specs.declared.host.Served.{Served}
 use Rattle.host_live.specs.declared.host.Served.TheVariants as served
 use Rattle.host_live.specs.declared.lines.Lines.{Lines}
 use Rattle.host_live.specs.declared.lines.Next.{Next}
@@ -18,93 +23,85 @@ use Rattle.host_live.specs.declared.lines.Next.TheVariants as next
 use Rattle.host_live.specs.declared.manner.Manner.{Manner}
 use Rattle.host_live.specs.declared.printed.Printed.{Printed}
 use Rattle.host_live.specs.declared.reports.LineFault.TheVariants.{Form}
-use Rattle.host_live.specs.declared.serving.Turn.{Turn as CarriedOut}
-use Rattle.host_live.specs.declared.serving.Turn.TheVariants as turn
+use Rattle.host_live.specs.declared.reports.Unfollowed.{Unfollowed}
+use Rattle.host_live.specs.declared.request.Succession.{Succession}
 
 -- ---- all turns
-
--- All that came was turned, and then the runs that were out were driven.
-pub record IsTurned (manner : Manner) (start : NumberedState) (Placed : List Record → ℕ → Type 0) (base : List ℕ) (came : Option CameState) (records : List Record) (answers : List Answer) : Type 0 where
-  pub turned : List Record
-  pub driven : List Record
-  pub now : NumberedState
-  pub all : records ≡ turned ++ driven
-  pub ends : Ends manner start Placed base came turned answers
-  pub are_driven : AreDriven now driven
-  pub follows : Follows start records now
-
--- a part of that was done
-pub data IsTurnedInPart (manner : Manner) (start : NumberedState) (Placed : List Record → ℕ → Type 0) (base : List ℕ) (came : Option CameState) (records : List Record) (answers : List Answer) : Type 0 where
-  in_turns : Stops manner start Placed base came records answers → IsTurnedInPart manner start Placed base came records answers
-  in_drives : (turned driven : List Record) → records ≡ turned ++ driven → Ends manner start Placed base came turned answers → AreOfRuns driven → IsTurnedInPart manner start Placed base came records answers
 
 -- unless runs stay out, those that were out were driven
 abbrev pub AreDrivenFirst : Manner → NumberedState → List Record → Type 0
 AreDrivenFirst manner now records = MatchBool manner.is_stepped (records ≡ []) (AreDriven now records)
 
--- Then all that came was turned.
-pub record IsGoneOn (manner : Manner) (start : NumberedState) (Placed : List Record → ℕ → Type 0) (base : List ℕ) (came : Option CameState) (records : List Record) (answers : List Answer) : Type 0 where
+-- at the end of the input those that were out were driven, unless the trace is kept
+abbrev pub AreDrivenLast : Manner → NumberedState → List Record → Type 0
+AreDrivenLast manner now records = MatchBool manner.is_kept (records ≡ []) (AreDriven now records)
+
+-- All that came was turned, and then the runs that were out were driven; or the lines up to one that asked for the engine that follows.
+pub data Finishes (manner : Manner) (start : NumberedState) (Placed : List Record → ℕ → Type 0) (point : Point) (came : Option CameState) (lines : Lines) (Decided : Succession → NumberedState → Type 0) : (is_followed : Bool) → List Record → List Answer → Type 0 where
+  to_the_end : (turned last : List Record) (answers : List Answer) (now : NumberedState) → Ends manner start Placed point came turned answers → AreDrivenLast manner now last → Follows start (turned ++ last) now
+      → Finishes manner start Placed point came lines Decided false (turned ++ last) answers
+  to_the_next : (turned : List Record) (answers : List Answer) → EndsAsked manner start Placed point came lines Decided turned answers → Finishes manner start Placed point came lines Decided true turned answers
+
+-- a part of that was done
+pub data FinishesInPart (manner : Manner) (start : NumberedState) (Placed : List Record → ℕ → Type 0) (point : Point) (came : Option CameState) : List Record → List Answer → Type 0 where
+  in_turns : (records : List Record) (answers : List Answer) → Stops manner start Placed point came records answers → FinishesInPart manner start Placed point came records answers
+  in_drives : (turned driven : List Record) (answers : List Answer) → Ends manner start Placed point came turned answers → AreOfRuns driven → (manner.is_kept ≡ true → driven ≡ []) → FinishesInPart manner start Placed point came (turned ++ driven) answers
+  at_last : (lines : Lines) (is_followed : Bool) (records : List Record) (answers : List Answer) → Finishes manner start Placed point came lines (λ how now. ⊤) is_followed records answers → FinishesInPart manner start Placed point came records answers
+
+-- The runs that were out were driven first. Then what came was turned.
+pub record IsGoneOn (manner : Manner) (start : NumberedState) (Placed : List Record → ℕ → Type 0) (point : Point) (came : Option CameState) (lines : Lines) (Decided : Succession → NumberedState → Type 0) (is_followed : Bool) (records : List Record) (answers : List Answer) : Type 0 where
   pub driven : List Record
   pub turned : List Record
   pub now : NumberedState
   pub all : records ≡ driven ++ turned
   pub first : AreDrivenFirst manner now driven
   pub follows : Follows start driven now
-  pub ends : Ends manner now (λ (more : List Record). Placed (driven ++ more)) base came turned answers
+  pub finishes : Finishes manner now (λ (more : List Record). Placed (driven ++ more)) point came lines Decided is_followed turned answers
 
 -- a part of that was done
-pub data IsGoneOnInPart (manner : Manner) (start : NumberedState) (Placed : List Record → ℕ → Type 0) (base : List ℕ) (came : Option CameState) (records : List Record) (answers : List Answer) : Type 0 where
-  in_first : manner.is_stepped ≡ false → AreOfRuns records → answers ≡ [] → IsGoneOnInPart manner start Placed base came records answers
-  in_turns_on : (driven turned : List Record) (now : NumberedState) → records ≡ driven ++ turned → AreDrivenFirst manner now driven → Follows start driven now → Stops manner now (λ (more : List Record). Placed (driven ++ more)) base came turned answers
-      → IsGoneOnInPart manner start Placed base came records answers
-  at_last : IsGoneOn manner start Placed base came records answers → IsGoneOnInPart manner start Placed base came records answers
+pub data IsGoneOnInPart (manner : Manner) (start : NumberedState) (Placed : List Record → ℕ → Type 0) (point : Point) (came : Option CameState) (records : List Record) (answers : List Answer) : Type 0 where
+  in_first : manner.is_stepped ≡ false → AreOfRuns records → answers ≡ [] → IsGoneOnInPart manner start Placed point came records answers
+  in_the_rest : (driven turned : List Record) (now : NumberedState) → records ≡ driven ++ turned → AreDrivenFirst manner now driven → Follows start driven now → FinishesInPart manner now (λ (more : List Record). Placed (driven ++ more)) point came turned answers
+      → IsGoneOnInPart manner start Placed point came records answers
 
--- ---- what is said of the calls
+-- ---- what is said of a call
 
--- The trace that is out is that of the turns of all that came, and the answers are those of these turns, each given when the lines of its
--- turn, and none of later ones, were out.
-pub record IsServed (setup : Setup) (manner : Manner) (began came : Option CameState) (base at : Option (List ℕ)) (given answered : Option (List Answer)) : Type 0 where
-  pub out : IsWrittenOut setup base at
+-- What is out continues the trace of these records by that of the turns of what came, and the answers are those of these turns, each given
+-- when the lines of its turn, and none of later ones, were out.
+pub record IsServedOn (start : NumberedState) (manner : Manner) (point : Point) (came : Option CameState) (lines : Lines) (Decided : Succession → NumberedState → Type 0) (is_followed : Bool) (records : List Record) (base at : Option (List ℕ)) (given answered : Option (List Answer)) : Type 0 where
+  pub out : IsContinued start.setup manner records base at
   pub answers : List Answer
   pub are_answers : answered ≡ with_answers given answers
-  pub turned : IsTurned manner (opened_numbered setup) (IsOutBehind (version_of setup) (header (version_of setup)) base) (known_of began) came out.records answers
+  pub turned : IsGoneOn manner start (IsOutBehind (version_of start.setup) [] base) point came lines Decided is_followed out.more answers
 
 -- a front of that
-pub record IsServedInPart (setup : Setup) (manner : Manner) (began came : Option CameState) (base at : Option (List ℕ)) (given answered : Option (List Answer)) : Type 0 where
-  pub out : IsBegun setup base at
-  pub answers : List Answer
-  pub are_answers : answered ≡ with_answers given answers
-  pub turned : IsTurnedInPart manner (opened_numbered setup) (IsOutBehind (version_of setup) (header (version_of setup)) base) (known_of began) came out.records answers
-
-abbrev pub ServesTurns : {T E : Type 0} → Setup → Manner → Option CameState → Option CameState → Option (List ℕ) → Option (List Answer) → Result T E → Option (List ℕ) → Option (List Answer) → Type 0
-ServesTurns setup manner began came base given (Ok done) at answered = IsServed setup manner began came base at given answered
-ServesTurns setup manner began came base given (Err fault) at answered = IsServedInPart setup manner began came base at given answered
-
--- What is out continues the trace of these records by that of the turns of all that came.
-pub record IsServedOn (start : NumberedState) (manner : Manner) (began came : Option CameState) (records : List Record) (base at : Option (List ℕ)) (given answered : Option (List Answer)) : Type 0 where
-  pub out : IsContinued start.setup records base at
-  pub answers : List Answer
-  pub are_answers : answered ≡ with_answers given answers
-  pub turned : IsGoneOn manner start (IsOutBehind (version_of start.setup) [] base) (known_of began) came out.more answers
-
--- a front of that
-pub record IsServedOnInPart (start : NumberedState) (manner : Manner) (began came : Option CameState) (records : List Record) (base at : Option (List ℕ)) (given answered : Option (List Answer)) : Type 0 where
+pub record IsServedOnInPart (start : NumberedState) (manner : Manner) (point : Point) (came : Option CameState) (records : List Record) (base at : Option (List ℕ)) (given answered : Option (List Answer)) : Type 0 where
   pub out : IsContinuedInPart start.setup records base at
   pub rest : List Record
   pub answers : List Answer
   pub are_answers : answered ≡ with_answers given answers
-  pub turned : IsGoneOnInPart manner start (IsOutBehind (version_of start.setup) [] base) (known_of began) came (out.more ++ rest) answers
+  pub turned : IsGoneOnInPart manner start (IsOutBehind (version_of start.setup) [] base) point came (out.more ++ rest) answers
 
-abbrev pub ContinuesTurns : {T E : Type 0} → NumberedState → Manner → Option CameState → Option CameState → List Record → Option (List ℕ) → Option (List Answer) → Result T E → Option (List ℕ) → Option (List Answer) → Type 0
-ContinuesTurns start manner began came records base given (Ok done) at answered = IsServedOn start manner began came records base at given answered
-ContinuesTurns start manner began came records base given (Err fault) at answered = IsServedOnInPart start manner began came records base at given answered
+abbrev pub ContinuesTurns : {E : Type 0} → NumberedState → Manner → Point → Option CameState → Lines → (Succession → NumberedState → Type 0) → List Record → Option (List ℕ) → Option (List Answer) → Result Bool E → Option (List ℕ) → Option (List Answer) → Type 0
+ContinuesTurns start manner point came lines Decided records base given (Ok is_followed) at answered = IsServedOn start manner point came lines Decided is_followed records base at given answered
+ContinuesTurns start manner point came lines Decided records base given (Err fault) at answered = IsServedOnInPart start manner point came records base at given answered
+
+-- the answer to that line
+abbrev pub is_carried_out : (line behind : ℕ) → List Answer
+is_carried_out line behind = record { line = line; fault = None; behind = behind } ∷ []
+
+-- the answer that was owed was given, if lines are answered; or it could not be
+abbrev pub IsOwed : {T E : Type 0} → Manner → (owed : Option ℕ) → Result T E → Option (List ℕ) → List Answer → Type 0
+IsOwed manner None result base first = first ≡ []
+IsOwed manner (Some line) (Ok done) base first = MatchBool manner.is_told ((behind : ℕ) × IsLong base behind × (first ≡ is_carried_out line behind)) (first ≡ [])
+IsOwed manner (Some line) (Err fault) base first = (first ≡ []) ⊎ ((behind : ℕ) × IsLong base behind × (first ≡ is_carried_out line behind))
 
 -- ---- inside
 
--- these records are those of which the text is out
-abbrev pub ServesBy : {T E : Type 0} → Setup → Option (List ℕ) → List Record → Result T E → Option (List ℕ) → Type 0
-ServesBy setup base records (Ok done) at = (out : IsWrittenOut setup base at) × (out.records ≡ records)
-ServesBy setup base records (Err fault) at = (out : IsBegun setup base at) × (out.records ≡ records)
+-- it was given
+abbrev pub AnswersOwed : {T E : Type 0} → Manner → (owed : Option ℕ) → Option (List ℕ) → Option (List Answer) → Result T E → Option (List Answer) → Type 0
+AnswersOwed manner owed base given (Ok done) answered = (first : List Answer) × IsOwed {E = Unit {0}} manner owed (Ok done) base first × (answered ≡ with_answers given first)
+AnswersOwed manner owed base given (Err fault) answered = answered ≡ given
 
 -- some records and answers more, of which that holds
 pub record GrowsWith (These : List Record → List Answer → Type 0) (old : PrintedState) (at : Option (List ℕ)) (failed : ℕ) (given : Option (List Answer)) (new : PrintedState) (to : Option (List ℕ)) (fails : ℕ) (answered : Option (List Answer)) : Type 0 where
@@ -115,26 +112,29 @@ pub record GrowsWith (These : List Record → List Answer → Type 0) (old : Pri
   pub are_answers : answered ≡ with_answers given others
 
 -- the lines were turned
-abbrev pub EndsOr : {T E : Type 0} → Manner → NumberedState → (List Record → ℕ → Type 0) → List ℕ → Option CameState → Result T E → List Record → List Answer → Type 0
-EndsOr manner start Placed base came (Ok done) records answers = Ends manner start Placed base came records answers
-EndsOr manner start Placed base came (Err fault) records answers = Stops manner start Placed base came records answers
+abbrev pub EndsOr : {E : Type 0} → Manner → NumberedState → (List Record → ℕ → Type 0) → Point → Option CameState → Lines → (Succession → NumberedState → Type 0) → Result Bool E → List Record → List Answer → Type 0
+EndsOr manner start Placed point came lines Decided (Ok false) records answers = Ends manner start Placed point came records answers
+EndsOr manner start Placed point came lines Decided (Ok true) records answers = EndsAsked manner start Placed point came lines Decided records answers
+EndsOr manner start Placed point came lines Decided (Err fault) records answers = Stops manner start Placed point came records answers
 
--- or a part of them, or all of them
-abbrev pub EndsOrPart : {T E : Type 0} → Manner → NumberedState → (List Record → ℕ → Type 0) → List ℕ → Option CameState → Result T E → List Record → List Answer → Type 0
-EndsOrPart manner start Placed base came (Ok done) records answers = Ends manner start Placed base came records answers
-EndsOrPart manner start Placed base came (Err fault) records answers = Stops manner start Placed base came records answers ⊎ Ends manner start Placed base came records answers
+-- and the runs driven, or a part of that was done
+abbrev pub FinishesOr : {E : Type 0} → Manner → NumberedState → (List Record → ℕ → Type 0) → Point → Option CameState → Lines → (Succession → NumberedState → Type 0) → Result Bool E → List Record → List Answer → Type 0
+FinishesOr manner start Placed point came lines Decided (Ok is_followed) records answers = Finishes manner start Placed point came lines Decided is_followed records answers
+FinishesOr manner start Placed point came lines Decided (Err fault) records answers = FinishesInPart manner start Placed point came records answers
 
-abbrev pub TurnsOr : {T E : Type 0} → Manner → NumberedState → (List Record → ℕ → Type 0) → List ℕ → Option CameState → Result T E → NumberedState → List Record → List Answer → Type 0
-TurnsOr manner start Placed base came (Ok done) now records answers = IsTurned manner start Placed base came records answers
-TurnsOr manner start Placed base came (Err fault) now records answers = IsTurnedInPart manner start Placed base came records answers
-
-abbrev pub GoesOnOr : {T E : Type 0} → Manner → NumberedState → (List Record → ℕ → Type 0) → List ℕ → Option CameState → Result T E → List Record → List Answer → Type 0
-GoesOnOr manner start Placed base came (Ok done) records answers = IsGoneOn manner start Placed base came records answers
-GoesOnOr manner start Placed base came (Err fault) records answers = IsGoneOnInPart manner start Placed base came records answers
+abbrev pub GoesOnOr : {E : Type 0} → Manner → NumberedState → (List Record → ℕ → Type 0) → Point → Option CameState → Lines → (Succession → NumberedState → Type 0) → Result Bool E → List Record → List Answer → Type 0
+GoesOnOr manner start Placed point came lines Decided (Ok is_followed) records answers = IsGoneOn manner start Placed point came lines Decided is_followed records answers
+GoesOnOr manner start Placed point came lines Decided (Err fault) records answers = IsGoneOnInPart manner start Placed point came records answers
 
 abbrev pub DrivesFirst : {T E : Type 0} → Manner → Result T E → NumberedState → List Record → Type 0
 DrivesFirst manner (Ok done) now records = AreDrivenFirst manner now records
 DrivesFirst manner (Err fault) now records = (manner.is_stepped ≡ false) × AreOfRuns records
+
+-- the runs that were out at the end of the input were driven, or a part of that was done; none is if another engine follows
+abbrev pub DrivesLast : {T E : Type 0} → Manner → (is_followed : Bool) → Result T E → NumberedState → List Record → Type 0
+DrivesLast manner true result now records = records ≡ []
+DrivesLast manner false (Ok done) now records = AreDrivenLast manner now records
+DrivesLast manner false (Err fault) now records = AreOfRuns records × (manner.is_kept ≡ true → records ≡ [])
 
 -- all was handed on, and no write failed
 abbrev pub IsHandedOn : Printed → Type 0
@@ -148,11 +148,12 @@ IsNow printed at behind = IsHandedOn printed × IsLong at behind
 abbrev pub IsPrintedBehind : Printed → Option (List ℕ) → List Record → ℕ → Type 0
 IsPrintedBehind printed at records behind = (printed.has_failed ≡ false) × IsOutBehind printed.lines.version printed.lines.waiting at records behind
 
--- one turn, the end, or a part of a turn
-abbrev pub NextIs : {E : Type 0} → Manner → List ℕ → List ℕ → ℕ → Option CameState → Lines → Result Bool E → NumberedState → Printed → Option (List ℕ) → List Record → List Answer → Type 0
-NextIs manner base told number came lines (Ok true) now printed at records answers = (bytes : List ℕ) × OneTurn manner told number bytes lines.number records answers now × AreBehind (IsNow printed at) answers × Stands base came lines (told ++ bytes)
-NextIs manner base told number came lines (Ok false) now printed at records answers = ((records ≡ []) × (answers ≡ []) × IsAll base came told) ⊎ (Quits manner base came told number records answers now × AreBehind (IsNow printed at) answers)
-NextIs manner base told number came lines (Err fault) now printed at records answers = (answers ≡ []) × StopsAt manner base came told records
+-- one turn, the end, a line that asks for the engine that follows, or a part of a turn
+abbrev pub NextIs : {E : Type 0} → Manner → List ℕ → List ℕ → ℕ → Option CameState → Lines → (Succession → NumberedState → Type 0) → Result After E → NumberedState → Printed → Option (List ℕ) → List Record → List Answer → Type 0
+NextIs manner base told number came lines Decided (Ok after.More) now printed at records answers = (bytes : List ℕ) × OneTurn manner told number bytes lines.number records answers now × AreBehind (IsNow printed at) answers × Stands base came lines (told ++ bytes)
+NextIs manner base told number came lines Decided (Ok after.End) now printed at records answers = ((records ≡ []) × (answers ≡ []) × IsAll base came told) ⊎ (Quits manner base came told number records answers now × AreBehind (IsNow printed at) answers)
+NextIs manner base told number came lines Decided (Ok after.Asked) now printed at records answers = (answers ≡ []) × Asks manner base came lines Decided told number records now
+NextIs manner base told number came lines Decided (Err fault) now printed at records answers = (answers ≡ []) × StopsAt manner base came told records
 
 -- the line that is carried out
 abbrev pub IsLineNow : Next → Lines → List ℕ → Type 0
@@ -221,12 +222,30 @@ Carries manner next.Nothing line result now records = CarriesNothing result reco
 Carries manner next.End line result now records = CarriesEnd result records
 Carries manner next.Failed line result now records = CarriesFailure result records
 
--- what came was answered, when all was handed on, and whether more may come
-abbrev pub AnswersTurn : {E : Type 0} → Manner → ℕ → CarriedOut → Option (List Answer) → Result Bool E → Option (List Answer) → Printed → Option (List ℕ) → Type 0
-AnswersTurn manner number (turn.Line became) given (Ok is_more) answered printed at =
-    (behind : ℕ) × (answered ≡ with_answers given (answer_to manner number became behind)) × (is_answered manner became ≡ true → IsNow printed at behind) × (is_more ≡ true → manner.is_told ≡ true → became ≢ served.Quit) × (is_more ≡ false → (manner.is_told ≡ true) × (became ≡ served.Quit))
-AnswersTurn manner number turn.Timer given (Ok is_more) answered printed at = (answered ≡ given) × (is_more ≡ true)
-AnswersTurn manner number turn.End given (Ok is_more) answered printed at = (answered ≡ given) × (is_more ≡ false)
+-- what came was answered, when all was handed on, and what comes after it
+abbrev pub AnswersTurn : {E : Type 0} → Manner → ℕ → CarriedOut → Option (List Answer) → Result After E → Option (List Answer) → Printed → Option (List ℕ) → Type 0
+AnswersTurn manner number (turn.Line became) given (Ok after.More) answered printed at =
+    (behind : ℕ) × (answered ≡ with_answers given (answer_to manner number became behind)) × (is_answered manner became ≡ true → IsNow printed at behind) × (manner.is_told ≡ true → became ≢ served.Quit) × (asked_of became ≡ None)
+AnswersTurn manner number (turn.Line became) given (Ok after.End) answered printed at =
+    (behind : ℕ) × (answered ≡ with_answers given (answer_to manner number became behind)) × (is_answered manner became ≡ true → IsNow printed at behind) × (manner.is_told ≡ true) × (became ≡ served.Quit)
+AnswersTurn manner number (turn.Line became) given (Ok after.Asked) answered printed at = (answered ≡ given) × (how : Succession) × (became ≡ served.Asked how)
+AnswersTurn manner number turn.Timer given (Ok what) answered printed at = (answered ≡ given) × (what ≡ after.More)
+AnswersTurn manner number turn.End given (Ok what) answered printed at = (answered ≡ given) × (what ≡ after.End)
 AnswersTurn manner number (turn.Line became) given (Err fault) answered printed at = answered ≡ given
 AnswersTurn manner number turn.Timer given (Err fault) answered printed at = answered ≡ given
 AnswersTurn manner number turn.End given (Err fault) answered printed at = answered ≡ given
+
+-- what a line leads to where it was decided whether another engine follows: the same; or it is refused, if it asked for one and none follows
+abbrev pub IsDecidedLine : Served → (Succession → NumberedState → Type 0) → NumberedState → Served → Type 0
+IsDecidedLine became Decided now result =
+    ((result ≡ became) × IsDecided Decided now became) ⊎ ((how : Succession) × (why : Unfollowed) × (became ≡ served.Asked how) × (result ≡ served.Refused (fault_of_unfollowed why)))
+
+abbrev pub IsDecidedTurn : CarriedOut → (Succession → NumberedState → Type 0) → NumberedState → CarriedOut → Type 0
+IsDecidedTurn (turn.Line became) Decided now result = (is : Served) × (result ≡ turn.Line is) × IsDecidedLine became Decided now is
+IsDecidedTurn turn.Timer Decided now result = result ≡ turn.Timer
+IsDecidedTurn turn.End Decided now result = result ≡ turn.End
+
+-- it was decided, and answered
+abbrev pub AnswersDecided : {E : Type 0} → Manner → ℕ → CarriedOut → (Succession → NumberedState → Type 0) → NumberedState → Option (List Answer) → Result After E → Option (List Answer) → Printed → Option (List ℕ) → Type 0
+AnswersDecided manner number out Decided now given (Ok what) answered printed at = (is : CarriedOut) × IsDecidedTurn out Decided now is × AnswersTurn {E = Unit {0}} manner number is given (Ok what) answered printed at
+AnswersDecided manner number out Decided now given (Err fault) answered printed at = answered ≡ given

@@ -1,5 +1,5 @@
 -- What of the trace of a live engine is out.
-use Rattle.std.specs.Prelude.{◌≡◌, ◌⊎◌, ◌+◌, ◌++◌, ℕ, Option, Some, None, IfSome, List, [], Result, Ok, Err, length, take}
+use Rattle.std.specs.Prelude.{◌≡◌, ◌⊎◌, ◌+◌, ◌++◌, ℕ, true, Option, Some, None, IfSome, List, [], Result, Ok, Err, length}
 use Rattle.std.specs.Fmt.{option_append}
 use Rattle.std.specs.Io.KnownBytes.{Appends}
 use Rattle.world_calls.specs.declared.record.Record.{Record}
@@ -7,44 +7,13 @@ use Rattle.world_calls.specs.declared.totals.Totals.{Totals}
 use Rattle.world_calls.specs.declared.trace.Version.{Version}
 use Rattle.engine_core.specs.ByNumber.{IsHistory, sums_behind}
 use Rattle.trace.specs.Growing.{Goes, IsFront, StopsIn}
-use Rattle.trace.specs.TraceText.{header, lines_text, records_text, totals_text}
+use Rattle.trace.specs.TraceText.{records_text, totals_text}
 use Rattle.world.specs.World.{Setup, World, version_of}
 use Rattle.world.specs.WorldRun.{WorldRun}
 use Rattle.world.specs.Flat.{flat}
 use Rattle.host_live.specs.Growth.{PrintedState}
+use Rattle.host_live.specs.declared.manner.Manner.{Manner}
 use Rattle.world.specs.TotalsOf.{TotalsOf}
-
--- the first line, and those of the first so many records
-abbrev pub front_text : Version → List Record → ℕ → Option (List ℕ)
-front_text version records count = option_append (Some (header version)) (records_text version (take count records))
-
--- the text of a trace of an engine of this setup
-abbrev pub text_of : Setup → List Record → Totals → Option (List ℕ)
-text_of setup records totals = option_append (Some (header (version_of setup))) (lines_text (version_of setup) records totals)
-
--- What went out is the whole trace of an engine of this setup.
-pub record IsWrittenOut (setup : Setup) (base at : Option (List ℕ)) : Type 0 where
-  pub records : List Record
-  pub totals : Totals
-  pub sums : TotalsOf setup records totals
-  pub bytes : List ℕ
-  pub is : text_of setup records totals ≡ Some bytes
-  pub told : Appends base at bytes
-
--- What went out is a front of the trace of an engine of this setup, or of the first lines of one: its first, and those of so many
--- records.
-pub record IsBegun (setup : Setup) (base at : Option (List ℕ)) : Type 0 where
-  pub records : List Record
-  pub totals : Totals
-  pub sums : TotalsOf setup records totals
-  pub bytes : List ℕ
-  pub is : (text_of setup records totals ≡ Some bytes) ⊎ ((count : ℕ) × (front_text (version_of setup) records count ≡ Some bytes))
-  pub front : IsFront bytes base at
-
--- what is said of one that served to the end of its input, or stopped before
-abbrev pub Serves : {T E : Type 0} → Setup → Option (List ℕ) → Result T E → Option (List ℕ) → Type 0
-Serves setup base (Ok done) at = IsWrittenOut setup base at
-Serves setup base (Err fault) at = IsBegun setup base at
 
 -- When the lines of these records were out, after what waited, so many bytes were out.
 abbrev pub IsOutBehind : Version → (waiting : List ℕ) → (base : Option (List ℕ)) → List Record → ℕ → Type 0
@@ -59,18 +28,18 @@ abbrev pub last_text : Option Totals → Option (List ℕ)
 last_text None = Some []
 last_text (Some totals) = totals_text totals
 
--- there is one, with the sums after these records, exactly if no run is live then
-abbrev pub IsLast : Setup → List Record → Option Totals → Type 0
-IsLast setup records None = IsStillLive setup records
-IsLast setup records (Some totals) = TotalsOf setup records totals × (totals.runs ≡ 0)
+-- there is one, with the sums after these records, unless the trace is kept and a run is live then
+abbrev pub IsLast : Setup → Manner → List Record → Option Totals → Type 0
+IsLast setup manner records None = (manner.is_kept ≡ true) × IsStillLive setup records
+IsLast setup manner records (Some totals) = TotalsOf setup records totals × (manner.is_kept ≡ true → totals.runs ≡ 0)
 
 -- What went out is the lines of records with which a history of an engine of this setup goes on after these ones, and the last line, unless
--- a run is live.
-pub record IsContinued (setup : Setup) (records : List Record) (base at : Option (List ℕ)) : Type 0 where
+-- the trace is kept and a run is live.
+pub record IsContinued (setup : Setup) (manner : Manner) (records : List Record) (base at : Option (List ℕ)) : Type 0 where
   pub more : List Record
   pub last : Option Totals
   pub history : IsHistory setup (records ++ more)
-  pub is_last : IsLast setup (records ++ more) last
+  pub is_last : IsLast setup manner (records ++ more) last
   pub bytes : List ℕ
   pub is : option_append (records_text (version_of setup) more) (last_text last) ≡ Some bytes
   pub told : Appends base at bytes
@@ -85,10 +54,10 @@ pub record IsContinuedInPart (setup : Setup) (records : List Record) (base at : 
   pub is : option_append (records_text (version_of setup) more) (last_text last) ≡ Some bytes
   pub front : IsFront bytes base at
 
--- what is said of one that stood behind these records, and served to the end of its input, or stopped before
-abbrev pub Continues : {T E : Type 0} → Setup → List Record → Option (List ℕ) → Result T E → Option (List ℕ) → Type 0
-Continues setup records base (Ok done) at = IsContinued setup records base at
-Continues setup records base (Err fault) at = IsContinuedInPart setup records base at
+-- what is said of one that stood behind these records, and served to its end, or stopped before
+abbrev pub Continues : {T E : Type 0} → Setup → Manner → List Record → Option (List ℕ) → Result T E → Option (List ℕ) → Type 0
+Continues setup manner records base (Ok done) at = IsContinued setup manner records base at
+Continues setup manner records base (Err fault) at = IsContinuedInPart setup records base at
 
 -- ---- inside
 
@@ -99,8 +68,9 @@ EndsTrace state at (Err fault) to =
     (StopsIn (Some []) state.printed.lines.waiting at to ⊎ StopsIn (totals_text (sums_behind state.printed.count state.engine)) state.printed.lines.waiting at to)
     ⊎ Goes (totals_text (sums_behind state.printed.count state.engine)) state.printed.lines.waiting at [] to
 
--- it did, unless a run is live
-abbrev pub Closes : {T E : Type 0} → PrintedState → Option (List ℕ) → Result T E → Option (List ℕ) → Type 0
-Closes state at (Ok done) to =
-    ((state.engine.runs.list ≡ [] → ⊥) × (to ≡ at)) ⊎ ((state.engine.runs.list ≡ []) × Goes (totals_text (sums_behind state.printed.count state.engine)) state.printed.lines.waiting at [] to)
-Closes state at (Err fault) to = EndsTrace {T = Unit {0}} state at (Err fault) to
+-- it did, unless the trace is kept and a run is live
+abbrev pub Closes : {T E : Type 0} → Manner → PrintedState → Option (List ℕ) → Result T E → Option (List ℕ) → Type 0
+Closes manner state at (Ok done) to =
+    ((manner.is_kept ≡ true) × (state.engine.runs.list ≡ [] → ⊥) × (to ≡ at))
+    ⊎ ((manner.is_kept ≡ true → state.engine.runs.list ≡ []) × Goes (totals_text (sums_behind state.printed.count state.engine)) state.printed.lines.waiting at [] to)
+Closes manner state at (Err fault) to = EndsTrace {T = Unit {0}} state at (Err fault) to

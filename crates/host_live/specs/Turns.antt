@@ -13,17 +13,21 @@ use Rattle.engine_core.specs.Looking.{HasRunOut, first_out}
 use Rattle.host_live.specs.Answering.{Answer, AreBehind}
 use Rattle.host_live.specs.Growth.{IsExit}
 use Rattle.host_live.specs.Inputs.{CameState, all_of}
-use Rattle.host_live.specs.LinesCome.{EndsALine, IsAll, IsOneLine, IsText}
+use Rattle.host_live.specs.LinesCome.{EndsALine, IsAll, IsOneLine, IsText, Stands}
 use Rattle.host_live.specs.Requests.{request_text}
+use Rattle.host_live.specs.Successions.{asked_of, fault_of_unfollowed}
 use Rattle.host_live.specs.declared.host.Served.{Served}
 use Rattle.host_live.specs.declared.host.Served.TheVariants as served
 use Rattle.host_live.specs.declared.printed_engine.Advanced.{Advanced}
 use Rattle.host_live.specs.declared.printed_engine.Advanced.TheVariants as advanced
+use Rattle.host_live.specs.declared.lines.Lines.{Lines}
 use Rattle.host_live.specs.declared.manner.Manner.{Manner}
 use Rattle.host_live.specs.declared.reports.LineFault.{LineFault}
-use Rattle.host_live.specs.declared.reports.LineFault.TheVariants.{Form, NotHeld}
+use Rattle.host_live.specs.declared.reports.LineFault.TheVariants.{Form, NotHeld, RunLive}
+use Rattle.host_live.specs.declared.reports.Unfollowed.{Unfollowed}
 use Rattle.host_live.specs.declared.request.Request.{Request}
 use Rattle.host_live.specs.declared.request.Request.TheVariants as asks
+use Rattle.host_live.specs.declared.request.Succession.{Succession}
 
 -- ---- records
 
@@ -133,6 +137,9 @@ pub data Does (manner : Manner) : Request → List Record → Served → Numbere
   one_drive : (run : ℕ) (advances : List Record) (now : NumberedState) → IsDriven run now advances → Does manner (asks.Drive run) advances served.Done now
   only_told : (request : Request) (now : NumberedState) → is_telling request ≡ true → Does manner request [] served.Done now
   asked_to_quit : (now : NumberedState) → Does manner asks.Quit [] served.Quit now
+  run_live : (how : Succession) (now : NumberedState) → (now.runs.list ≡ [] → ⊥) → Does manner (asks.Succeed how) [] (served.Refused RunLive) now
+  asked_to_succeed : (how : Succession) (now : NumberedState) → now.runs.list ≡ [] → Does manner (asks.Succeed how) [] (served.Asked how) now
+  not_followed : (how : Succession) (why : Unfollowed) (now : NumberedState) → now.runs.list ≡ [] → Does manner (asks.Succeed how) [] (served.Refused (fault_of_unfollowed why)) now
 
 -- a part of it or all, where the engine stopped
 pub data DoesInPart (manner : Manner) : Request → List Record → Type 0 where
@@ -232,22 +239,36 @@ answer_to manner number became behind = if is_answered manner became then record
 
 -- ---- the lines of an input
 
+-- where in the input the lines of an engine begin: what came before all lines, the lines before, and how many these are
+pub record Point : Type 0 where
+  pub base : List ℕ
+  pub told : List ℕ
+  pub number : ℕ
+
+-- the reading of lines stands there
+pub record IsAt (point : Point) (came : Option CameState) (lines : Lines) : Type 0 where
+  pub stands : Stands point.base came lines point.told
+  pub number : lines.number ≡ point.number
+
+abbrev pub IsSomewhere : Option CameState → Lines → Type 0
+IsSomewhere came lines = (point : Point) × IsAt point came lines
+
 -- Behind these lines, which are so many: the bytes of what came next, the number of the last line, the records, the answers, and the engine
--- then. A line begins where one ended. Where lines are answered, none asked to quit.
+-- then. A line begins where one ended. Where lines are answered, none asked to quit; and none asked for the engine that follows.
 pub data OneTurn (manner : Manner) (told : List ℕ) (number : ℕ) : List ℕ → ℕ → List Record → List Answer → NumberedState → Type 0 where
-  whole_line : (line : List ℕ) (records : List Record) (became : Served) (behind : ℕ) (now : NumberedState) → EndsALine told → IsOneLine line → Turn manner line records became now → (manner.is_told ≡ true → became ≢ served.Quit)
+  whole_line : (line : List ℕ) (records : List Record) (became : Served) (behind : ℕ) (now : NumberedState) → EndsALine told → IsOneLine line → Turn manner line records became now → (manner.is_told ≡ true → became ≢ served.Quit) → asked_of became ≡ None
       → OneTurn manner told number (line ++ 10 ∷ []) (number + 1) records (answer_to manner (number + 1) became behind) now
   cut_line : (line : List ℕ) (reading : Option ℕ) (records : List Record) (behind : ℕ) (now : NumberedState) → EndsALine told → IsOneLine line → line ≢ [] → IsOfClock manner reading → IsReading reading records
       → OneTurn manner told number line (number + 1) records (answer_to manner (number + 1) (served.Refused Form) behind) now
   timer_due : (reading : Option ℕ) (records : List Record) (now : NumberedState) → IsOfClock manner reading → IsReading reading records → OneTurn manner told number [] number records [] now
 
--- The lines that came so far, and the timers that were due between them, turn by turn. Each answer stands where it may behind the records so
--- far.
-pub data Turns (manner : Manner) (start : NumberedState) (Placed : List Record → ℕ → Type 0) : List ℕ → ℕ → List Record → List Answer → Type 0 where
-  no_turn : Turns manner start Placed [] 0 [] []
+-- The lines that came so far from that point on, and the timers that were due between them, turn by turn. Each answer stands where it may
+-- behind the records so far.
+pub data Turns (manner : Manner) (start : NumberedState) (Placed : List Record → ℕ → Type 0) (point : Point) : List ℕ → ℕ → List Record → List Answer → Type 0 where
+  no_turn : Turns manner start Placed point point.told point.number [] []
   one_more : (told : List ℕ) (number : ℕ) (records : List Record) (answers : List Answer) (bytes : List ℕ) (last : ℕ) (more : List Record) (others : List Answer) (now : NumberedState)
-      → Turns manner start Placed told number records answers → OneTurn manner told number bytes last more others now → Follows start (records ++ more) now → AreBehind (Placed (records ++ more)) others
-      → Turns manner start Placed (told ++ bytes) last (records ++ more) (answers ++ others)
+      → Turns manner start Placed point told number records answers → OneTurn manner told number bytes last more others now → Follows start (records ++ more) now → AreBehind (Placed (records ++ more)) others
+      → Turns manner start Placed point (told ++ bytes) last (records ++ more) (answers ++ others)
 
 -- That line asked to quit, where lines are answered.
 pub record Quits (manner : Manner) (base : List ℕ) (came : Option CameState) (told : List ℕ) (number : ℕ) (more : List Record) (others : List Answer) (now : NumberedState) : Type 0 where
@@ -261,10 +282,33 @@ pub record Quits (manner : Manner) (base : List ℕ) (came : Option CameState) (
   pub is : IfSome came (λ known. (rest : List ℕ) × (all_of known ≡ base ++ (told ++ (line ++ 10 ∷ rest))))
 
 -- All that came was turned, and the input is at its end; or a line asked to quit.
-pub data Ends (manner : Manner) (start : NumberedState) (Placed : List Record → ℕ → Type 0) (base : List ℕ) (came : Option CameState) : List Record → List Answer → Type 0 where
-  at_end : (told : List ℕ) (number : ℕ) (records : List Record) (answers : List Answer) → Turns manner start Placed told number records answers → IsAll base came told → Ends manner start Placed base came records answers
-  at_quit : (told : List ℕ) (number : ℕ) (records more : List Record) (answers others : List Answer) (now : NumberedState) → Turns manner start Placed told number records answers → Quits manner base came told number more others now
-      → Follows start (records ++ more) now → AreBehind (Placed (records ++ more)) others → Ends manner start Placed base came (records ++ more) (answers ++ others)
+pub data Ends (manner : Manner) (start : NumberedState) (Placed : List Record → ℕ → Type 0) (point : Point) (came : Option CameState) : List Record → List Answer → Type 0 where
+  at_end : (told : List ℕ) (number : ℕ) (records : List Record) (answers : List Answer) → Turns manner start Placed point told number records answers → IsAll point.base came told → Ends manner start Placed point came records answers
+  at_quit : (told : List ℕ) (number : ℕ) (records more : List Record) (answers others : List Answer) (now : NumberedState) → Turns manner start Placed point told number records answers → Quits manner point.base came told number more others now
+      → Follows start (records ++ more) now → AreBehind (Placed (records ++ more)) others → Ends manner start Placed point came (records ++ more) (answers ++ others)
+
+-- That line asked for another engine, and it was decided that it follows this one, which has no live run. What comes next is not turned yet.
+pub record Asks (manner : Manner) (base : List ℕ) (came : Option CameState) (lines : Lines) (Decided : Succession → NumberedState → Type 0) (told : List ℕ) (number : ℕ) (more : List Record) (now : NumberedState) : Type 0 where
+  pub line : List ℕ
+  pub begins : EndsALine told
+  pub one_line : IsOneLine line
+  pub how : Succession
+  pub turn : Turn manner line more (served.Asked how) now
+  pub is_decided : Decided how now
+  pub number_is : lines.number ≡ number + 1
+  pub stands : Stands base came lines (told ++ (line ++ 10 ∷ []))
+
+-- All lines before such a one were turned, and it.
+pub record EndsAsked (manner : Manner) (start : NumberedState) (Placed : List Record → ℕ → Type 0) (point : Point) (came : Option CameState) (lines : Lines) (Decided : Succession → NumberedState → Type 0) (records : List Record) (answers : List Answer) : Type 0 where
+  pub told : List ℕ
+  pub number : ℕ
+  pub turned : List Record
+  pub turns : Turns manner start Placed point told number turned answers
+  pub more : List Record
+  pub now : NumberedState
+  pub asks : Asks manner point.base came lines Decided told number more now
+  pub all : records ≡ turned ++ more
+  pub follows : Follows start records now
 
 -- behind these lines it stopped at a reading at most, or in the turn of the next line
 pub data StopsAt (manner : Manner) (base : List ℕ) (came : Option CameState) (told : List ℕ) (records : List Record) : Type 0 where
@@ -272,11 +316,11 @@ pub data StopsAt (manner : Manner) (base : List ℕ) (came : Option CameState) (
   in_line : (line : List ℕ) → EndsALine told → IsOneLine line → TurnInPart manner line records → IfSome came (λ known. (rest : List ℕ) × (all_of known ≡ base ++ (told ++ (line ++ 10 ∷ rest)))) → StopsAt manner base came told records
 
 -- It stopped behind some turns.
-pub record Stops (manner : Manner) (start : NumberedState) (Placed : List Record → ℕ → Type 0) (base : List ℕ) (came : Option CameState) (records : List Record) (answers : List Answer) : Type 0 where
+pub record Stops (manner : Manner) (start : NumberedState) (Placed : List Record → ℕ → Type 0) (point : Point) (came : Option CameState) (records : List Record) (answers : List Answer) : Type 0 where
   pub told : List ℕ
   pub number : ℕ
   pub turned : List Record
-  pub turns : Turns manner start Placed told number turned answers
+  pub turns : Turns manner start Placed point told number turned answers
   pub more : List Record
-  pub at : StopsAt manner base came told more
+  pub at : StopsAt manner point.base came told more
   pub all : records ≡ turned ++ more

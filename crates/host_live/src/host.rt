@@ -1,9 +1,10 @@
 // The host of a live engine: it carries requests out. It relies on `printed_engine` for the engine.
 
-ghost use Rattle.std.specs.Prelude.{◌≡◌, ◌≢◌, ℕ, List, Option, Some, IsErr, MatchOption, true, false};
+ghost use Rattle.std.specs.Prelude.{◌≡◌, ◌≢◌, ℕ, List, [], Option, Some, IsErr, MatchOption, true, false};
 ghost use Rattle.host_live.specs.Growth.{GrowsAs, GrowsBy};
 ghost use Rattle.engine_core.specs.ByNumber.{is_of_parking};
 ghost use Rattle.host_live.specs.LinesCome.{IsText};
+ghost use Rattle.host_live.specs.Successions.{asked_of};
 ghost use Rattle.host_live.specs.Turns.{Acts, ActsHere, ActsOn, IsNotHeld, IsOfClock, IsReading, MakesOne, ReadThen, ReadsDue, Drives, DrivesAll, DrivesStarted, DrivesTo, Tells, Turned, fault_of, is_of_steps, record_of_answer, run_to_drive, stepped_of};
 ghost use Rattle.host_live.specs.declared.manner.Manner.{Manner as TheManner};
 ghost use Rattle.host_live.specs.declared.host.Served.TheVariants.{Quit, Skipped};
@@ -13,7 +14,7 @@ use crate::manner::Manner;
 use crate::outlet::Outlet;
 use crate::printed_engine::{Advanced, PrintedEngine};
 use crate::reports::{LineFault, Reports};
-use crate::request::{Request, request_of};
+use crate::request::{Request, Succession, request_of};
 use scenario::is_skipped;
 use std::alloc::{AllocError, Global};
 use world_calls::{Call, CallAnswer};
@@ -35,6 +36,8 @@ pub(crate) enum Served {
     Done,
     /// It was carried out, and is the last one.
     Quit,
+    /// It asks for another engine to follow this one, and no run is live.
+    Asked(Succession),
     /// It was not carried out.
     Refused(LineFault),
 }
@@ -56,13 +59,23 @@ impl Served {
         matches!(self, Served::Quit)
     }
 
+    /// How another engine is to follow, if it asks for one.
+    pub(crate) fn asked(&self) -> Option<Succession>
+        ensures { result ≡ asked_of self.now }
+    {
+        match self {
+            Served::Asked(how) => Some(*how),
+            Served::Skipped | Served::Done | Served::Quit | Served::Refused(_) => None,
+        }
+    }
+
     /// Why it was not carried out.
     pub(crate) fn fault(&self) -> Option<LineFault>
         ensures { result ≡ fault_of self.now }
     {
         match self {
             Served::Refused(fault) => Some(*fault),
-            Served::Skipped | Served::Done | Served::Quit => None,
+            Served::Skipped | Served::Done | Served::Quit | Served::Asked(_) => None,
         }
     }
 }
@@ -95,7 +108,12 @@ fn is_of_steps(request: &Request) -> bool
     match request {
         Request::Call(call) => is_call_of_steps(call),
         Request::Step(_) | Request::Drive(_) => true,
-        Request::Drain | Request::Totals | Request::Ccbs | Request::Quit | Request::Help => false,
+        Request::Drain
+        | Request::Totals
+        | Request::Ccbs
+        | Request::Succeed(_)
+        | Request::Quit
+        | Request::Help => false,
     }
 }
 
@@ -373,6 +391,37 @@ impl<'a> Host<'a> {
             Request::Ccbs => self.tell(Told::Ccbs, Served::Done, now, reports, out),
             Request::Help => self.tell(Told::Requests, Served::Done, now, reports, out),
             Request::Quit => self.tell(Told::Nothing, Served::Quit, now, reports, out),
+            Request::Succeed(how) => self.succeed(how, now, out),
+        }
+    }
+
+    // Another engine is asked for, behind the reading, unless a run is live.
+    fn succeed<S: Outlet>(
+        &mut self,
+        how: Succession,
+        now: Option<u64>,
+        out: &mut S,
+    ) -> Result<Served, HostFault>
+        ensures grown { GrowsAs (ReadThen now (λ acts. (manner : TheManner) → Acts manner (asks.Succeed how) result self.new.engine.engine acts)) self.old.engine (S.bytes out.old) (S.failures out.old) self.new.engine (S.bytes out.new) (S.failures out.new) }
+        ensures answers { S.answers out.new ≡ S.answers out.old }
+    {
+        if self.engine.has_run() {
+            return Ok(Served::Refused(LineFault::RunLive));
+        }
+        match self.read(now, out) {
+            Ok(()) => self.succeed_here(how),
+            Err(fault) => Err(fault),
+        }
+    }
+
+    // The same after the reading, which starts no run.
+    fn succeed_here(&self, how: Succession) -> Result<Served, HostFault>
+        ensures { (manner : TheManner) → Acts manner (asks.Succeed how) result self.now.engine.engine [] }
+    {
+        if self.engine.has_run() {
+            Err(HostFault::InternalError)
+        } else {
+            Ok(Served::Asked(how))
         }
     }
 

@@ -3,6 +3,7 @@
 // calls, and on `trace` for what goes out.
 #![tactic(auto)]
 
+mod answering;
 mod draft;
 mod host;
 mod input;
@@ -12,13 +13,16 @@ mod manner;
 mod outlet;
 mod printed;
 mod printed_engine;
+mod putting;
 mod reports;
 mod request;
 mod serving;
 
 pub use input::{Came, Input};
+pub use lines::Lines;
 pub use manner::Manner;
 pub use outlet::Outlet;
-pub use reports::{LineFault, Reports};
-pub use request::{Request, request_of};
-pub use serving::{LiveFault, serve, serve_on};
+pub use putting::put_all;
+pub use reports::{LineFault, Reports, Unfollowed};
+pub use request::{Request, Succession, request_of};
+pub use serving::{LiveFault, serve};

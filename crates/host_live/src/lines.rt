@@ -29,9 +29,9 @@ pub(crate) enum Next {
     Failed,
 }
 
-/// The lines of an input.
+/// The lines of an input, as far as they came. One engine's lines go on where those of the engine before ended.
 #[derive(Drop)]
-pub(crate) struct Lines {
+pub struct Lines {
     // how many bytes of the piece that came last were taken
     pub(crate) taken: usize,
     pub(crate) draft: Draft,
@@ -47,7 +47,7 @@ pub(crate) struct Lines {
 
 impl Lines {
     /// The lines of an input of which what came before is let go, for an engine whose clock reads that.
-    pub(crate) fn of<I: Input>(input: &I, begun: u64) -> Self
+    pub fn of<I: Input>(input: &I, begun: u64) -> Self
         ensures ended { result.is_ended ≡ false }
         ensures number { result.number ≡ 0 }
         ensures stands { Stands (known_of (I.came input.now)) (I.came input.now) result [] }
@@ -60,6 +60,13 @@ impl Lines {
             is_ended: false,
             begun,
         }
+    }
+
+    /// The engine's clock reads that where the input's began, in milliseconds.
+    pub fn begin_at(&mut self, begun: u64)
+        ensures same { self.new ≡ record self.old { begun = begun } }
+    {
+        self.begun = begun;
     }
 
     /// Takes the next line, if it is there. Whether it is.
@@ -93,8 +100,8 @@ impl Lines {
         }
     }
 
-    /// The number of the line that came, the first being 1.
-    pub(crate) fn number(&self) -> usize
+    /// The number of the line that came last, the first being 1; 0 if none came.
+    pub fn number(&self) -> usize
         ensures { result ≡ self.now.number }
     {
         self.number

@@ -9,4 +9,7 @@ pub struct Manner {
     pub is_told: bool,
     /// The engine's clock goes by the input's. Otherwise that is not read, and only lines move the engine's.
     pub is_clocked: bool,
+    /// The trace is kept where a later start finds it: at the end of the input no run is driven, and no last line is printed while a run is
+    /// live. Otherwise the runs that are out are driven to their ends then, and the last line is always printed.
+    pub is_kept: bool,
 }

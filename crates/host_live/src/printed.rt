@@ -3,7 +3,7 @@
 ghost use Rattle.std.specs.Prelude.{◌≡◌, ◌-◌, ◌<◌, ◌^◌, ◌∷◌, [], None, false, true, IfErr, OnOk};
 ghost use Rattle.trace.specs.HasText.{HasText};
 ghost use Rattle.host_live.specs.Answering.{Answers};
-ghost use Rattle.host_live.specs.Growth.{PrintsAll, begun, resumed};
+ghost use Rattle.host_live.specs.Growth.{PrintsAll, resumed};
 
 use crate::lending::{hand_on, print_next};
 use crate::outlet::Outlet;
@@ -21,17 +21,6 @@ pub(crate) struct Printed {
 }
 
 impl Printed {
-    /// A trace of no record, of which the first line waits.
-    pub(crate) fn of(version: Version) -> Self
-        ensures { result ≡ begun version }
-    {
-        Printed {
-            lines: Growing::of(version),
-            count: 0,
-            has_failed: false,
-        }
-    }
-
     /// A trace of so many records, which went out before. Nothing waits.
     pub(crate) fn resumed(version: Version, count: u64) -> Self
         ensures { result ≡ resumed version count }

@@ -8,20 +8,17 @@ ghost use Rattle.engine_core.specs.ByNumber.{guests_of, sums_behind};
 ghost use Rattle.engine_core.specs.Looking.{HasRunOut, first_out};
 ghost use Rattle.engine_transport.specs.Freezing.{IsNextDue};
 ghost use Rattle.trace.specs.Sinks.{HasFailed};
-ghost use Rattle.world.specs.Beginning.{Begins};
-ghost use Rattle.world.specs.World.{Setup};
 ghost use Rattle.world_calls.specs.declared.record.Record.{Record as TheRecord};
 ghost use Rattle.host_live.specs.Answering.{Answers};
-ghost use Rattle.host_live.specs.Growth.{GrowsBy, IsExit, IsMadeBy, StandsBehind, opened_printed, record_of_call, resumed_printed};
-ghost use Rattle.host_live.specs.Served.{ServesBy};
+ghost use Rattle.host_live.specs.Growth.{GrowsBy, IsExit, IsMadeBy, StandsBehind, record_of_call, resumed_printed};
 ghost use Rattle.host_live.specs.Telling.{EndsTrace};
 
 use crate::lending::end;
 use crate::outlet::Outlet;
 use crate::printed::Printed;
 use crate::reports::LineFault;
-use engine_core::{Config, LiveCcb, NumberedEngine};
-use std::alloc::{AllocError, Global};
+use engine_core::{LiveCcb, NumberedEngine};
+use std::alloc::AllocError;
 use std::marker::Model;
 use trace::WriteFailed;
 use world_calls::{Call, CallAnswer, Record, StoppedAt, Totals, Version};
@@ -65,16 +62,6 @@ fn is_exit(entry: &Record) -> bool
 }
 
 impl<'a> PrintedEngine<'a> {
-    /// An engine of which nothing was asked. The first line of its trace waits.
-    pub(crate) fn open(alloc: Global, config: &'a Config) -> Result<Self, AllocError>
-        ensures opened { IfOk result (λ opened. opened ≡ opened_printed config.now) }
-        ensures begins { Begins config.now }
-    {
-        let engine = NumberedEngine::open(alloc, config)?;
-        let printed = Printed::of(Version::of(config.helpers()));
-        Ok(PrintedEngine { engine, printed })
-    }
-
     /// An engine that stands after a history of so many records, of which the trace went out before. Nothing waits.
     pub(crate) fn resumed(engine: NumberedEngine<'a>, count: u64) -> Self
         requires behind { StandsBehind count engine }
@@ -194,6 +181,13 @@ impl<'a> PrintedEngine<'a> {
         self.engine.totals(self.printed.count)
     }
 
+    /// The engine.
+    pub(crate) fn engine(&self) -> &NumberedEngine<'a>
+        ensures { result.now ≡ self.now.engine }
+    {
+        &self.engine
+    }
+
     /// Whether a run is live.
     pub(crate) fn has_run(&self) -> bool
         ensures live { result ≡ true → self.now.engine.runs.list ≡ [] → ⊥ }
@@ -205,6 +199,7 @@ impl<'a> PrintedEngine<'a> {
     /// Hands on what waits, and says that nothing more comes for now. It reports a write that fails, or failed before.
     pub(crate) fn settle<S: Outlet>(&mut self, out: &mut S) -> Result<(), WriteFailed>
         ensures printed { GrowsBy [] self.old (S.bytes out.old) (S.failures out.old) self.new (S.bytes out.new) (S.failures out.new) }
+        ensures engine { self.new.engine ≡ self.old.engine }
         ensures all { OnOk result (self.new.printed.lines.waiting ≡ []) }
         ensures whole { OnOk result (self.new.printed.has_failed ≡ false) }
         ensures failed { IfErr result (λ _. self.new.printed.has_failed ≡ true) }
@@ -240,8 +235,6 @@ impl<'a> PrintedEngine<'a> {
 
     /// Prints the last line, hands all on, and says that nothing more comes. It reports a write that fails, or failed before.
     pub(crate) fn end<S: Outlet>(self, out: &mut S) -> Result<(), WriteFailed>
-        ensures told { (setup : Setup) (base : Option (List ℕ)) (failed : ℕ) (records : List TheRecord) → Begins setup → GrowsBy records (opened_printed setup) base failed self.entry (S.bytes out.old) (S.failures out.old) → ServesBy setup base records result (S.bytes out.new) }
-        ensures failed { (setup : Setup) (base : Option (List ℕ)) (failed : ℕ) (records : List TheRecord) → GrowsBy records (opened_printed setup) base failed self.entry (S.bytes out.old) (S.failures out.old) → IfErr result (λ _. HasFailed failed (S.failures out.new)) }
         ensures last { self.entry.printed.has_failed ≡ false → EndsTrace self.entry (S.bytes out.old) result (S.bytes out.new) }
         ensures fails { OnErr result (HasFailed (S.failures out.old) (S.failures out.new) ⊎ (self.entry.printed.has_failed ≡ true)) }
         ensures answers { S.answers out.new ≡ S.answers out.old }

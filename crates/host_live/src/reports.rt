@@ -1,7 +1,12 @@
-// Who is told of lines that are not carried out, of sums, of CCBs, and of requests. It relies on `world_calls` for sums, and on `engine_core` for
-// CCBs.
+// Who is told of lines that are not carried out, of sums, of CCBs, and of requests, and who decides whether an engine follows another one. It
+// relies on `world_calls` for sums, and on `engine_core` for engines and CCBs.
 
-use engine_core::LiveCcb;
+ghost use Rattle.std.specs.Prelude.{◌≡◌, None, Ok};
+ghost use Rattle.host_live.specs.Successions.{fault_of_unfollowed};
+
+use crate::request::Succession;
+use engine_core::{LiveCcb, NumberedEngine};
+use std::alloc::AllocError;
 use world_calls::Totals;
 
 /// Why a line is not carried out. It is in no trace, and nothing changed.
@@ -11,10 +16,44 @@ pub enum LineFault {
     Form,
     /// N2: the line gives back a freeze that no guest holds, or is about a run that is not out.
     NotHeld,
+    /// N3: the line asks for another engine while a run is live.
+    RunLive,
+    /// N4: the other engine would lack a queue or a controller that is in use.
+    DoesNotFit,
+    /// The manifest that the line asks for is refused. Whoever decided that has reported why.
+    Manifest,
 }
 
-/// Is told what is no part of a trace. What cannot be told is not told.
+/// Why no engine follows this one.
+#[derive(Clone, Copy, Debug, PartialEq, Eq)]
+pub enum Unfollowed {
+    /// No manifest is given that could be read again.
+    NoManifest,
+    /// The manifest is refused, which is reported.
+    Manifest,
+    /// Its configuration lacks a queue or a controller that is in use.
+    DoesNotFit,
+}
+
+// The fault of the line that asked for it.
+pub(crate) fn fault_of(why: Unfollowed) -> LineFault
+    ensures { result ≡ fault_of_unfollowed why }
+{
+    match why {
+        Unfollowed::NoManifest => LineFault::Form,
+        Unfollowed::Manifest => LineFault::Manifest,
+        Unfollowed::DoesNotFit => LineFault::DoesNotFit,
+    }
+}
+
+/// Is told what is no part of a trace, and decides whether an engine follows another one. What cannot be told is not told. Contracts see what
+/// was decided at last: how an engine is to follow, and which one.
 pub trait Reports {
+    ghost use Rattle.engine_core.specs.ByNumber.{NumberedState};
+    ghost use Rattle.host_live.specs.declared.request.Succession.{Succession};
+
+    ghost has_decided: { Self → Succession → NumberedState → Type 0 };
+
     /// That line is not carried out, the first being 1.
     fn refused(&mut self, fault: LineFault, line: usize);
 
@@ -26,4 +65,12 @@ pub trait Reports {
 
     /// The list of the requests is asked for.
     fn help(&mut self);
+
+    /// A line asks for another engine to follow this one, which has no live run: `None` if one is to, or why not.
+    fn follow(
+        &mut self,
+        how: Succession,
+        engine: &NumberedEngine<'_>,
+    ) -> Result<Option<Unfollowed>, AllocError>
+        ensures { result ≡ Ok None → has_decided self.new how engine.now };
 }

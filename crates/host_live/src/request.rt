@@ -3,11 +3,20 @@
 ghost use Rattle.std.specs.Prelude.{◌≡◌, ◌++◌, ℕ, IfOk, List, MatchOption};
 ghost use Rattle.trace_lines.specs.Texts.{number_text};
 ghost use Rattle.trace_lines.specs.Written.{Reads};
-ghost use Rattle.host_live.specs.Requests.{call_text, drive_text, own_text, request_text, step_text, told_text, named_text};
+ghost use Rattle.host_live.specs.Requests.{call_text, drive_text, own_text, request_text, step_text, succession_text, told_text, named_text};
 
 use std::alloc::{AllocError, Global};
 use trace_lines::{call_of, long_number, read_line};
 use world_calls::Call;
+
+/// How another engine is to follow.
+#[derive(Clone, Copy, Debug, PartialEq, Eq)]
+pub struct Succession {
+    /// The manifest is read again. Otherwise the one in force stays.
+    pub is_reloaded: bool,
+    /// CCBs, freezes and runs are numbered from 1 again.
+    pub is_fresh: bool,
+}
 
 /// What a line asks for.
 #[derive(Debug, Drop)]
@@ -24,6 +33,8 @@ pub enum Request {
     Totals,
     /// `ccbs`: the live CCBs are told.
     Ccbs,
+    /// `rotate`, `rotate fresh`, `reload` or `reload fresh`: another engine is to follow this one.
+    Succeed(Succession),
     /// `quit`: the input ends here. Only where lines are answered.
     Quit,
     /// `help`: the list of the requests is told. Only where lines are answered.
@@ -95,13 +106,47 @@ fn own_request(line: &str) -> Option<Request>
     if line == "ccbs" {
         return Some(Request::Ccbs);
     }
-    match step_request(line) {
-        Some(stepped) => Some(Request::Step(stepped)),
-        None => match drive_request(line) {
-            Some(driven) => Some(Request::Drive(driven)),
-            None => None,
+    match succession_in(line) {
+        Some(how) => Some(Request::Succeed(how)),
+        None => match step_request(line) {
+            Some(stepped) => Some(Request::Step(stepped)),
+            None => match drive_request(line) {
+                Some(driven) => Some(Request::Drive(driven)),
+                None => None,
+            },
         },
     }
+}
+
+// How another engine is to follow.
+fn succession_in(line: &str) -> Option<Succession>
+    ensures { Reads succession_text line.now result }
+{
+    if line == "rotate" {
+        return Some(Succession {
+            is_reloaded: false,
+            is_fresh: false,
+        });
+    }
+    if line == "rotate fresh" {
+        return Some(Succession {
+            is_reloaded: false,
+            is_fresh: true,
+        });
+    }
+    if line == "reload" {
+        return Some(Succession {
+            is_reloaded: true,
+            is_fresh: false,
+        });
+    }
+    if line == "reload fresh" {
+        return Some(Succession {
+            is_reloaded: true,
+            is_fresh: true,
+        });
+    }
+    None
 }
 
 // The run that is to be driven to its next stop.

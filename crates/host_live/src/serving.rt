@@ -1,31 +1,32 @@
-// A live engine from its opening, or from where it stands, to the end of its input. It relies on `host` for what lines ask, on `lines` for lines, and on
-// `printed_engine` for what goes out.
+// A live engine from where it stands to the end of its input, or to the engine that follows it. It relies on `host` for what lines ask, on
+// `lines` for lines, and on `printed_engine` for what goes out.
 
-ghost use Rattle.std.specs.Prelude.{◌≡◌, ◌≢◌, ◌<◌, ◌^◌, ◌-◌, ℕ, [], Option, List, Ok, Err, IfErr, IfOk, IsTrue, OnErr, OnOk, false, length, true};
-ghost use Rattle.engine_core.specs.ByNumber.{IsBehind, NumberedState};
+ghost use Rattle.std.specs.Prelude.{◌≡◌, ◌≢◌, ◌<◌, ◌^◌, ◌-◌, ℕ, [], List, Ok, Err, IfErr, IfOk, IsTrue, OnErr, OnOk, Some, false, length, true};
+ghost use Rattle.engine_core.specs.ByNumber.{IsBehind};
+ghost use Rattle.trace.specs.Growing.{FailsBySink};
 ghost use Rattle.trace.specs.Sinks.{HasFailed};
-ghost use Rattle.world.specs.Beginning.{Begins};
-ghost use Rattle.world.specs.World.{Setup};
 ghost use Rattle.world_calls.specs.declared.record.Record.{Record as TheRecord};
+ghost use Rattle.host_live.specs.Answering.{Answer, with_answers};
 ghost use Rattle.host_live.specs.Drafts.{IsDraftOf};
-ghost use Rattle.host_live.specs.Growth.{GrowsAs, GrowsBy, StandsBehind, opened_printed, resumed_printed};
-ghost use Rattle.host_live.specs.Inputs.{known_of};
+ghost use Rattle.host_live.specs.Growth.{GrowsAs, GrowsBy, StandsBehind};
 ghost use Rattle.host_live.specs.LinesCome.{IsTaken, Stands, Waits};
-ghost use Rattle.host_live.specs.Served.{AnswersTurn, Carries, CarriesCut, CarriesLine, CarriesReading, ContinuesTurns, DrivesFirst, EndsOr, EndsOrPart, GoesOnOr, GrowsWith, IsLineNow, IsPrintedBehind, MayCome, NextIs, ServesBy, ServesTurns, TurnsOr};
-ghost use Rattle.host_live.specs.Telling.{Closes, Continues, Serves};
-ghost use Rattle.host_live.specs.Turns.{DrivesAll};
+ghost use Rattle.host_live.specs.Served.{AnswersOwed, Carries, CarriesCut, CarriesLine, CarriesReading, ContinuesTurns, DrivesFirst, DrivesLast, EndsOr, FinishesOr, GoesOnOr, GrowsWith, IsLineNow, IsOwed, IsPrintedBehind, MayCome, NextIs};
+ghost use Rattle.host_live.specs.Telling.{Closes, Continues};
+ghost use Rattle.host_live.specs.Turns.{DrivesAll, IsAt, IsSomewhere, Point};
 ghost use Rattle.host_live.specs.declared.lines.Next.TheVariants.{End, Failed};
-ghost use Rattle.host_live.specs.declared.serving.Turn.TheVariants.{End as AtEnd, Line as LineTurn};
+ghost use Rattle.host_live.specs.declared.answering.After.TheVariants.{End as AfterAll};
+ghost use Rattle.host_live.specs.declared.answering.Turn.TheVariants.{End as AtEnd};
 ghost use Rattle.host_live.specs.declared.serving.LiveFault.TheVariants.{Unread, Unwritten};
 
-use crate::host::{Host, HostFault, Served};
+use crate::answering::{After, Turn, answer_decided, stop};
+use crate::host::{Host, HostFault};
 use crate::input::Input;
 use crate::lines::{Lines, Next};
 use crate::manner::Manner;
 use crate::outlet::Outlet;
 use crate::printed_engine::PrintedEngine;
 use crate::reports::Reports;
-use engine_core::{Config, NumberedEngine};
+use engine_core::NumberedEngine;
 use std::alloc::Global;
 use trace::WriteFailed;
 
@@ -60,197 +61,241 @@ impl From<HostFault> for LiveFault {
     }
 }
 
-/// What came, and what it led to.
-#[derive(Clone, Copy)]
-enum Turn {
-    /// A line.
-    Line(Served),
-    /// A timer was due, or no whole line came as yet.
-    Timer,
-    /// The input is at its end.
-    End,
-}
-
-/// Carries out what the lines of an input ask of an engine of this configuration, each as it comes, until the input ends; then the runs that
-/// are out are driven to their ends, unless they are parked. What goes out is the engine's trace: its first line at once, the lines of what a
-/// line led to before the next one is waited for, and the last line at the end. No record is kept. Lines that are not carried out are reported. Where the engine's
-/// clock goes by the input's, that is read before each line that is carried out, and whenever a timer is due. Where it reads more than an
-/// engine takes, that is recorded once, and time stands still. Where lines are answered, each is once the outlet took what it led to, and `quit` ends the input.
+/// Carries out what the lines of an input ask of an engine that stands after a history of so many records, each as it comes, until the input
+/// ends or another engine is to follow this one; it returns whether one is. The text before the records went out before: what goes out is the
+/// lines of what a line led to, before the next one is waited for, and the last line of the trace at the end. No record is kept. Lines that
+/// are not carried out are reported. Unless runs stay out, those that are out are driven to their ends before a line is read. At the end of
+/// the input a trace that is kept gets its last line only if no run is live; otherwise the runs that are out are driven to their ends, unless
+/// they are parked, and the last line is printed. Where the engine's clock goes by the input's, that is read before each line that is carried
+/// out, and whenever a timer is due. Where it reads more than an engine takes, that is recorded once, and time stands still. Where lines are
+/// answered, each is once the outlet took what it led to, and `quit` ends the input. The line that asks for the engine that follows is not
+/// answered here: whoever makes that engine serves it with the same lines, and says that this answer is owed.
 pub fn serve<I: Input, S: Outlet, N: Reports>(
-    alloc: Global,
-    config: &Config,
-    manner: Manner,
-    input: &mut I,
-    out: &mut S,
-    reports: &mut N,
-) -> Result<(), LiveFault>
-    // All that went out is the trace of an engine of this configuration; where it stopped, it is a front of one.
-    ensures told { Serves config.now (S.bytes out.old) result (S.bytes out.new) }
-    // It is that of what the lines that came asked for, one by one up to the end of the input, and each was answered so.
-    ensures turned { ServesTurns config.now manner (I.came input.old) (I.came input.new) (S.bytes out.old) (S.answers out.old) result (S.bytes out.new) (S.answers out.new) }
-    ensures unread { result ≡ Err Unread → IsTrue (I.has_failed input.new) }
-    // The end of the input is no read that failed.
-    ensures still { OnOk result (I.has_failed input.new ≡ I.has_failed input.old) }
-    // All of it was read. Only where lines are answered one of them may end it.
-    ensures ended { manner.is_told ≡ false → OnOk result (IsTrue (I.has_ended input.new)) }
-    ensures unwritten { result ≡ Err Unwritten → HasFailed (S.failures out.old) (S.failures out.new) }
-{
-    match PrintedEngine::open(alloc, config) {
-        Ok(engine) => {
-            let host = Host::new(alloc, engine);
-            serve_all(host, manner, input, out, reports)
-        }
-        Err(_) => Err(LiveFault::OutOfMemory),
-    }
-}
-
-/// The same for an engine that stands after a history of so many records, of which the trace went out before, so that its first line does not
-/// go out again. Unless runs stay out, those that are out are driven to their ends before a line is read. At the end of the input none is
-/// driven, and the last line goes out only if no run is live then. The input's clock goes on from what the engine's reads.
-pub fn serve_on<I: Input, S: Outlet, N: Reports>(
     alloc: Global,
     engine: NumberedEngine<'_>,
     count: u64,
     manner: Manner,
+    owed: Option<usize>,
     input: &mut I,
+    lines: &mut Lines,
     out: &mut S,
     reports: &mut N,
-) -> Result<(), LiveFault>
+) -> Result<bool, LiveFault>
     requires behind { StandsBehind count engine }
+    requires begun { IsTrue lines.old.is_ended → IsTrue (I.has_ended input.old) }
+    requires stands { IsSomewhere (I.came input.old) lines.old }
     // All that went out continues the trace of each history that the engine stood behind; where it stopped, it is a front of what does.
-    ensures told { (records : List TheRecord) → IsBehind records engine.entry → count ≡ length records → Continues engine.entry.setup records (S.bytes out.old) result (S.bytes out.new) }
-    // It is that of the runs that were out, unless runs stay out, and then of what the lines that came asked for; and each was answered so.
-    ensures turned { (records : List TheRecord) → IsBehind records engine.entry → count ≡ length records → ContinuesTurns engine.entry manner (I.came input.old) (I.came input.new) records (S.bytes out.old) (S.answers out.old) result (S.bytes out.new) (S.answers out.new) }
+    ensures told { (records : List TheRecord) → IsBehind records engine.entry → count ≡ length records → Continues engine.entry.setup manner records (S.bytes out.old) result (S.bytes out.new) }
+    // It is that of the runs that were out, unless runs stay out, and then of what the lines that came asked for. The answer that was owed was
+    // given first, and then each line was answered so.
+    ensures turned { (first : List Answer) × IsOwed manner owed result (S.bytes out.old) first × ((point : Point) (records : List TheRecord) → IsAt point (I.came input.old) lines.old → IsBehind records engine.entry → count ≡ length records → ContinuesTurns engine.entry manner point (I.came input.new) lines.new (N.has_decided reports.new) records (S.bytes out.old) (with_answers (S.answers out.old) first) result (S.bytes out.new) (S.answers out.new)) }
     ensures unread { result ≡ Err Unread → IsTrue (I.has_failed input.new) }
+    // The end of the input is no read that failed.
     ensures still { OnOk result (I.has_failed input.new ≡ I.has_failed input.old) }
-    ensures ended { manner.is_told ≡ false → OnOk result (IsTrue (I.has_ended input.new)) }
+    // All of it was read. Only where lines are answered one of them may end it.
+    ensures ended { manner.is_told ≡ false → result ≡ Ok false → IsTrue (I.has_ended input.new) }
+    ensures going { IsTrue lines.new.is_ended → IsTrue (I.has_ended input.new) }
+    // The engine that follows goes on with the same lines.
+    ensures stands { result ≡ Ok true → IsSomewhere (I.came input.new) lines.new }
     ensures unwritten { result ≡ Err Unwritten → HasFailed (S.failures out.old) (S.failures out.new) }
 {
-    let engine = PrintedEngine::resumed(engine, count);
-    let mut host = Host::new(alloc, engine);
-    match serve_resumed(&mut host, manner, input, out, reports) {
-        Ok(()) => close(host, out),
+    match answer_owed(manner, owed, out) {
+        Ok(()) => serve_here(alloc, engine, count, manner, input, lines, out, reports),
         Err(fault) => Err(fault),
     }
 }
 
-// Prints the last line, unless a run is live. All was handed on before.
-fn close<S: Outlet>(host: Host<'_>, out: &mut S) -> Result<(), LiveFault>
-    requires all { host.engine.printed.lines.waiting ≡ [] }
-    requires whole { host.engine.printed.has_failed ≡ false }
-    ensures closed { Closes host.entry.engine (S.bytes out.old) result (S.bytes out.new) }
-    ensures answers { S.answers out.new ≡ S.answers out.old }
-    ensures failed { IfErr result (λ fault. (fault ≡ Unwritten) × HasFailed (S.failures out.old) (S.failures out.new)) }
+// Answers the line of that number, which was left to be answered.
+fn answer_owed<S: Outlet>(manner: Manner, owed: Option<usize>, out: &mut S) -> Result<(), LiveFault>
+    ensures bytes { S.bytes out.new ≡ S.bytes out.old }
+    ensures answers { AnswersOwed manner owed (S.bytes out.old) (S.answers out.old) result (S.answers out.new) }
+    ensures failures { FailsBySink (S.failures out.old) result (S.failures out.new) }
+    ensures unwritten { IfErr result (λ fault. fault ≡ Unwritten) }
 {
-    if host.engine.has_run() {
+    match owed {
+        Some(line) => answer_line_owed(manner, line, out),
+        None => Ok(()),
+    }
+}
+
+// Answers the line of that number, if lines are answered.
+fn answer_line_owed<S: Outlet>(manner: Manner, line: usize, out: &mut S) -> Result<(), LiveFault>
+    ensures bytes { S.bytes out.new ≡ S.bytes out.old }
+    ensures answers { AnswersOwed manner (Some line) (S.bytes out.old) (S.answers out.old) result (S.answers out.new) }
+    ensures failures { FailsBySink (S.failures out.old) result (S.failures out.new) }
+    ensures unwritten { IfErr result (λ fault. fault ≡ Unwritten) }
+{
+    if !manner.is_told {
         return Ok(());
     }
-    match host.into_engine().end(out) {
+    match out.answered(line, None) {
         Ok(()) => Ok(()),
         Err(failed) => Err(LiveFault::from(failed)),
     }
 }
 
-// Serves the lines up to the input's end, and drives the runs that are out then.
-fn serve_all<I: Input, S: Outlet, N: Reports>(
-    mut host: Host<'_>,
+// The same once the answer that was owed was given.
+fn serve_here<I: Input, S: Outlet, N: Reports>(
+    alloc: Global,
+    engine: NumberedEngine<'_>,
+    count: u64,
     manner: Manner,
     input: &mut I,
+    lines: &mut Lines,
     out: &mut S,
     reports: &mut N,
-) -> Result<(), LiveFault>
-    ensures told { (setup : Setup) → Begins setup → host.entry.engine ≡ opened_printed setup → Serves setup (S.bytes out.old) result (S.bytes out.new) }
-    ensures turned { (setup : Setup) → Begins setup → host.entry.engine ≡ opened_printed setup → ServesTurns setup manner (I.came input.old) (I.came input.new) (S.bytes out.old) (S.answers out.old) result (S.bytes out.new) (S.answers out.new) }
+) -> Result<bool, LiveFault>
+    requires behind { StandsBehind count engine }
+    requires begun { IsTrue lines.old.is_ended → IsTrue (I.has_ended input.old) }
+    requires stands { IsSomewhere (I.came input.old) lines.old }
+    ensures told { (records : List TheRecord) → IsBehind records engine.entry → count ≡ length records → Continues engine.entry.setup manner records (S.bytes out.old) result (S.bytes out.new) }
+    ensures turned { (point : Point) (records : List TheRecord) → IsAt point (I.came input.old) lines.old → IsBehind records engine.entry → count ≡ length records → ContinuesTurns engine.entry manner point (I.came input.new) lines.new (N.has_decided reports.new) records (S.bytes out.old) (S.answers out.old) result (S.bytes out.new) (S.answers out.new) }
     ensures unread { result ≡ Err Unread → IsTrue (I.has_failed input.new) }
     ensures still { OnOk result (I.has_failed input.new ≡ I.has_failed input.old) }
-    ensures ended { manner.is_told ≡ false → OnOk result (IsTrue (I.has_ended input.new)) }
-    ensures unwritten { (setup : Setup) → host.entry.engine ≡ opened_printed setup → result ≡ Err Unwritten → HasFailed (S.failures out.old) (S.failures out.new) }
+    ensures ended { manner.is_told ≡ false → result ≡ Ok false → IsTrue (I.has_ended input.new) }
+    ensures going { IsTrue lines.new.is_ended → IsTrue (I.has_ended input.new) }
+    ensures stands { result ≡ Ok true → IsSomewhere (I.came input.new) lines.new }
+    ensures unwritten { result ≡ Err Unwritten → HasFailed (S.failures out.old) (S.failures out.new) }
 {
-    match serve_input(&mut host, manner, input, out, reports) {
-        Ok(()) => end(host, out),
+    let engine = PrintedEngine::resumed(engine, count);
+    let mut host = Host::new(alloc, engine);
+    match serve_resumed(&mut host, manner, input, lines, out, reports) {
+        Ok(is_followed) => close(host, manner, is_followed, out),
         Err(fault) => Err(fault),
     }
 }
 
-// Serves the lines up to the input's end, and drives the runs that are out then. What waits at the end is not handed on yet.
-fn serve_input<I: Input, S: Outlet, N: Reports>(
-    host: &mut Host<'_>,
+// Prints the last line, unless the trace is kept and a run is live. All was handed on before. It returns whether another engine follows.
+fn close<S: Outlet>(
+    host: Host<'_>,
     manner: Manner,
-    input: &mut I,
+    is_followed: bool,
     out: &mut S,
-    reports: &mut N,
-) -> Result<(), LiveFault>
-    ensures grown { GrowsWith (TurnsOr manner host.old.engine.engine (IsPrintedBehind host.old.engine.printed (S.bytes out.old)) (known_of (I.came input.old)) (I.came input.new) result host.new.engine.engine) host.old.engine (S.bytes out.old) (S.failures out.old) (S.answers out.old) host.new.engine (S.bytes out.new) (S.failures out.new) (S.answers out.new) }
-    ensures unread { result ≡ Err Unread → IsTrue (I.has_failed input.new) }
-    ensures still { OnOk result (I.has_failed input.new ≡ I.has_failed input.old) }
-    ensures ended { manner.is_told ≡ false → OnOk result (IsTrue (I.has_ended input.new)) }
-    ensures unwritten { result ≡ Err Unwritten → host.new.engine.printed.has_failed ≡ true }
+) -> Result<bool, LiveFault>
+    requires all { host.engine.printed.lines.waiting ≡ [] }
+    requires whole { host.engine.printed.has_failed ≡ false }
+    ensures closed { Closes manner host.entry.engine (S.bytes out.old) result (S.bytes out.new) }
+    ensures answers { S.answers out.new ≡ S.answers out.old }
+    ensures failed { IfErr result (λ fault. (fault ≡ Unwritten) × HasFailed (S.failures out.old) (S.failures out.new)) }
+    ensures followed { IfOk result (λ it. it ≡ is_followed) }
 {
-    let mut lines = Lines::of(input, host.clock());
-    match serve_lines(host, manner, input, &mut lines, out, reports) {
-        Ok(()) => drive_all(host, out),
-        Err(fault) => Err(fault),
+    if manner.is_kept && host.engine.has_run() {
+        return Ok(is_followed);
+    }
+    match host.into_engine().end(out) {
+        Ok(()) => Ok(is_followed),
+        Err(failed) => Err(LiveFault::from(failed)),
     }
 }
 
-// Drives the runs that are out, unless runs stay out, and serves the lines up to the input's end. All is handed on then.
+// Drives the runs that are out, unless runs stay out, and serves the lines. All is handed on then. It returns whether another engine follows.
 fn serve_resumed<I: Input, S: Outlet, N: Reports>(
     host: &mut Host<'_>,
     manner: Manner,
     input: &mut I,
+    lines: &mut Lines,
     out: &mut S,
     reports: &mut N,
-) -> Result<(), LiveFault>
-    ensures grown { GrowsWith (GoesOnOr manner host.old.engine.engine (IsPrintedBehind host.old.engine.printed (S.bytes out.old)) (known_of (I.came input.old)) (I.came input.new) result) host.old.engine (S.bytes out.old) (S.failures out.old) (S.answers out.old) host.new.engine (S.bytes out.new) (S.failures out.new) (S.answers out.new) }
+) -> Result<bool, LiveFault>
+    requires begun { IsTrue lines.old.is_ended → IsTrue (I.has_ended input.old) }
+    ensures grown { (point : Point) → IsAt point (I.came input.old) lines.old → GrowsWith (GoesOnOr manner host.old.engine.engine (IsPrintedBehind host.old.engine.printed (S.bytes out.old)) point (I.came input.new) lines.new (N.has_decided reports.new) result) host.old.engine (S.bytes out.old) (S.failures out.old) (S.answers out.old) host.new.engine (S.bytes out.new) (S.failures out.new) (S.answers out.new) }
     ensures unread { result ≡ Err Unread → IsTrue (I.has_failed input.new) }
     ensures still { OnOk result (I.has_failed input.new ≡ I.has_failed input.old) }
-    ensures ended { manner.is_told ≡ false → OnOk result (IsTrue (I.has_ended input.new)) }
+    ensures ended { manner.is_told ≡ false → result ≡ Ok false → IsTrue (I.has_ended input.new) }
+    ensures going { IsTrue lines.new.is_ended → IsTrue (I.has_ended input.new) }
     ensures unwritten { result ≡ Err Unwritten → host.new.engine.printed.has_failed ≡ true }
     ensures all { OnOk result (host.new.engine.printed.lines.waiting ≡ []) }
     ensures whole { OnOk result (host.new.engine.printed.has_failed ≡ false) }
 {
     match drive_first(host, manner, out) {
-        Ok(()) => serve_behind(host, manner, input, out, reports),
+        Ok(()) => serve_behind(host, manner, input, lines, out, reports),
         Err(fault) => Err(fault),
     }
 }
 
-// Serves the lines up to the input's end. All is handed on then.
+// Serves the lines, and drives the runs that are out at the end of the input, unless the trace is kept. All is handed on then.
 fn serve_behind<I: Input, S: Outlet, N: Reports>(
     host: &mut Host<'_>,
     manner: Manner,
     input: &mut I,
+    lines: &mut Lines,
     out: &mut S,
     reports: &mut N,
-) -> Result<(), LiveFault>
-    ensures grown { GrowsWith (EndsOrPart manner host.old.engine.engine (IsPrintedBehind host.old.engine.printed (S.bytes out.old)) (known_of (I.came input.old)) (I.came input.new) result) host.old.engine (S.bytes out.old) (S.failures out.old) (S.answers out.old) host.new.engine (S.bytes out.new) (S.failures out.new) (S.answers out.new) }
+) -> Result<bool, LiveFault>
+    requires begun { IsTrue lines.old.is_ended → IsTrue (I.has_ended input.old) }
+    ensures grown { (point : Point) → IsAt point (I.came input.old) lines.old → GrowsWith (FinishesOr manner host.old.engine.engine (IsPrintedBehind host.old.engine.printed (S.bytes out.old)) point (I.came input.new) lines.new (N.has_decided reports.new) result) host.old.engine (S.bytes out.old) (S.failures out.old) (S.answers out.old) host.new.engine (S.bytes out.new) (S.failures out.new) (S.answers out.new) }
     ensures unread { result ≡ Err Unread → IsTrue (I.has_failed input.new) }
     ensures still { OnOk result (I.has_failed input.new ≡ I.has_failed input.old) }
-    ensures ended { manner.is_told ≡ false → OnOk result (IsTrue (I.has_ended input.new)) }
+    ensures ended { manner.is_told ≡ false → result ≡ Ok false → IsTrue (I.has_ended input.new) }
+    ensures going { IsTrue lines.new.is_ended → IsTrue (I.has_ended input.new) }
     ensures unwritten { result ≡ Err Unwritten → host.new.engine.printed.has_failed ≡ true }
     ensures all { OnOk result (host.new.engine.printed.lines.waiting ≡ []) }
     ensures whole { OnOk result (host.new.engine.printed.has_failed ≡ false) }
 {
-    let mut lines = Lines::of(input, host.clock());
-    match serve_lines(host, manner, input, &mut lines, out, reports) {
-        Ok(()) => settle(host, out),
+    match serve_lines(host, manner, input, lines, out, reports) {
+        Ok(is_followed) => finish(host, manner, is_followed, out),
+        Err(fault) => Err(fault),
+    }
+}
+
+// Drives the runs that are out at the end of the input, unless the trace is kept, and hands all on. It returns whether another engine follows.
+fn finish<S: Outlet>(
+    host: &mut Host<'_>,
+    manner: Manner,
+    is_followed: bool,
+    out: &mut S,
+) -> Result<bool, LiveFault>
+    ensures grown { GrowsAs (DrivesLast manner is_followed result host.new.engine.engine) host.old.engine (S.bytes out.old) (S.failures out.old) host.new.engine (S.bytes out.new) (S.failures out.new) }
+    ensures answers { S.answers out.new ≡ S.answers out.old }
+    ensures followed { IfOk result (λ it. it ≡ is_followed) }
+    ensures unread { result ≢ Err Unread }
+    ensures unwritten { result ≡ Err Unwritten → host.new.engine.printed.has_failed ≡ true }
+    ensures all { OnOk result (host.new.engine.printed.lines.waiting ≡ []) }
+    ensures whole { OnOk result (host.new.engine.printed.has_failed ≡ false) }
+{
+    match drive_last(host, manner, is_followed, out) {
+        Ok(()) => settle(host, is_followed, out),
         Err(fault) => Err(fault),
     }
 }
 
 // Hands all on.
-fn settle<S: Outlet>(host: &mut Host<'_>, out: &mut S) -> Result<(), LiveFault>
+fn settle<S: Outlet>(host: &mut Host<'_>, is_followed: bool, out: &mut S) -> Result<bool, LiveFault>
     ensures grown { GrowsBy [] host.old.engine (S.bytes out.old) (S.failures out.old) host.new.engine (S.bytes out.new) (S.failures out.new) }
+    ensures engine { host.new.engine.engine ≡ host.old.engine.engine }
     ensures answers { S.answers out.new ≡ S.answers out.old }
+    ensures followed { IfOk result (λ it. it ≡ is_followed) }
     ensures unread { result ≢ Err Unread }
     ensures unwritten { result ≡ Err Unwritten → host.new.engine.printed.has_failed ≡ true }
     ensures all { OnOk result (host.new.engine.printed.lines.waiting ≡ []) }
     ensures whole { OnOk result (host.new.engine.printed.has_failed ≡ false) }
 {
     match host.engine.settle(out) {
-        Ok(()) => Ok(()),
+        Ok(()) => Ok(is_followed),
         Err(failed) => Err(LiveFault::from(failed)),
     }
+}
+
+// Drives the runs that are out at the end of the input to their ends, unless the trace is kept, or another engine follows, which only one
+// without a live run has.
+fn drive_last<S: Outlet>(
+    host: &mut Host<'_>,
+    manner: Manner,
+    is_followed: bool,
+    out: &mut S,
+) -> Result<(), LiveFault>
+    ensures grown { GrowsAs (DrivesLast manner is_followed result host.new.engine.engine) host.old.engine (S.bytes out.old) (S.failures out.old) host.new.engine (S.bytes out.new) (S.failures out.new) }
+    ensures answers { S.answers out.new ≡ S.answers out.old }
+    ensures unread { result ≢ Err Unread }
+    ensures unwritten { result ≡ Err Unwritten → host.new.engine.printed.has_failed ≡ true }
+{
+    if manner.is_kept {
+        return Ok(());
+    }
+    if is_followed {
+        return Ok(());
+    }
+    drive_all(host, out)
 }
 
 // Drives the runs that are out to their ends, unless runs stay out.
@@ -280,42 +325,8 @@ fn drive_all<S: Outlet>(host: &mut Host<'_>, out: &mut S) -> Result<(), LiveFaul
     }
 }
 
-// Serves the lines up to the input's end.
+// Serves the lines up to the input's end, or up to one that asks for another engine, which is to follow. It returns whether one is.
 fn serve_lines<I: Input, S: Outlet, N: Reports>(
-    host: &mut Host<'_>,
-    manner: Manner,
-    input: &mut I,
-    lines: &mut Lines,
-    out: &mut S,
-    reports: &mut N,
-) -> Result<(), LiveFault>
-    requires begun { IsTrue lines.old.is_ended → IsTrue (I.has_ended input.old) }
-    requires number { lines.old.number ≡ 0 }
-    requires stands { Stands (known_of (I.came input.old)) (I.came input.old) lines.old [] }
-    ensures grown { GrowsWith (EndsOr manner host.old.engine.engine (IsPrintedBehind host.old.engine.printed (S.bytes out.old)) (known_of (I.came input.old)) (I.came input.new) result) host.old.engine (S.bytes out.old) (S.failures out.old) (S.answers out.old) host.new.engine (S.bytes out.new) (S.failures out.new) (S.answers out.new) }
-    ensures unread { result ≡ Err Unread → IsTrue (I.has_failed input.new) }
-    ensures still { OnOk result (I.has_failed input.new ≡ I.has_failed input.old) }
-    ensures ended { manner.is_told ≡ false → OnOk result (IsTrue (I.has_ended input.new)) }
-    ensures unwritten { result ≡ Err Unwritten → host.new.engine.printed.has_failed ≡ true }
-{
-    for _ in 0..u64::MAX {
-        if lines.number() == usize::MAX {
-            return Err(LiveFault::InternalError);
-        }
-        match serve_next(host, manner, input, lines, out, reports) {
-            Ok(is_more) => {
-                if !is_more {
-                    return Ok(());
-                }
-            }
-            Err(fault) => return Err(fault),
-        }
-    }
-    Err(LiveFault::InternalError)
-}
-
-// Serves what comes next, and answers it, if it is a line. Whether more may come.
-fn serve_next<I: Input, S: Outlet, N: Reports>(
     host: &mut Host<'_>,
     manner: Manner,
     input: &mut I,
@@ -324,17 +335,50 @@ fn serve_next<I: Input, S: Outlet, N: Reports>(
     reports: &mut N,
 ) -> Result<bool, LiveFault>
     requires begun { IsTrue lines.old.is_ended → IsTrue (I.has_ended input.old) }
+    ensures grown { (point : Point) → IsAt point (I.came input.old) lines.old → GrowsWith (EndsOr manner host.old.engine.engine (IsPrintedBehind host.old.engine.printed (S.bytes out.old)) point (I.came input.new) lines.new (N.has_decided reports.new) result) host.old.engine (S.bytes out.old) (S.failures out.old) (S.answers out.old) host.new.engine (S.bytes out.new) (S.failures out.new) (S.answers out.new) }
+    ensures unread { result ≡ Err Unread → IsTrue (I.has_failed input.new) }
+    ensures still { OnOk result (I.has_failed input.new ≡ I.has_failed input.old) }
+    ensures ended { manner.is_told ≡ false → result ≡ Ok false → IsTrue (I.has_ended input.new) }
+    ensures going { IsTrue lines.new.is_ended → IsTrue (I.has_ended input.new) }
+    ensures unwritten { result ≡ Err Unwritten → host.new.engine.printed.has_failed ≡ true }
+{
+    for _ in 0..u64::MAX {
+        if lines.number() == usize::MAX {
+            return Err(LiveFault::InternalError);
+        }
+        match serve_next(host, manner, input, lines, out, reports) {
+            Ok(comes) => match comes {
+                After::More => {}
+                After::End => return Ok(false),
+                After::Asked => return Ok(true),
+            },
+            Err(fault) => return Err(fault),
+        }
+    }
+    Err(LiveFault::InternalError)
+}
+
+// Serves what comes next, and answers it, if it is a line. It returns what comes after it.
+fn serve_next<I: Input, S: Outlet, N: Reports>(
+    host: &mut Host<'_>,
+    manner: Manner,
+    input: &mut I,
+    lines: &mut Lines,
+    out: &mut S,
+    reports: &mut N,
+) -> Result<After, LiveFault>
+    requires begun { IsTrue lines.old.is_ended → IsTrue (I.has_ended input.old) }
     requires room { lines.old.number < 2 ^ 64 - 1 }
-    ensures turned { (base told : List ℕ) → Stands base (I.came input.old) lines.old told → GrowsWith (NextIs manner base told lines.old.number (I.came input.new) lines.new result host.new.engine.engine host.new.engine.printed (S.bytes out.new)) host.old.engine (S.bytes out.old) (S.failures out.old) (S.answers out.old) host.new.engine (S.bytes out.new) (S.failures out.new) (S.answers out.new) }
+    ensures turned { (base told : List ℕ) → Stands base (I.came input.old) lines.old told → GrowsWith (NextIs manner base told lines.old.number (I.came input.new) lines.new (N.has_decided reports.new) result host.new.engine.engine host.new.engine.printed (S.bytes out.new)) host.old.engine (S.bytes out.old) (S.failures out.old) (S.answers out.old) host.new.engine (S.bytes out.new) (S.failures out.new) (S.answers out.new) }
     ensures unread { result ≡ Err Unread → IsTrue (I.has_failed input.new) }
     ensures still { OnOk result (I.has_failed input.new ≡ I.has_failed input.old) }
     ensures going { IsTrue lines.new.is_ended → IsTrue (I.has_ended input.new) }
-    ensures ended { manner.is_told ≡ false → IfOk result (λ is_more. is_more ≡ false → IsTrue (I.has_ended input.new)) }
+    ensures ended { manner.is_told ≡ false → result ≡ Ok AfterAll → IsTrue (I.has_ended input.new) }
     ensures unwritten { result ≡ Err Unwritten → host.new.engine.printed.has_failed ≡ true }
 {
     match take_next(host, manner, input, lines, out) {
         Ok(next) => match carry_out(host, manner, next, input, lines, out, reports) {
-            Ok(turn) => answer(host, manner, lines.number(), turn, out),
+            Ok(turn) => answer_decided(host, manner, lines.number(), turn, out, reports),
             Err(fault) => Err(stop(host, out, fault)),
         },
         Err(fault) => Err(fault),
@@ -490,78 +534,5 @@ fn carry_reading<S: Outlet>(
     match host.read_clock(reading, out) {
         Ok(()) => Ok(Turn::Timer),
         Err(fault) => Err(LiveFault::from(fault)),
-    }
-}
-
-// Answers the line of that number, if it is a line that came. Whether more may come.
-fn answer<S: Outlet>(
-    host: &mut Host<'_>,
-    manner: Manner,
-    line: usize,
-    turn: Turn,
-    out: &mut S,
-) -> Result<bool, LiveFault>
-    ensures grown { GrowsBy [] host.old.engine (S.bytes out.old) (S.failures out.old) host.new.engine (S.bytes out.new) (S.failures out.new) }
-    ensures engine { host.new.engine.engine ≡ host.old.engine.engine }
-    ensures answers { AnswersTurn manner line turn (S.answers out.old) result (S.answers out.new) host.new.engine.printed (S.bytes out.new) }
-    ensures unread { result ≢ Err Unread }
-    ensures ended { manner.is_told ≡ false → IfOk result (λ is_more. is_more ≡ false → turn ≡ AtEnd) }
-    ensures unwritten { result ≡ Err Unwritten → host.new.engine.printed.has_failed ≡ true }
-{
-    match turn {
-        Turn::Line(served) => answer_line(host, manner, line, served, out),
-        Turn::Timer => Ok(true),
-        Turn::End => Ok(false),
-    }
-}
-
-// Answers the line of that number, if lines are answered, and it is not skipped. Whether more may come.
-fn answer_line<S: Outlet>(
-    host: &mut Host<'_>,
-    manner: Manner,
-    line: usize,
-    served: Served,
-    out: &mut S,
-) -> Result<bool, LiveFault>
-    ensures grown { GrowsBy [] host.old.engine (S.bytes out.old) (S.failures out.old) host.new.engine (S.bytes out.new) (S.failures out.new) }
-    ensures engine { host.new.engine.engine ≡ host.old.engine.engine }
-    ensures answers { AnswersTurn manner line (LineTurn served) (S.answers out.old) result (S.answers out.new) host.new.engine.printed (S.bytes out.new) }
-    ensures unread { result ≢ Err Unread }
-    ensures more { manner.is_told ≡ false → IfOk result (λ is_more. is_more ≡ true) }
-    ensures unwritten { result ≡ Err Unwritten → host.new.engine.printed.has_failed ≡ true }
-{
-    if !manner.is_told || served.is_skipped() {
-        return Ok(true);
-    }
-    match host.engine.answer(line, served.fault(), out) {
-        Ok(()) => Ok(!served.is_last()),
-        Err(failed) => Err(LiveFault::from(failed)),
-    }
-}
-
-// Hands all on where the engine stops for that fault, or for the one that this meets.
-fn stop<S: Outlet>(host: &mut Host<'_>, out: &mut S, fault: LiveFault) -> LiveFault
-    requires written { fault ≢ Unwritten }
-    ensures grown { GrowsBy [] host.old.engine (S.bytes out.old) (S.failures out.old) host.new.engine (S.bytes out.new) (S.failures out.new) }
-    ensures answers { S.answers out.new ≡ S.answers out.old }
-    ensures unread { result ≡ Unread → fault ≡ Unread }
-    ensures unwritten { result ≡ Unwritten → host.new.engine.printed.has_failed ≡ true }
-{
-    match host.engine.settle(out) {
-        Ok(()) => fault,
-        Err(failed) => LiveFault::from(failed),
-    }
-}
-
-// Prints the last line.
-fn end<S: Outlet>(host: Host<'_>, out: &mut S) -> Result<(), LiveFault>
-    ensures told { (setup : Setup) (base : Option (List ℕ)) (failed : ℕ) (records : List TheRecord) → Begins setup → GrowsBy records (opened_printed setup) base failed host.entry.engine (S.bytes out.old) (S.failures out.old) → ServesBy setup base records result (S.bytes out.new) }
-    ensures answers { S.answers out.new ≡ S.answers out.old }
-    ensures failed { IfErr result (λ fault. fault ≡ Unwritten) }
-    ensures unwritten { (setup : Setup) (base : Option (List ℕ)) (failed : ℕ) (records : List TheRecord) → GrowsBy records (opened_printed setup) base failed host.entry.engine (S.bytes out.old) (S.failures out.old) → IfErr result (λ _. HasFailed failed (S.failures out.new)) }
-{
-    match host.into_engine().end(out) {
-        Ok(()) => Ok(()),
-        Err(failed) => Err(LiveFault::from(failed)),
     }
 }

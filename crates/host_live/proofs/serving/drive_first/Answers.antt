@@ -1,6 +1,6 @@
 use Rattle.std.proofs.Common.{rules}
 use Rattle.host_live.proofs.Growing.{as_none, as_these}
-use Rattle.host_live.proofs.Outcomes.{drove_first, none_first}
+use Rattle.host_live.proofs.Finishing.{drove_first, none_first}
 use Rattle.host_live.proofs.serving.drive_first.Goals as goal
 
 pub returns-then-manner-clause-grown : goal.returns-then-manner-clause-grown

@@ -1,14 +1,15 @@
 -- what was turned so far
 use Rattle.std.proofs.Common.{◌≡◌}
 use Rattle.std.specs.Prelude.{IsTrue}
-use Rattle.host_live.specs.Inputs.{known_of}
 use Rattle.host_live.specs.Served.{GrowsWith, IsPrintedBehind}
-use Rattle.host_live.proofs.Outcomes.{SoFar}
+use Rattle.host_live.specs.Turns.{IsAt, Point}
+use Rattle.host_live.proofs.Finishing.{SoFar}
 use Rattle.host_live.proofs.serving.serve_lines.Given as goal
 
 abbrev pub invariant-loop : goal.invariant-loop
 invariant-loop g l = record {
-  grown : GrowsWith (SoFar l.manner l.fn.host.engine.engine (IsPrintedBehind l.fn.host.engine.printed (g.S.Outlet.bytes l.fn.out)) (known_of (g.I.Input.came l.fn.input)) (g.I.Input.came l.input) l.lines) l.fn.host.engine (g.S.Outlet.bytes l.fn.out) (g.S.Outlet.failures l.fn.out) (g.S.Outlet.answers l.fn.out) l.host.engine (g.S.Outlet.bytes l.out) (g.S.Outlet.failures l.out) (g.S.Outlet.answers l.out);
+  grown : (point : Point) → IsAt point (g.I.Input.came l.fn.input) l.fn.lines
+      → GrowsWith (SoFar l.manner l.fn.host.engine.engine (IsPrintedBehind l.fn.host.engine.printed (g.S.Outlet.bytes l.fn.out)) point (g.I.Input.came l.input) l.lines) l.fn.host.engine (g.S.Outlet.bytes l.fn.out) (g.S.Outlet.failures l.fn.out) (g.S.Outlet.answers l.fn.out) l.host.engine (g.S.Outlet.bytes l.out) (g.S.Outlet.failures l.out) (g.S.Outlet.answers l.out);
   still : g.I.Input.has_failed l.input ≡ g.I.Input.has_failed l.fn.input;
   begun : IsTrue l.lines.is_ended → IsTrue (g.I.Input.has_ended l.input);
 }

@@ -2,6 +2,7 @@ use Rattle.host_live.proofs.Growing.{as_these}
 use Rattle.std.proofs.Common.{ap}
 use Rattle.host_live.specs.Turns.{is_telling}
 use Rattle.host_live.proofs.Turning.{quits_so, read_these, tells_so}
+use Rattle.host_live.specs.Turns.{Acts}
 use Rattle.host_live.proofs.host.Host.act.Goals as goal
 
 pub returns-in-Drain-clause-grown : goal.returns-in-Drain-clause-grown

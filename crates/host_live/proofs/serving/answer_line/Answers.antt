@@ -1,5 +1,0 @@
-use Rattle.host_live.proofs.Growing.{by_none}
-use Rattle.host_live.proofs.serving.answer_line.Goals as goal
-
-pub returns-then-not-manner-clause-grown : goal.returns-then-not-manner-clause-grown
-returns-then-not-manner-clause-grown g c = by_none _ _ _

@@ -3,13 +3,16 @@ use Rattle.std.specs.Prelude.{◌≡◌, ◌+◌, ℕ, Bool, true, false, Option
 use Rattle.host_live.specs.Answering.{Answer}
 use Rattle.host_live.specs.LinesCome.{EndsALine}
 use Rattle.host_live.specs.declared.reports.LineFault.{LineFault}
-use Rattle.host_live.specs.declared.reports.LineFault.TheVariants.{Form, NotHeld}
+use Rattle.host_live.specs.declared.reports.LineFault.TheVariants.{DoesNotFit, Form, Manifest, NotHeld, RunLive}
 use Rattle.host_journal.specs.Disks.{Failed, Kept, NotOut, Out, Step, Synced}
 
 -- the code of a line that is not carried out
 abbrev pub code_text : LineFault → List ℕ
 code_text Form = codes "N1"
 code_text NotHeld = codes "N2"
+code_text RunLive = codes "N3"
+code_text DoesNotFit = codes "N4"
+code_text Manifest = codes "manifest"
 
 -- the answer to the line of that number, with its line feed
 abbrev pub answer_text : ℕ → Option LineFault → List ℕ

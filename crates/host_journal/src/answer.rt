@@ -30,10 +30,13 @@ pub fn answer_to(line: usize, fault: Option<LineFault>) -> Text
 // The code of a line that is not carried out.
 fn code(fault: LineFault) -> &'static [u8]
     ensures code { result.now ≡ code_text fault }
-    ensures few { length result.now ≤ 2 }
+    ensures few { length result.now ≤ 8 }
 {
     match fault {
         LineFault::Form => b"N1",
         LineFault::NotHeld => b"N2",
+        LineFault::RunLive => b"N3",
+        LineFault::DoesNotFit => b"N4",
+        LineFault::Manifest => b"manifest",
     }
 }

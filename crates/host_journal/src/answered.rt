@@ -52,5 +52,8 @@ pub(crate) fn code_of(fault: Option<LineFault>) -> u8
         None => 0,
         Some(LineFault::Form) => 1,
         Some(LineFault::NotHeld) => 2,
+        Some(LineFault::RunLive) => 3,
+        Some(LineFault::DoesNotFit) => 4,
+        Some(LineFault::Manifest) => 5,
     }
 }

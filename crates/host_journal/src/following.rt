@@ -24,6 +24,18 @@ pub enum NextManifest<'m> {
     Same(&'m [u8]),
 }
 
+impl<'m> NextManifest<'m> {
+    /// Its bytes.
+    pub fn bytes(self) -> &'m [u8]
+        ensures { result.now ≡ bytes_of self.entry }
+    {
+        match self {
+            NextManifest::Given(bytes) => bytes,
+            NextManifest::Same(bytes) => bytes,
+        }
+    }
+}
+
 /// Returns the bytes of the manifest of the segment of that number.
 pub fn manifest_of<D: Disk>(
     alloc: Global,
@@ -101,19 +113,9 @@ fn next<'m>(
         Ok(lines) => Ok(Begun {
             number: following,
             config,
-            manifest: Some(bytes_of(manifest)),
+            manifest: Some(manifest.bytes()),
             carried: Some(lines),
         }),
         Err(AllocError) => Err(OrMemory::OutOfMemory),
-    }
-}
-
-// Its bytes.
-fn bytes_of(manifest: NextManifest<'_>) -> &[u8]
-    ensures { result.now ≡ bytes_of manifest.entry }
-{
-    match manifest {
-        NextManifest::Given(bytes) => bytes,
-        NextManifest::Same(bytes) => bytes,
     }
 }

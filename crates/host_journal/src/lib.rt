@@ -32,5 +32,6 @@ pub use beginning::{Begun, begin};
 pub use disk::{Disk, DiskFault};
 pub use fault::{JournalError, JournalFault, JournalFile};
 pub use following::{NextManifest, follow, manifest_of};
+pub use making::{first_engine, first_text};
 pub use opening::open;
 pub use serving::serve;

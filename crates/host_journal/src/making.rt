@@ -22,7 +22,7 @@ use whole_trace::print_front;
 use world_calls::{CarriedLine, Version};
 
 /// Returns the text with which the segment begins: its first line, and the carried lines, if it follows another one.
-pub(crate) fn first_text(alloc: Global, begun: &Begun<'_>) -> Result<Vec<u8>, JournalError>
+pub fn first_text(alloc: Global, begun: &Begun<'_>) -> Result<Vec<u8>, JournalError>
     ensures first { IfOk result (λ bytes. front_of begun.now.config (items_of begun.now.carried) ≡ Some bytes.items) }
     ensures refused { IfErr result (IsUnbegun begun.now) }
 {
@@ -71,7 +71,7 @@ pub(crate) fn carried_count(begun: &Begun<'_>) -> u64
 }
 
 /// Returns the engine with which the segment begins, of which no record was made.
-pub(crate) fn first_engine<'a>(
+pub fn first_engine<'a>(
     alloc: Global,
     begun: &'a Begun<'_>,
 ) -> Result<NumberedEngine<'a>, JournalError>

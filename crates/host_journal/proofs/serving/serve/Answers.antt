@@ -1,18 +1,21 @@
-use Rattle.std.proofs.Common.{[], refl}
+use Rattle.std.proofs.Common.{[], Bool, Some}
+use Rattle.host_live.proofs.Told.{continues_none, none_owed, unturned}
 use Rattle.host_journal.specs.Disks.{kept_so_far}
 use Rattle.host_journal.specs.Made.{first_line}
-use Rattle.host_journal.proofs.Served.{continues_none, none_failed, unserved, unturned}
+use Rattle.host_journal.proofs.Served.{none_failed, unserved}
 use Rattle.host_journal.proofs.Started.{unbegun_stops}
 use Rattle.host_journal.proofs.serving.serve.Goals as goal
 
 pub returns-in-Err-clause-told : goal.returns-in-Err-clause-told
-returns-in-Err-clause-told g c = λ records behind are. continues_none c.args.engine.setup c.args.engine records (kept_so_far (g.D.Disk.steps c.args.disk)) refl behind
+returns-in-Err-clause-told g c = λ records behind are. continues_none c.args.engine records (kept_so_far (g.D.Disk.steps c.args.disk)) behind
 
 pub returns-in-Err-clause-order : goal.returns-in-Err-clause-order
-returns-in-Err-clause-order g c = record {
+returns-in-Err-clause-order g c = λ point at. record {
   answers = [];
   in_order = unserved c.args.is_synced (first_line c.args.begun.now) (g.D.Disk.steps c.args.disk) [] _;
-  turned = λ records behind are. unturned c.args.engine c.args.manner (g.I.Input.came c.args.input.now) records (kept_so_far (g.D.Disk.steps c.args.disk)) behind;
+  given = [];
+  owed_is = none_owed Bool c.args.manner c.args.owed c.in-Err.error (kept_so_far (g.D.Disk.steps c.args.disk));
+  turned = λ records behind are. unturned c.args.engine c.args.manner point (g.I.Input.came c.args.input.now) c.args.lines.now records (kept_so_far (g.D.Disk.steps c.args.disk)) (Some []) at behind;
 }
 
 pub returns-in-Err-clause-fault : goal.returns-in-Err-clause-fault

@@ -6,7 +6,8 @@ ghost use Rattle.std.specs.Prelude.{◌≡◌, ◌<◌, ◌^◌, length, IfOk};
 ghost use Rattle.cli_line.specs.Files.{input_paths};
 
 use cli_commands::{
-    AnsweringSink, Fault, WriterSink, audit_journal, carry, report_usage, serve, serve_journal,
+    AnsweringSink, Fault, GivenManifest, ManifestUnread, WriterSink, audit_journal, carry,
+    report_usage, serve, serve_journal,
 };
 use cli_io::{
     Clocked, Disk, Feeder, JournalDisk, MOST_MANIFEST, MOST_PROGRAM, MOST_SCENARIO, MOST_TEXT,
@@ -101,6 +102,47 @@ enum Service<'a> {
     Journal(&'a str, bool, Option<(&'a str, &'a [u8])>),
 }
 
+impl<'a> Service<'a> {
+    // Whether a later start goes on with the trace.
+    fn is_kept(&self) -> bool {
+        match self {
+            Service::Alone(_) => false,
+            Service::Journal(..) => true,
+        }
+    }
+
+    // The path of the manifest, if one is given.
+    fn path(&self) -> Option<&'a str> {
+        match self {
+            Service::Alone((path, _)) => Some(*path),
+            Service::Journal(_, _, Some((path, _))) => Some(*path),
+            Service::Journal(_, _, None) => None,
+        }
+    }
+}
+
+/// The file of the manifest that is given, if one is.
+#[derive(Drop)]
+struct ManifestFile<'a, R: Files + AllocGlobal> {
+    rt: &'a R,
+    path: Option<&'a str>,
+}
+
+impl<R: Files + AllocGlobal> GivenManifest for ManifestFile<'_, R> {
+    fn read_again(&mut self, _alloc: Global) -> Result<Option<Vec<u8>>, ManifestUnread> {
+        let Some(path) = self.path else {
+            return Ok(None);
+        };
+        match read_file(self.rt, path, MOST_MANIFEST) {
+            Ok(bytes) => Ok(Some(bytes)),
+            Err(error) if error.kind() == io::ErrorKind::OutOfMemory => {
+                Err(ManifestUnread::OutOfMemory)
+            }
+            Err(_) => Err(ManifestUnread::Failed),
+        }
+    }
+}
+
 /// A writer for what is never written: an audit puts nothing on standard output by itself.
 #[derive(Drop)]
 struct Silence;
@@ -191,19 +233,24 @@ fn serve_input<R: Runtime + Files<File = File> + AllocGlobal, I: Input, E: Write
         is_stepped: manner.is_stepped,
         is_told: manner.is_told,
         is_clocked: manner.is_clocked,
+        is_kept: service.is_kept(),
+    };
+    let mut given = ManifestFile {
+        rt,
+        path: service.path(),
     };
     match service {
         Service::Alone(manifest) if manner.is_told => {
-            serve_answering(alloc, manifest, served, input, out, err)
+            serve_answering(alloc, manifest, served, &mut given, input, out, err)
         }
         Service::Alone(manifest) => {
             let mut out = WriterSink::new(&mut out);
-            serve(alloc, manifest, served, input, &mut out, err)
+            serve(alloc, manifest, served, &mut given, input, &mut out, err)
         }
         Service::Journal(folder, is_synced, manifest) => {
             let disk = JournalDisk::new(rt, folder, out);
             let (_disk, status) = serve_journal(
-                alloc, disk, folder, manifest, served, is_synced, input, err,
+                alloc, disk, folder, manifest, served, is_synced, &mut given, input, err,
             );
             status
         }
@@ -211,10 +258,11 @@ fn serve_input<R: Runtime + Files<File = File> + AllocGlobal, I: Input, E: Write
 }
 
 // Serves what this input asks, and answers each line. What goes out is kept until nothing more comes.
-fn serve_answering<I: Input, W: Write + Drop, E: Write>(
+fn serve_answering<M: GivenManifest, I: Input, W: Write + Drop, E: Write>(
     alloc: Global,
     manifest: (&str, &[u8]),
     manner: host_live::Manner,
+    given: &mut M,
     input: &mut I,
     out: W,
     err: &mut E,
@@ -223,7 +271,7 @@ fn serve_answering<I: Input, W: Write + Drop, E: Write>(
         return Fault::OutOfMemory.report(err);
     };
     let mut sink = AnsweringSink::new(&mut out);
-    let status = serve(alloc, manifest, manner, input, &mut sink, err);
+    let status = serve(alloc, manifest, manner, given, input, &mut sink, err);
     if out.flush().is_ok() { status } else { 2 }
 }
 

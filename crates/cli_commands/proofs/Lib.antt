@@ -5,3 +5,4 @@ pub mod Rejected
 pub mod Starting
 pub mod Accepted
 mod Counted
+pub mod Alone

@@ -1,19 +1,9 @@
--- What went out of a live engine, and of a scenario's run.
+-- What went out of a scenario's run.
 use Rattle.std.proofs.Common.{◌∙◌, ℕ, List, Option, None, Some, refl}
 use Rattle.std.specs.Io.KnownBytes.{Appends, Keeps}
 use Rattle.std.specs.Prelude.{Result, Ok, Err, IfOk}
-use Rattle.host_live.specs.Telling.{IsWrittenOut}
-use Rattle.world.specs.World.{version_of}
-use Rattle.cli_commands.specs.Told.{IsPrinted, IsServed, IsServing}
+use Rattle.cli_commands.specs.Told.{IsPrinted}
 use Rattle.world_calls.specs.declared.trace.Trace.{Trace}
-use Rattle.world.specs.World.{Setup}
-
-pub served : (manifest : List ℕ) (setup : Setup) (old new : Option (List ℕ)) → IsServing manifest setup → IsWrittenOut setup old new → IsServed manifest old new
-served manifest setup old new serving out = (
-  out.bytes,
-  out.told,
-  (record { version = version_of setup; records = record { items = out.records; capacity = 0 }; totals = out.totals }, (setup, serving.0, serving.1, refl, out.sums), out.is),
-)
 
 pub keeps_same : (bytes : Option (List ℕ)) → Keeps bytes bytes
 keeps_same None = tt

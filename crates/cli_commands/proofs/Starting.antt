@@ -1,14 +1,23 @@
--- What a start on a journal has done, of the folder that it began with; and that a fault has no status of an end.
-use Rattle.std.proofs.Common.{◌≡◌, ◌≤◌, ℕ, Bool, Option, List, arith, inl, inr, subst, sym}
+-- What a start on a journal has done, and that a fault has no status of an end.
+use Rattle.std.proofs.Common.{◌≡◌, ◌≤◌, ◌∙◌, ℕ, zero, suc, Bool, true, false, Option, Some, None, List, arith, inl, inr, refl, subst, sym}
+use Rattle.std.specs.Prelude.{MatchOption}
 use Rattle.base.specs.declared.or_memory.OrMemory.{OrMemory}
 use Rattle.base.specs.declared.or_memory.OrMemory.TheVariants.{OutOfMemory, Fault}
+use Rattle.engine_core.specs.ByNumber.{NumberedState}
 use Rattle.host_live.specs.Inputs.{CameState}
+use Rattle.host_live.specs.Turns.{IsAt, IsSomewhere, Point}
+use Rattle.host_live.specs.declared.lines.Lines.{Lines}
 use Rattle.host_live.specs.declared.manner.Manner.{Manner}
 use Rattle.host_recovery.specs.declared.fault.RecoveryFault.TheVariants as torn
-use Rattle.host_journal.specs.Disks.{Held, Step}
+use Rattle.host_recovery.specs.declared.recovering.Recovered.{Recovered}
+use Rattle.host_journal.specs.Disks.{Held, IsText, Step}
+use Rattle.host_journal.specs.Made.{IsFirst}
+use Rattle.host_journal.specs.declared.beginning.Begun.{Begun}
 use Rattle.host_journal.specs.declared.fault.JournalFault.{JournalFault}
 use Rattle.host_journal.specs.declared.fault.JournalFault.TheVariants as faults
-use Rattle.cli_commands.specs.Journaling.{IsStatus, IsStatusOf, Starts, status_of_fault}
+use Rattle.cli_commands.specs.Journaling.{HasOpened, IfServed, IsOwn, IsServedTo, IsStatus, IsStatusOf, IsUncounted, ServesOn, Starts, at_its_end, made, not_made, status_of_fault, uncounted}
+use Rattle.cli_commands.specs.declared.serving.Outcome.{Outcome}
+use Rattle.cli_commands.specs.declared.serving.Outcome.TheVariants.{Ended, Followed}
 
 -- the same, of what the folder holds and the manifest that is given
 pub starts_so : (manner : Manner) (is_synced : Bool) (held others : Held) (given its : Option (List ℕ)) (old new : Option (List Step)) (began came : Option CameState) (status : ℕ) → others ≡ held → its ≡ given
@@ -46,3 +55,68 @@ is_some (Fault fault) status is = some_of fault status is
 
 pub no_end : {A : Type 0} (error : OrMemory JournalFault) (status : ℕ) → IsStatus error status → status ≡ 0 → A
 no_end error status is none = absurd (omega (arith, is_some error status is, none))
+
+-- ---- what is served of an outcome
+
+-- nothing more is served
+pub ended_of : (manner : Manner) (is_synced : Bool) (P : Option (List Step) → Option CameState → ℕ → Type 0) (s : ℕ) (outcome : Outcome) (steps : Option (List Step)) (came : Option CameState) (lines : Lines) (new : Option (List Step)) (last : Option CameState) (status : ℕ) → outcome ≡ Ended s → P steps came s
+    → ServesOn manner is_synced outcome steps came lines new last status → P new last status
+ended_of manner is_synced P s outcome steps came lines new last status is p (at_its_end own same it its) = let one : s ≡ own = (let bad = is in cc) in subst (λ (n : ℕ). P same it n) one p
+ended_of manner is_synced P s outcome steps came lines new last status is p (not_made next begun later old opened it its error own by opens prepares told) = absurd (let bad : Followed next ≡ Ended s = is in cc)
+ended_of manner is_synced P s outcome steps came lines new last status is p (made next begun later after old opened mid one began it its from more what own by opens prepares served on) = absurd (let bad : Followed next ≡ Ended s = is in cc)
+ended_of manner is_synced P s outcome steps came lines new last status is p (uncounted next same it its) = absurd (let bad : Followed next ≡ Ended s = is in cc)
+
+-- what holds of one that is no failure
+pub served_if : {A : Type 0} (outcome : Outcome) → A → IfServed outcome A
+served_if (Ended zero) it = it
+served_if (Ended (suc status)) it = tt
+served_if (Followed next) it = it
+
+pub served_then : {A B : Type 0} (outcome : Outcome) → (A → B) → IfServed outcome A → IfServed outcome B
+served_then (Ended zero) on it = on it
+served_then (Ended (suc status)) on it = tt
+served_then (Followed next) on it = on it
+
+-- ---- where lines begin
+
+pub at_begun : (begun : ℕ) (point : Point) (came : Option CameState) (lines : Lines) → IsAt point came lines → IsAt point came (record lines { begun = begun })
+at_begun begun point came lines at = record {
+  stands = record { line = at.stands.line; one_line = at.stands.one_line; kept = at.stands.kept; anew = at.stands.anew; ended = at.stands.ended; whole = at.stands.whole; is = at.stands.is };
+  number = at.number;
+}
+
+-- an engine was served with these lines, from whatever reading the clock began
+pub first_served : (begun : ℕ) (engine : NumberedState) (count : ℕ) (segment : Begun) (own : List ℕ) (manner : Manner) (is_synced : Bool) (owed : Option ℕ) (old : Option (List Step)) (began : Option CameState) (lines then : Lines) (new : Option (List Step)) (came : Option CameState) (later : Lines) (outcome : Outcome)
+    → then ≡ record lines { begun = begun } → IsServedTo engine count segment own manner is_synced owed old began then new came later outcome → IsServedTo engine count segment own manner is_synced owed old began lines new came later outcome
+first_served begun engine count segment own manner is_synced owed old began lines then new came later outcome same it = record {
+  result = it.result;
+  next = it.next;
+  order = λ point at. it.order point (subst (IsAt point began) (sym same) (at_begun begun point began lines at));
+  stop = it.stop;
+  is_outcome = it.is_outcome;
+}
+
+-- lines stand somewhere whatever reading the clock began with
+pub somewhere_begun : (begun : ℕ) (point : Point) (came : Option CameState) (lines then : Lines) → then ≡ record lines { begun = begun } → IsAt point came lines → IsSomewhere came then
+somewhere_begun begun point came lines then same at = (point, subst (IsAt point came) (sym same) (at_begun begun point came lines at))
+
+-- an engine was served with the manifest of these bytes, and owes an answer to this line
+pub owned_served : (engine : NumberedState) (count : ℕ) (segment : Begun) (own its : List ℕ) (manner : Manner) (is_synced : Bool) (n number : ℕ) (old : Option (List Step)) (began : Option CameState) (lines : Lines) (new : Option (List Step)) (came : Option CameState) (later : Lines) (outcome : Outcome)
+    → own ≡ its → n ≡ number → IsServedTo engine count segment own manner is_synced (Some n) old began lines new came later outcome → IsServedTo engine count segment its manner is_synced (Some number) old began lines new came later outcome
+owned_served engine count segment own its manner is_synced n number old began lines new came later outcome same is it =
+    subst (λ (m : ℕ). IsServedTo engine count segment its manner is_synced (Some m) old began lines new came later outcome) is
+      (subst (λ (o : List ℕ). IsServedTo engine count segment o manner is_synced (Some n) old began lines new came later outcome) same it)
+
+-- ---- the manifest of a segment that was shut
+
+own_cases : {A T : Type 0} (X : Type 0) (F : A → Type 0) (given : Option A) (begun : Begun) (recovered : Recovered) → MatchOption given T F → MatchOption given X (λ bytes. IsFirst begun recovered) → recovered.is_ended ≡ true → T
+own_cases X F None begun recovered own opens ended = own
+own_cases X F (Some bytes) begun recovered own opens ended = absurd (let bad : false ≡ true = sym opens.is_ended ∙ ended in cc)
+
+pub own_text : (held : Held) (given : Option (List ℕ)) (old : Option (List Step)) (begun : Begun) (recovered : Recovered) (new : Option (List Step)) (own : List ℕ) → IsOwn held begun own → HasOpened held given old begun recovered new → recovered.is_ended ≡ true → IsText (held.manifests begun.number) own
+own_text held given old begun recovered new own is opened ended = own_cases _ _ begun.manifest begun recovered is opened.opens ended
+
+-- nothing more is served
+pub uncounted_on : (manner : Manner) (is_synced : Bool) (outcome : Outcome) (steps : Option (List Step)) (came : Option CameState) (lines : Lines) (status : ℕ) → IsUncounted outcome status → ServesOn manner is_synced outcome steps came lines steps came status
+uncounted_on manner is_synced (Ended s) steps came lines status is = subst (ServesOn manner is_synced (Ended s) steps came lines steps came) (sym is) (at_its_end s steps came lines)
+uncounted_on manner is_synced (Followed next) steps came lines status is = subst (ServesOn manner is_synced (Followed next) steps came lines steps came) (sym is) (uncounted next steps came lines)

@@ -1,8 +1,10 @@
 -- What a start on a journal has done, and what an audit of one reports, with the status of both.
-use Rattle.std.specs.Prelude.{◌≡◌, ◌⊎◌, ◌++◌, [], ℕ, Bool, true, false, List, Option, Some, None, Result, Ok, Err, IfErr, codes, decimal, if◌then◌else◌}
+use Rattle.std.specs.Prelude.{◌≡◌, ◌≤◌, ◌⊎◌, ◌++◌, [], ℕ, zero, suc, Bool, true, false, List, Option, Some, None, MatchOption, Result, Ok, Err, IfErr, ⊤, codes, decimal, if◌then◌else◌}
 use Rattle.base.specs.declared.or_memory.OrMemory.{OrMemory}
 use Rattle.base.specs.declared.or_memory.OrMemory.TheVariants.{OutOfMemory, Fault}
-use Rattle.host_live.specs.Inputs.{CameState}
+use Rattle.host_live.specs.Inputs.{CameState, known_of}
+use Rattle.host_live.specs.Turns.{IsAt, Point}
+use Rattle.host_live.specs.declared.lines.Lines.{Lines}
 use Rattle.host_live.specs.declared.manner.Manner.{Manner}
 use Rattle.host_recovery.specs.declared.fault.RecoveryFault.TheVariants.{Unread as NotRead, TooLong}
 use Rattle.host_recovery.specs.declared.recovering.Recovered.{Recovered}
@@ -18,6 +20,10 @@ use Rattle.host_journal.specs.Starts.{Fails, Finds, HasEntered, HasEnteredFor, O
 use Rattle.host_journal.specs.declared.auditing.Audited.{Audited}
 use Rattle.host_journal.specs.declared.beginning.Begun.{Begun}
 use Rattle.host_journal.specs.declared.fault.JournalFault.{JournalFault}
+use Rattle.cli_commands.specs.Following.{IsFollowing}
+use Rattle.cli_commands.specs.declared.following.Next.{Next}
+use Rattle.cli_commands.specs.declared.serving.Outcome.{Outcome}
+use Rattle.cli_commands.specs.declared.serving.Outcome.TheVariants.{Ended, Followed}
 use Rattle.host_journal.specs.declared.fault.JournalFault.TheVariants as faults
 
 -- ---- the status
@@ -50,20 +56,58 @@ abbrev pub IsStatus : OrMemory JournalFault → ℕ → Type 0
 IsStatus OutOfMemory status = status ≡ 2
 IsStatus (Fault fault) status = IsStatusOf fault status
 
--- 0 for what ended well
-abbrev pub IsStatusAtEnd : {T : Type 0} → Result T (OrMemory JournalFault) → ℕ → Type 0
-IsStatusAtEnd (Ok done) status = status ≡ 0
-IsStatusAtEnd (Err error) status = IsStatus error status
+-- what became of an engine that was served so, which that is to follow, if it was decided so
+abbrev pub HasFollowed : Option Next → Outcome → Type 0
+HasFollowed None outcome = outcome ≡ Ended 2
+HasFollowed (Some next) outcome = outcome ≡ Followed next
+
+abbrev pub IsOutcome : Result Bool (OrMemory JournalFault) → Option Next → Outcome → Type 0
+IsOutcome (Ok false) next outcome = outcome ≡ Ended 0
+IsOutcome (Ok true) next outcome = HasFollowed next outcome
+IsOutcome (Err error) next outcome = (status : ℕ) × (outcome ≡ Ended status) × IsStatus error status
+
+-- ---- a segment
+
+-- An engine of this segment, whose manifest has these bytes, and which stands after so many records, was served: no byte went out that is not
+-- in the segment, and what was appended continues the history by what the lines that came asked for. If another one is to follow, it is that.
+pub record IsServedTo (engine : NumberedState) (count : ℕ) (begun : Begun) (own : List ℕ) (manner : Manner) (is_synced : Bool) (owed : Option ℕ) (old : Option (List Step)) (began : Option CameState) (lines : Lines) (new : Option (List Step)) (came : Option CameState) (later : Lines) (outcome : Outcome) : Type 0 where
+  pub result : Result Bool (OrMemory JournalFault)
+  pub next : Option Next
+  pub order : (point : Point) → IsAt point began lines → ServesInOrder engine count manner owed point came later (λ how now. IsFollowing begun.number own how now next) is_synced (first_line begun) old new result
+  pub stop : IfErr result (MayStop begun.number old new)
+  pub is_outcome : IsOutcome result next outcome
+
+-- the segment that is to be made is that
+pub record IsBegunBy (next : Next) (begun : Begun) : Type 0 where
+  pub number : begun.number ≡ next.number
+  pub config : begun.config ≡ next.config
+  pub manifest : MatchOption begun.manifest ⊥ (λ bytes. bytes.now ≡ next.bytes.items)
+  pub carried : begun.carried ≡ next.carried
+
+-- What was served of this outcome: nothing more at its end; or the segment that follows was made, its engine was served, and what was served
+-- after that; or it was not made.
+pub data ServesOn (manner : Manner) (is_synced : Bool) : Outcome → (old : Option (List Step)) (began : Option CameState) (lines : Lines) → (new : Option (List Step)) (came : Option CameState) (status : ℕ) → Type 0 where
+  at_its_end : (status : ℕ) (steps : Option (List Step)) (came : Option CameState) (lines : Lines) → ServesOn manner is_synced (Ended status) steps came lines steps came status
+  not_made : (next : Next) (begun : Begun) (later : Held) (old new : Option (List Step)) (came : Option CameState) (lines : Lines) (error : OrMemory JournalFault) (status : ℕ) → IsBegunBy next begun → Opens begun later old new (Err error) → Prepares begun old (Err error) new
+      → IsStatus error status → ServesOn manner is_synced (Followed next) old came lines new came status
+  made : (next : Next) (begun : Begun) (later : Held) (after : Recovered) (old opened mid new : Option (List Step)) (began came last : Option CameState) (lines more : Lines) (outcome : Outcome) (status : ℕ) → IsBegunBy next begun → Opens begun later old opened (Ok after) → Prepares begun old (Ok after) opened
+      → IsServedTo after.engine after.records begun next.bytes.items manner is_synced (Some lines.number) opened began lines mid came more outcome → ServesOn manner is_synced outcome mid came more new last status
+      → ServesOn manner is_synced (Followed next) old began lines new last status
+  -- segments cannot be counted any more
+  uncounted : (next : Next) (steps : Option (List Step)) (came : Option CameState) (lines : Lines) → ServesOn manner is_synced (Followed next) steps came lines steps came 2
 
 -- ---- a start
 
--- An engine of this segment, which stands after so many records, was served: no byte went out that is not in the segment, and what was appended continues the history by what the
--- lines that came asked for.
-pub record IsServedTo (engine : NumberedState) (count : ℕ) (begun : Begun) (manner : Manner) (is_synced : Bool) (old : Option (List Step)) (began : Option CameState) (new : Option (List Step)) (came : Option CameState) (status : ℕ) : Type 0 where
-  pub result : Result (Unit {0}) (OrMemory JournalFault)
-  pub order : ServesInOrder engine count manner began came is_synced (first_line begun) old new result
-  pub stop : IfErr result (MayStop begun.number old new)
-  pub is_status : IsStatusAtEnd result status
+-- no line came yet
+abbrev pub IsFirstLines : Option CameState → Lines → Type 0
+IsFirstLines came lines = IsAt (record { base = known_of came; told = []; number = 0 }) came lines
+
+-- the bytes of the manifest in force: those of a segment that is to be made; else those that stand beside it
+abbrev pub IsOwn : Held → Begun → List ℕ → Type 0
+IsOwn held begun own = MatchOption begun.manifest (IsText (held.manifests begun.number) own) (λ bytes. bytes.now ≡ own)
+
+abbrev pub IsOfMade : Begun → List ℕ → Type 0
+IsOfMade begun own = MatchOption begun.manifest ⊥ (λ bytes. bytes.now ≡ own)
 
 -- The segment was found, and opened.
 pub record HasOpened (held : Held) (given : Option (List ℕ)) (old : Option (List Step)) (begun : Begun) (recovered : Recovered) (new : Option (List Step)) : Type 0 where
@@ -91,30 +135,62 @@ pub record HasNext (held : Held) (given : Option (List ℕ)) (old : Option (List
   pub is_next : IsNext begun.number recovered.engine manifest SameNumbers next
 
 -- why no segment follows the one of that number, whose engine this is
-pub data IsUnfollowed (held : Held) (given : Option (List ℕ)) (number : ℕ) (engine : NumberedState) (old new : Option (List Step)) (error : OrMemory JournalFault) : Type 0 where
-  not_next : (manifest : NextManifest) → IsNextGiven given (held.manifests number) manifest → IsNotNext number engine manifest error → new ≡ old → IsUnfollowed held given number engine old new error
-  unread : given ≡ None → IsManifestUnread number old error new → IsUnfollowed held given number engine old new error
+pub record IsUnfollowed (held : Held) (given : Option (List ℕ)) (number : ℕ) (engine : NumberedState) (error : OrMemory JournalFault) : Type 0 where
+  pub manifest : NextManifest
+  pub which : IsNextGiven given (held.manifests number) manifest
+  pub not_next : IsNotNext number engine manifest error
 
 -- What a start on a journal did, by the steps of its disk, by what of the input came, and by its status, from what the folder held and the
 -- manifest that is given.
 pub data Starts (manner : Manner) (is_synced : Bool) (held : Held) (given : Option (List ℕ)) (old : Option (List Step)) (began : Option CameState) : (new : Option (List Step)) (came : Option CameState) (status : ℕ) → Type 0 where
   -- It was refused before a segment was found, and nothing was read.
   refused : (new : Option (List Step)) (error : OrMemory JournalFault) (status : ℕ) → Fails held given old new error → HasEnteredFor given old new error → IsStatus error status → Starts manner is_synced held given old began new began status
+  -- The segment was found, and its manifest could not be read once more. Nothing was read.
+  unread : (begun : Begun) (found new : Option (List Step)) (error : OrMemory JournalFault) (status : ℕ) → Finds held given begun → HasEntered given old found → IsManifestUnread begun.number found error new → IsStatus error status → Starts manner is_synced held given old began new began status
   -- The segment was found, and could not be opened. Nothing was read.
   unopened : (begun : Begun) (found new : Option (List Step)) (error : OrMemory JournalFault) (status : ℕ) → Finds held given begun → HasEntered given old found → Opens begun held found new (Err error) → Prepares begun found (Err error) new
       → IsStatus error status → Starts manner is_synced held given old began new began status
-  -- It was opened, its engine had not been shut, and was served.
-  served : (begun : Begun) (recovered : Recovered) (opened new : Option (List Step)) (came : Option CameState) (status : ℕ) → HasOpened held given old begun recovered opened → recovered.is_ended ≡ false
-      → IsServedTo recovered.engine recovered.records begun manner is_synced opened began new came status → Starts manner is_synced held given old began new came status
+  -- It was opened, its engine had not been shut, and was served, and then those that follow it.
+  served : (begun : Begun) (recovered : Recovered) (own : List ℕ) (opened mid new : Option (List Step)) (came last : Option CameState) (lines more : Lines) (outcome : Outcome) (status : ℕ) → HasOpened held given old begun recovered opened → recovered.is_ended ≡ false → IsOwn held begun own → IsFirstLines began lines
+      → IsServedTo recovered.engine recovered.records begun own manner is_synced None opened began lines mid came more outcome → ServesOn manner is_synced outcome mid came more new last status → Starts manner is_synced held given old began new last status
   -- Its engine had been shut, and no segment follows it. Nothing was read.
-  unfollowed : (begun : Begun) (recovered : Recovered) (opened new : Option (List Step)) (error : OrMemory JournalFault) (status : ℕ) → HasOpened held given old begun recovered opened → recovered.is_ended ≡ true
-      → IsUnfollowed held given begun.number recovered.engine opened new error → IsStatus error status → Starts manner is_synced held given old began new began status
+  unfollowed : (begun : Begun) (recovered : Recovered) (opened : Option (List Step)) (error : OrMemory JournalFault) (status : ℕ) → HasOpened held given old begun recovered opened → recovered.is_ended ≡ true
+      → IsUnfollowed held given begun.number recovered.engine error → IsStatus error status → Starts manner is_synced held given old began opened began status
   -- The next segment was not made. Nothing was read.
   unmade : (next : Begun) (later : Held) (opened new : Option (List Step)) (error : OrMemory JournalFault) (status : ℕ) → HasNext held given old next opened → Opens next later opened new (Err error) → Prepares next opened (Err error) new
       → IsStatus error status → Starts manner is_synced held given old began new began status
-  -- It was made, and its engine was served.
-  continued : (next : Begun) (later : Held) (after : Recovered) (opened made new : Option (List Step)) (came : Option CameState) (status : ℕ) → HasNext held given old next opened → Opens next later opened made (Ok after) → Prepares next opened (Ok after) made
-      → IsServedTo after.engine after.records next manner is_synced made began new came status → Starts manner is_synced held given old began new came status
+  -- It was made, and its engine was served, and then those that follow it.
+  continued : (next : Begun) (later : Held) (after : Recovered) (own : List ℕ) (opened made_so mid new : Option (List Step)) (came last : Option CameState) (lines more : Lines) (outcome : Outcome) (status : ℕ) → HasNext held given old next opened → Opens next later opened made_so (Ok after) → Prepares next opened (Ok after) made_so
+      → IsOfMade next own → IsFirstLines began lines → IsServedTo after.engine after.records next own manner is_synced None made_so began lines mid came more outcome → ServesOn manner is_synced outcome mid came more new last status
+      → Starts manner is_synced held given old began new last status
+
+-- ---- inside
+
+-- of an outcome that is no failure
+abbrev pub IfServed : Outcome → Type 0 → Type 0
+IfServed (Ended zero) It = It
+IfServed (Ended (suc status)) It = ⊤
+IfServed (Followed next) It = It
+
+-- of one that is followed
+abbrev pub IfFollowed : Outcome → Type 0 → Type 0
+IfFollowed (Ended status) It = ⊤
+IfFollowed (Followed next) It = It
+
+-- of one at the end of the input
+abbrev pub IfEnded : Outcome → Type 0 → Type 0
+IfEnded (Ended zero) It = It
+IfEnded (Ended (suc status)) It = ⊤
+IfEnded (Followed next) It = ⊤
+
+-- the status where nothing more is served
+abbrev pub IsUncounted : Outcome → ℕ → Type 0
+IsUncounted (Ended status) result = result ≡ status
+IsUncounted (Followed next) result = result ≡ 2
+
+abbrev pub HasStatus : Outcome → Type 0
+HasStatus (Ended status) = status ≤ 2
+HasStatus (Followed next) = ⊤
 
 -- ---- an audit
 

@@ -4,3 +4,5 @@ pub mod Journaling
 pub mod Refusals
 pub mod Told
 pub mod Writing
+pub mod Following
+pub mod Alone

@@ -8,11 +8,6 @@ use Rattle.bpf_decode.specs.declared.fault.DecodeFault.{DecodeFault}
 use Rattle.bpf_asm.specs.Assembly.{Says, HasFault as HasAsmFault}
 use Rattle.bpf_asm.specs.Canon.{canon}
 use Rattle.bpf_asm.specs.declared.fault.AsmFault.{AsmFault}
-use Rattle.host_live.specs.Answering.{Answer}
-use Rattle.host_live.specs.Inputs.{CameState}
-use Rattle.host_live.specs.Served.{IsServed as HasServed}
-use Rattle.host_live.specs.Telling.{IsBegun}
-use Rattle.host_live.specs.declared.manner.Manner.{Manner}
 use Rattle.manifest.specs.declared.fault.ManifestFault.{ManifestFault}
 use Rattle.manifest.specs.Meaning.{Means, HasFault}
 use Rattle.manifest.specs.Migration.{HasMigrationFault, IsMigrated}
@@ -130,18 +125,6 @@ IsPrinted trace old new = (text : List ℕ) × (trace_text trace ≡ Some text) 
 -- The text is a manifest of this setup.
 abbrev pub IsServing : List ℕ → Setup → Type 0
 IsServing manifest setup = (programs : _) × Means manifest setup programs
-
--- What went out is the trace of a history of an engine of that manifest, with its sums.
-abbrev pub IsServed : List ℕ → Option (List ℕ) → Option (List ℕ) → Type 0
-IsServed manifest old new = (text : List ℕ) × Appends old new text × ((trace : Trace) × IsOfManifest manifest trace × (trace_text trace ≡ Some text))
-
--- What went out is that of what the lines that came asked of an engine of that manifest, one by one, and each was answered so.
-abbrev pub HasCarriedOut : List ℕ → Manner → (began came : Option CameState) → (base at : Option (List ℕ)) → (given answered : Option (List Answer)) → Type 0
-HasCarriedOut manifest manner began came base at given answered = (setup : Setup) × IsServing manifest setup × HasServed setup manner began came base at given answered
-
--- What went out of an engine of that manifest that stopped: nothing before it was opened, or a front of its trace.
-abbrev pub IsStopped : List ℕ → Option (List ℕ) → Option (List ℕ) → Type 0
-IsStopped manifest old new = Keeps old new ⊎ ((setup : Setup) × IsServing manifest setup × IsBegun setup old new)
 
 -- The text is a scenario.
 abbrev pub IsScenario : List ℕ → Type 0

@@ -1,54 +1,48 @@
-// An engine with a journal, and the audit of one, over a disk. It relies on `host_journal` for both, on `fault` for how faults are reported, and
-// on `trace_lines` for numbers.
+// An engine with a journal, and those that follow it, over a disk. It relies on `host_journal` for segments, on `following` for whether another
+// engine follows, and on `journal_reports` for how faults are reported.
 
-ghost use Rattle.std.specs.Prelude.{◌≡◌, ◌≢◌, ◌≤◌, ◌⊎◌, ℕ, IsTrue, List, None, Option, false, option_map, true};
-ghost use Rattle.std.specs.Io.KnownBytes.{Appends, Keeps};
-ghost use Rattle.base.specs.declared.or_memory.OrMemory.{OrMemory as Error};
-ghost use Rattle.host_journal.specs.Audits.{FailsToAudit, IsAudited};
+ghost use Rattle.std.specs.Prelude.{◌≡◌, ◌≤◌, ℕ, Bool, IsTrue, List, None, Option, false, option_map, true};
 ghost use Rattle.host_live.specs.Growth.{StandsBehind};
-ghost use Rattle.host_recovery.specs.declared.recovering.Recovered.{Recovered as TheRecovered};
-ghost use Rattle.host_journal.specs.Disks.{Held, IsQuiet, Step};
-ghost use Rattle.host_journal.specs.declared.beginning.Begun.{Begun as TheBegun};
+ghost use Rattle.host_live.specs.Inputs.{CameState};
+ghost use Rattle.host_live.specs.Turns.{IsSomewhere};
+ghost use Rattle.host_journal.specs.Disks.{Held, Step};
 ghost use Rattle.host_journal.specs.Starts.{Finds, HasEntered};
-ghost use Rattle.host_journal.specs.declared.auditing.Audited.{Audited as Found};
-ghost use Rattle.host_journal.specs.declared.fault.JournalFault.{JournalFault as Reason};
-ghost use Rattle.host_journal.specs.declared.fault.JournalFault.TheVariants.{Segment};
-ghost use Rattle.cli_commands.specs.Journaling.{HasNext, HasOpened, IsNextGiven, IsServedTo, IsStatus, IsStatusOf, Starts, audit_text, status_of_fault};
+ghost use Rattle.cli_commands.specs.Journaling.{HasNext, HasOpened, HasStatus, IfEnded, IfFollowed, IfServed, IsFirstLines, IsNextGiven, IsOfMade, IsOutcome, IsOwn, IsServedTo, ServesOn, Starts};
+ghost use Rattle.cli_commands.specs.declared.serving.Outcome.TheVariants.{Followed};
 
 use crate::fault::Fault;
-use crate::files::write;
-use crate::serving::{INPUT, Telling};
-use base::OrMemory;
+use crate::following::{Desk, GivenManifest, InForce, Next};
+use crate::journal_reports::{Place, report, report_carried, report_recovered};
+use crate::serving::{Outcome, followed, uncounted};
 use engine_core::NumberedEngine;
 use engine_succession::Numbering;
 use host_journal::{
-    Audited, Begun, Disk, JournalError, JournalFault, JournalFile, NextManifest, audit, begin,
-    follow, manifest_of, open, serve,
+    Begun, Disk, JournalError, NextManifest, begin, follow, manifest_of, open, serve,
 };
-use host_live::{Input, Manner};
-use host_recovery::{Recovered, RecoveryFault};
-use std::alloc::{AllocError, Global};
+use host_live::{Input, Lines, Manner};
+use host_recovery::Recovered;
+use std::alloc::Global;
 use std::io::Write;
-use trace_lines::{Text, print_long_number};
-use world_calls::Notice;
+use std::marker::{Brand, PhantomData};
 
-/// Carries out what the lines of an input ask of the engine of a journal, whose folder the disk is, until the input ends, and returns the
-/// status: 0 at its end; 1 if the journal or the manifest, a path and its bytes, is refused, and then nothing changed but the lock's file; 2
-/// for want of memory, or if a file, the input or the output fails. What was recovered is reported on `err`. Each line of the trace stands
-/// in the journal's segment before it goes out. The disk comes back.
-pub fn serve_journal<D: Disk, I: Input, E: Write>(
+/// Carries out what the lines of an input ask of the engine of a journal, whose folder the disk is, and of those that follow it, until the
+/// input ends, and returns the status: 0 at its end; 1 if the journal or the manifest, a path and its bytes, is refused, and then nothing
+/// changed but the lock's file; 2 for want of memory, or if a file, the input or the output fails. What was recovered is reported on `err`.
+/// Each line of a trace stands in the journal's segment before it goes out. The disk comes back.
+pub fn serve_journal<D: Disk, I: Input, M: GivenManifest, E: Write>(
     alloc: Global,
     mut disk: D,
     folder: &str,
     manifest: Option<(&str, &[u8])>,
     manner: Manner,
     is_synced: bool,
+    given: &mut M,
     input: &mut I,
     err: &mut E,
 ) -> (D, u8)
     ensures status { result.1 ≤ 2 }
-    // Why it was refused; or which segment was begun or recovered, what the lines of the input led to, and in which order the segment and
-    // standard output were written.
+    // Why it was refused; or which segment was begun or recovered, what the lines of the input led to, which segments followed, and in which
+    // order each segment and standard output were written.
     ensures starts { Starts manner is_synced (D.held disk) (option_map (λ file. file.1.now) manifest.entry) (D.steps disk) (I.came input.old) (D.steps result.0) (I.came input.new) result.1 }
     // All of the input was read, and no read failed. Only where lines are answered one of them may end it.
     ensures read { result.1 ≡ 0 → I.has_failed input.new ≡ I.has_failed input.old }
@@ -58,13 +52,25 @@ pub fn serve_journal<D: Disk, I: Input, E: Write>(
         Some((path, _)) => path,
         None => "",
     };
-    let place = Place { folder, path };
-    let given = bytes_of(manifest);
-    match begin(alloc, &mut disk, given) {
-        Ok(begun) => serve_begun(
-            alloc, disk, place, &begun, given, manner, is_synced, input, err,
-        ),
-        Err(fault) => (disk, report(alloc, fault, place, err)),
+    let place = Place {
+        alloc,
+        folder,
+        path,
+    };
+    let terms = Terms {
+        alloc,
+        place,
+        given: bytes_of(manifest),
+        manner,
+        is_synced,
+    };
+    match begin(alloc, &mut disk, terms.given) {
+        Ok(begun) => {
+            let mut lines = Lines::of(input, 0);
+            let (disk, outcome) = serve_begun(terms, disk, &begun, given, input, &mut lines, err);
+            serve_rest(terms, disk, outcome, given, input, &mut lines, err)
+        }
+        Err(fault) => (disk, report(terms.place, fault, err)),
     }
 }
 
@@ -78,102 +84,293 @@ fn bytes_of<'b>(manifest: Option<(&str, &'b [u8])>) -> Option<&'b [u8]>
     }
 }
 
-/// Where the files of a journal are: its folder, and the manifest that is given.
+/// What a start serves with: where its files are, and the bytes of the manifest that is given.
 #[derive(Clone, Copy)]
-struct Place<'a> {
-    folder: &'a str,
-    path: &'a str,
-}
-
-// The same of the engine of this segment; if that was shut, of the engine of the segment that follows, with the manifest that is given.
-fn serve_begun<D: Disk, I: Input, E: Write>(
+struct Terms<'a> {
     alloc: Global,
-    mut disk: D,
-    place: Place<'_>,
-    begun: &Begun<'_>,
-    given: Option<&[u8]>,
+    place: Place<'a>,
+    given: Option<&'a [u8]>,
     manner: Manner,
     is_synced: bool,
+}
+
+// The engine of this segment was served, or none was. The same of each that follows.
+fn serve_rest<D: Disk, I: Input, M: GivenManifest, E: Write>(
+    terms: Terms<'_>,
+    mut disk: D,
+    mut outcome: Outcome,
+    given: &mut M,
     input: &mut I,
+    lines: &mut Lines,
     err: &mut E,
 ) -> (D, u8)
+    requires going { IfFollowed outcome (IsTrue lines.old.is_ended → IsTrue (I.has_ended input.old)) }
+    requires stands { IfFollowed outcome (IsSomewhere (I.came input.old) lines.old) }
+    requires status { HasStatus outcome }
     ensures status { result.1 ≤ 2 }
-    ensures starts { (old : Option (List Step)) → Finds (D.held disk) (option_map (λ bytes. bytes.now) given.entry) begun.now → HasEntered (option_map (λ bytes. bytes.now) given.entry) old (D.steps disk)
-        → Starts manner is_synced (D.held disk) (option_map (λ bytes. bytes.now) given.entry) old (I.came input.old) (D.steps result.0) (I.came input.new) result.1 }
-    ensures read { result.1 ≡ 0 → I.has_failed input.new ≡ I.has_failed input.old }
-    ensures ended { manner.is_told ≡ false → result.1 ≡ 0 → IsTrue (I.has_ended input.new) }
+    ensures rest { ServesOn terms.entry.manner terms.entry.is_synced outcome (D.steps disk) (I.came input.old) lines.old (D.steps result.0) (I.came input.new) result.1 }
+    ensures read { (failed : Bool) → IfServed outcome (I.has_failed input.old ≡ failed) → result.1 ≡ 0 → I.has_failed input.new ≡ failed }
+    ensures ended { terms.entry.manner.is_told ≡ false → IfEnded outcome (IsTrue (I.has_ended input.old)) → result.1 ≡ 0 → IsTrue (I.has_ended input.new) }
 {
-    match open(alloc, &mut disk, begun) {
-        Ok(recovered) => serve_opened(
-            alloc, disk, place, begun, recovered, given, manner, is_synced, input, err,
-        ),
-        Err(fault) => (disk, report(alloc, fault, place, err)),
+    for _ in 0..u64::MAX {
+        match outcome {
+            Outcome::Ended(status) => return (disk, status),
+            Outcome::Followed(next) => {
+                (disk, outcome) = serve_next(terms, disk, next, given, input, lines, err);
+            }
+        }
+    }
+    (disk, uncounted(&outcome, err))
+}
+
+// Makes the segment that follows, and serves its engine.
+fn serve_next<D: Disk, I: Input, M: GivenManifest, E: Write>(
+    terms: Terms<'_>,
+    mut disk: D,
+    next: Next,
+    given: &mut M,
+    input: &mut I,
+    lines: &mut Lines,
+    err: &mut E,
+) -> (D, Outcome)
+    requires begun { IsTrue lines.old.is_ended → IsTrue (I.has_ended input.old) }
+    requires somewhere { IsSomewhere (I.came input.old) lines.old }
+    ensures status { HasStatus result.1 }
+    ensures read { IfServed result.1 (I.has_failed input.new ≡ I.has_failed input.old) }
+    ensures ended { terms.entry.manner.is_told ≡ false → IfEnded result.1 (IsTrue (I.has_ended input.new)) }
+    ensures going { IfFollowed result.1 (IsTrue lines.new.is_ended → IsTrue (I.has_ended input.new)) }
+    ensures stands { IfFollowed result.1 (IsSomewhere (I.came input.new) lines.new) }
+    ensures rest { (new : Option (List Step)) (last : Option CameState) (status : ℕ) → ServesOn terms.entry.manner terms.entry.is_synced result.1 (D.steps result.0) (I.came input.new) lines.new new last status → ServesOn terms.entry.manner terms.entry.is_synced (Followed next) (D.steps disk) (I.came input.old) lines.old new last status }
+{
+    let Next {
+        number,
+        bytes,
+        config,
+        carried,
+    } = next;
+    let own = bytes.as_slice();
+    let begun = Begun {
+        number,
+        config,
+        manifest: Some(own),
+        carried,
+    };
+    match open(terms.alloc, &mut disk, &begun) {
+        Ok(recovered) => {
+            let owed = Some(lines.number());
+            serve_engine(
+                terms, disk, &begun, own, recovered, owed, given, input, lines, err,
+            )
+        }
+        Err(fault) => (disk, Outcome::Ended(report(terms.place, fault, err))),
+    }
+}
+
+// Serves the engine of this segment; if that was shut, that of the segment that follows, with the manifest that is given.
+fn serve_begun<D: Disk, I: Input, M: GivenManifest, E: Write>(
+    terms: Terms<'_>,
+    disk: D,
+    begun: &Begun<'_>,
+    given: &mut M,
+    input: &mut I,
+    lines: &mut Lines,
+    err: &mut E,
+) -> (D, Outcome)
+    requires begun { lines.old.is_ended ≡ false }
+    requires first { IsFirstLines (I.came input.old) lines.old }
+    ensures status { HasStatus result.1 }
+    ensures read { IfServed result.1 (I.has_failed input.new ≡ I.has_failed input.old) }
+    ensures ended { terms.entry.manner.is_told ≡ false → IfEnded result.1 (IsTrue (I.has_ended input.new)) }
+    ensures going { IfFollowed result.1 (IsTrue lines.new.is_ended → IsTrue (I.has_ended input.new)) }
+    ensures stands { IfFollowed result.1 (IsSomewhere (I.came input.new) lines.new) }
+    ensures starts { (held : Held) (old : Option (List Step)) → D.held disk ≡ held → Finds held (option_map (λ bytes. bytes.now) terms.entry.given) begun.now → HasEntered (option_map (λ bytes. bytes.now) terms.entry.given) old (D.steps disk) → (new : Option (List Step)) (last : Option CameState) (status : ℕ) → ServesOn terms.entry.manner terms.entry.is_synced result.1 (D.steps result.0) (I.came input.new) lines.new new last status → Starts terms.entry.manner terms.entry.is_synced held (option_map (λ bytes. bytes.now) terms.entry.given) old (I.came input.old) new last status }
+{
+    match begun.manifest {
+        Some(own) => serve_owned(terms, disk, begun, own, given, input, lines, err),
+        None => serve_found(terms, disk, begun, given, input, lines, err),
+    }
+}
+
+// The same of a segment that is there.
+fn serve_found<D: Disk, I: Input, M: GivenManifest, E: Write>(
+    terms: Terms<'_>,
+    mut disk: D,
+    begun: &Begun<'_>,
+    given: &mut M,
+    input: &mut I,
+    lines: &mut Lines,
+    err: &mut E,
+) -> (D, Outcome)
+    requires there { begun.now.manifest ≡ None }
+    requires begun { lines.old.is_ended ≡ false }
+    requires first { IsFirstLines (I.came input.old) lines.old }
+    ensures status { HasStatus result.1 }
+    ensures read { IfServed result.1 (I.has_failed input.new ≡ I.has_failed input.old) }
+    ensures ended { terms.entry.manner.is_told ≡ false → IfEnded result.1 (IsTrue (I.has_ended input.new)) }
+    ensures going { IfFollowed result.1 (IsTrue lines.new.is_ended → IsTrue (I.has_ended input.new)) }
+    ensures stands { IfFollowed result.1 (IsSomewhere (I.came input.new) lines.new) }
+    ensures starts { (held : Held) (old : Option (List Step)) → D.held disk ≡ held → Finds held (option_map (λ bytes. bytes.now) terms.entry.given) begun.now → HasEntered (option_map (λ bytes. bytes.now) terms.entry.given) old (D.steps disk) → (new : Option (List Step)) (last : Option CameState) (status : ℕ) → ServesOn terms.entry.manner terms.entry.is_synced result.1 (D.steps result.0) (I.came input.new) lines.new new last status → Starts terms.entry.manner terms.entry.is_synced held (option_map (λ bytes. bytes.now) terms.entry.given) old (I.came input.old) new last status }
+{
+    match manifest_of(terms.alloc, &mut disk, begun.number) {
+        Ok(own) => serve_owned(terms, disk, begun, own.as_slice(), given, input, lines, err),
+        Err(fault) => (disk, Outcome::Ended(report(terms.place, fault, err))),
+    }
+}
+
+// The same of a segment whose manifest has these bytes.
+fn serve_owned<D: Disk, I: Input, M: GivenManifest, E: Write>(
+    terms: Terms<'_>,
+    mut disk: D,
+    begun: &Begun<'_>,
+    own: &[u8],
+    given: &mut M,
+    input: &mut I,
+    lines: &mut Lines,
+    err: &mut E,
+) -> (D, Outcome)
+    requires begun { lines.old.is_ended ≡ false }
+    requires first { IsFirstLines (I.came input.old) lines.old }
+    ensures status { HasStatus result.1 }
+    ensures read { IfServed result.1 (I.has_failed input.new ≡ I.has_failed input.old) }
+    ensures ended { terms.entry.manner.is_told ≡ false → IfEnded result.1 (IsTrue (I.has_ended input.new)) }
+    ensures going { IfFollowed result.1 (IsTrue lines.new.is_ended → IsTrue (I.has_ended input.new)) }
+    ensures stands { IfFollowed result.1 (IsSomewhere (I.came input.new) lines.new) }
+    ensures starts { (held : Held) (old : Option (List Step)) → D.held disk ≡ held → IsOwn held begun.now own.now → Finds held (option_map (λ bytes. bytes.now) terms.entry.given) begun.now → HasEntered (option_map (λ bytes. bytes.now) terms.entry.given) old (D.steps disk) → (new : Option (List Step)) (last : Option CameState) (status : ℕ) → ServesOn terms.entry.manner terms.entry.is_synced result.1 (D.steps result.0) (I.came input.new) lines.new new last status → Starts terms.entry.manner terms.entry.is_synced held (option_map (λ bytes. bytes.now) terms.entry.given) old (I.came input.old) new last status }
+{
+    match open(terms.alloc, &mut disk, begun) {
+        Ok(recovered) => serve_opened(terms, disk, begun, own, recovered, given, input, lines, err),
+        Err(fault) => (disk, Outcome::Ended(report(terms.place, fault, err))),
     }
 }
 
 // The same of a segment that was opened.
-fn serve_opened<D: Disk, I: Input, E: Write>(
-    alloc: Global,
+fn serve_opened<D: Disk, I: Input, M: GivenManifest, E: Write>(
+    terms: Terms<'_>,
     disk: D,
-    place: Place<'_>,
     begun: &Begun<'_>,
+    own: &[u8],
     recovered: Recovered<'_>,
-    given: Option<&[u8]>,
-    manner: Manner,
-    is_synced: bool,
+    given: &mut M,
     input: &mut I,
+    lines: &mut Lines,
     err: &mut E,
-) -> (D, u8)
+) -> (D, Outcome)
     requires behind { StandsBehind recovered.records recovered.engine }
     requires segment { D.segment disk ≡ begun.now.number }
-    ensures status { result.1 ≤ 2 }
-    ensures starts { (held : Held) (old : Option (List Step)) → (recovered.entry.is_ended ≡ true → D.held disk ≡ held) → HasOpened held (option_map (λ bytes. bytes.now) given.entry) old begun.now recovered.entry (D.steps disk)
-        → Starts manner is_synced held (option_map (λ bytes. bytes.now) given.entry) old (I.came input.old) (D.steps result.0) (I.came input.new) result.1 }
-    ensures read { result.1 ≡ 0 → I.has_failed input.new ≡ I.has_failed input.old }
-    ensures ended { manner.is_told ≡ false → result.1 ≡ 0 → IsTrue (I.has_ended input.new) }
+    requires begun { lines.old.is_ended ≡ false }
+    requires first { IsFirstLines (I.came input.old) lines.old }
+    ensures status { HasStatus result.1 }
+    ensures read { IfServed result.1 (I.has_failed input.new ≡ I.has_failed input.old) }
+    ensures ended { terms.entry.manner.is_told ≡ false → IfEnded result.1 (IsTrue (I.has_ended input.new)) }
+    ensures going { IfFollowed result.1 (IsTrue lines.new.is_ended → IsTrue (I.has_ended input.new)) }
+    ensures stands { IfFollowed result.1 (IsSomewhere (I.came input.new) lines.new) }
+    ensures starts { (held : Held) (old : Option (List Step)) → IsOwn held begun.now own.now → HasOpened held (option_map (λ bytes. bytes.now) terms.entry.given) old begun.now recovered.entry (D.steps disk) → (new : Option (List Step)) (last : Option CameState) (status : ℕ) → ServesOn terms.entry.manner terms.entry.is_synced result.1 (D.steps result.0) (I.came input.new) lines.new new last status → Starts terms.entry.manner terms.entry.is_synced held (option_map (λ bytes. bytes.now) terms.entry.given) old (I.came input.old) new last status }
 {
     if recovered.is_ended {
         return serve_after(
-            alloc,
-            disk,
-            place,
-            begun.number,
-            &recovered.engine,
-            given,
-            manner,
-            is_synced,
-            input,
-            err,
+            terms, disk, begun, own, &recovered, given, input, lines, err,
         );
     }
     if begun.manifest.is_none() {
         report_recovered(&recovered, err);
     }
+    serve_first(terms, disk, begun, own, recovered, given, input, lines, err)
+}
+
+// Serves the engine of this segment, with which the start goes on: the input's clock goes on from what the engine's reads.
+fn serve_first<D: Disk, I: Input, M: GivenManifest, E: Write>(
+    terms: Terms<'_>,
+    disk: D,
+    begun: &Begun<'_>,
+    own: &[u8],
+    recovered: Recovered<'_>,
+    given: &mut M,
+    input: &mut I,
+    lines: &mut Lines,
+    err: &mut E,
+) -> (D, Outcome)
+    requires behind { StandsBehind recovered.records recovered.engine }
+    requires segment { D.segment disk ≡ begun.now.number }
+    requires begun { lines.old.is_ended ≡ false }
+    requires first { IsFirstLines (I.came input.old) lines.old }
+    ensures status { HasStatus result.1 }
+    ensures read { IfServed result.1 (I.has_failed input.new ≡ I.has_failed input.old) }
+    ensures ended { terms.entry.manner.is_told ≡ false → IfEnded result.1 (IsTrue (I.has_ended input.new)) }
+    ensures going { IfFollowed result.1 (IsTrue lines.new.is_ended → IsTrue (I.has_ended input.new)) }
+    ensures stands { IfFollowed result.1 (IsSomewhere (I.came input.new) lines.new) }
+    ensures served { IsServedTo recovered.entry.engine recovered.entry.records begun.now own.now terms.entry.manner terms.entry.is_synced None (D.steps disk) (I.came input.old) lines.old (D.steps result.0) (I.came input.new) lines.new result.1 }
+{
+    lines.begin_at(recovered.engine.clock());
     serve_engine(
-        alloc, disk, place, begun, recovered, manner, is_synced, input, err,
+        terms, disk, begun, own, recovered, None, given, input, lines, err,
     )
 }
 
-// Serves the engine of this segment.
-fn serve_engine<D: Disk, I: Input, E: Write>(
-    alloc: Global,
+// Serves the engine of this segment, whose manifest has these bytes, and before it answers the line that is owed an answer.
+fn serve_engine<D: Disk, I: Input, M: GivenManifest, E: Write>(
+    terms: Terms<'_>,
     disk: D,
-    place: Place<'_>,
     begun: &Begun<'_>,
+    own: &[u8],
     recovered: Recovered<'_>,
-    manner: Manner,
-    is_synced: bool,
+    owed: Option<usize>,
+    given: &mut M,
     input: &mut I,
+    lines: &mut Lines,
     err: &mut E,
-) -> (D, u8)
+) -> (D, Outcome)
     requires behind { StandsBehind recovered.records recovered.engine }
     requires segment { D.segment disk ≡ begun.now.number }
-    ensures status { result.1 ≤ 2 }
-    ensures served { IsServedTo recovered.entry.engine recovered.entry.records begun.now manner is_synced (D.steps disk) (I.came input.old) (D.steps result.0) (I.came input.new) result.1 }
-    ensures read { result.1 ≡ 0 → I.has_failed input.new ≡ I.has_failed input.old }
-    ensures ended { manner.is_told ≡ false → result.1 ≡ 0 → IsTrue (I.has_ended input.new) }
+    requires begun { IsTrue lines.old.is_ended → IsTrue (I.has_ended input.old) }
+    requires somewhere { IsSomewhere (I.came input.old) lines.old }
+    ensures status { HasStatus result.1 }
+    ensures read { IfServed result.1 (I.has_failed input.new ≡ I.has_failed input.old) }
+    ensures ended { terms.entry.manner.is_told ≡ false → IfEnded result.1 (IsTrue (I.has_ended input.new)) }
+    ensures going { IfFollowed result.1 (IsTrue lines.new.is_ended → IsTrue (I.has_ended input.new)) }
+    ensures stands { IfFollowed result.1 (IsSomewhere (I.came input.new) lines.new) }
+    ensures served { IsServedTo recovered.entry.engine recovered.entry.records begun.now own.now terms.entry.manner terms.entry.is_synced owed (D.steps disk) (I.came input.old) lines.old (D.steps result.0) (I.came input.new) lines.new result.1 }
 {
-    let mut telling = Telling { err: &mut *err };
+    serve_under::<Brand, D, I, M, E>(
+        terms, disk, begun, own, recovered, owed, given, input, lines, err,
+    )
+}
+
+// The same, with these in force.
+fn serve_under<F: InForce, D: Disk, I: Input, M: GivenManifest, E: Write>(
+    terms: Terms<'_>,
+    disk: D,
+    begun: &Begun<'_>,
+    own: &[u8],
+    recovered: Recovered<'_>,
+    owed: Option<usize>,
+    given: &mut M,
+    input: &mut I,
+    lines: &mut Lines,
+    err: &mut E,
+) -> (D, Outcome)
+    requires behind { StandsBehind recovered.records recovered.engine }
+    requires segment { D.segment disk ≡ begun.now.number }
+    requires number { F.number ≡ begun.now.number }
+    requires own { F.own ≡ own.now }
+    requires begun { IsTrue lines.old.is_ended → IsTrue (I.has_ended input.old) }
+    requires somewhere { IsSomewhere (I.came input.old) lines.old }
+    ensures status { HasStatus result.1 }
+    ensures read { IfServed result.1 (I.has_failed input.new ≡ I.has_failed input.old) }
+    ensures ended { terms.entry.manner.is_told ≡ false → IfEnded result.1 (IsTrue (I.has_ended input.new)) }
+    ensures going { IfFollowed result.1 (IsTrue lines.new.is_ended → IsTrue (I.has_ended input.new)) }
+    ensures stands { IfFollowed result.1 (IsSomewhere (I.came input.new) lines.new) }
+    ensures served { IsServedTo recovered.entry.engine recovered.entry.records begun.now own.now terms.entry.manner terms.entry.is_synced owed (D.steps disk) (I.came input.old) lines.old (D.steps result.0) (I.came input.new) lines.new result.1 }
+{
+    let mut desk: Desk<M, E, F> = Desk {
+        alloc: terms.alloc,
+        err: &mut *err,
+        given: &mut *given,
+        path: terms.place.path,
+        own,
+        number: begun.number,
+        next: None,
+        of: PhantomData,
+    };
     let Recovered {
         engine,
         carried: _,
@@ -182,302 +379,149 @@ fn serve_engine<D: Disk, I: Input, E: Write>(
         is_ended: _,
     } = recovered;
     let (disk, served) = serve(
-        alloc,
+        terms.alloc,
         disk,
         begun,
         engine,
         records,
-        manner,
-        is_synced,
+        terms.manner,
+        terms.is_synced,
+        owed,
         input,
-        &mut telling,
+        lines,
+        &mut desk,
     );
+    let Desk {
+        alloc: _,
+        err: _,
+        given: _,
+        path: _,
+        own: _,
+        number: _,
+        next,
+        of: _,
+    } = desk;
+    (disk, outcome_of(terms, served, next, err))
+}
+
+// What became of an engine that was served so, which that is to follow, if it was decided so.
+fn outcome_of<E: Write>(
+    terms: Terms<'_>,
+    served: Result<bool, JournalError>,
+    next: Option<Next>,
+    err: &mut E,
+) -> Outcome
+    ensures { IsOutcome served next result }
+{
     match served {
-        Ok(()) => (disk, 0),
-        Err(fault) => (disk, report(alloc, fault, place, err)),
+        Ok(false) => Outcome::Ended(0),
+        Ok(true) => followed(next, err),
+        Err(fault) => Outcome::Ended(report(terms.place, fault, err)),
     }
 }
 
-// Serves the engine that follows the one of the segment of that number, which was shut, with the manifest that is given, or that of this
-// segment.
-fn serve_after<D: Disk, I: Input, E: Write>(
-    alloc: Global,
+// Serves the engine that follows that of this segment, which was shut, with the manifest that is given, or with these bytes, which are the
+// segment's.
+fn serve_after<D: Disk, I: Input, M: GivenManifest, E: Write>(
+    terms: Terms<'_>,
     disk: D,
-    place: Place<'_>,
-    number: u64,
-    engine: &NumberedEngine<'_>,
-    given: Option<&[u8]>,
-    manner: Manner,
-    is_synced: bool,
+    begun: &Begun<'_>,
+    own: &[u8],
+    recovered: &Recovered<'_>,
+    given: &mut M,
     input: &mut I,
+    lines: &mut Lines,
     err: &mut E,
-) -> (D, u8)
-    ensures status { result.1 ≤ 2 }
-    ensures starts { (held : Held) (old : Option (List Step)) (begun : TheBegun) (recovered : TheRecovered) → D.held disk ≡ held → begun.number ≡ number → recovered.engine ≡ engine.now → recovered.is_ended ≡ true
-        → HasOpened held (option_map (λ bytes. bytes.now) given.entry) old begun recovered (D.steps disk)
-        → Starts manner is_synced held (option_map (λ bytes. bytes.now) given.entry) old (I.came input.old) (D.steps result.0) (I.came input.new) result.1 }
-    ensures read { result.1 ≡ 0 → I.has_failed input.new ≡ I.has_failed input.old }
-    ensures ended { manner.is_told ≡ false → result.1 ≡ 0 → IsTrue (I.has_ended input.new) }
+) -> (D, Outcome)
+    requires shut { recovered.now.is_ended ≡ true }
+    requires begun { lines.old.is_ended ≡ false }
+    requires first { IsFirstLines (I.came input.old) lines.old }
+    ensures status { HasStatus result.1 }
+    ensures read { IfServed result.1 (I.has_failed input.new ≡ I.has_failed input.old) }
+    ensures ended { terms.entry.manner.is_told ≡ false → IfEnded result.1 (IsTrue (I.has_ended input.new)) }
+    ensures going { IfFollowed result.1 (IsTrue lines.new.is_ended → IsTrue (I.has_ended input.new)) }
+    ensures stands { IfFollowed result.1 (IsSomewhere (I.came input.new) lines.new) }
+    ensures starts { (held : Held) (old : Option (List Step)) → IsOwn held begun.now own.now → HasOpened held (option_map (λ bytes. bytes.now) terms.entry.given) old begun.now recovered.now (D.steps disk) → (new : Option (List Step)) (last : Option CameState) (status : ℕ) → ServesOn terms.entry.manner terms.entry.is_synced result.1 (D.steps result.0) (I.came input.new) lines.new new last status → Starts terms.entry.manner terms.entry.is_synced held (option_map (λ bytes. bytes.now) terms.entry.given) old (I.came input.old) new last status }
 {
-    match given {
+    match terms.given {
         Some(bytes) => {
             let manifest = NextManifest::Given(bytes);
-            serve_next(
-                alloc, disk, place, number, engine, manifest, manner, is_synced, input, err,
+            serve_following(
+                terms, disk, begun, manifest, recovered, given, input, lines, err,
             )
         }
-        None => serve_same(
-            alloc, disk, place, number, engine, manner, is_synced, input, err,
-        ),
-    }
-}
-
-// The same with the manifest of this segment.
-fn serve_same<D: Disk, I: Input, E: Write>(
-    alloc: Global,
-    mut disk: D,
-    place: Place<'_>,
-    number: u64,
-    engine: &NumberedEngine<'_>,
-    manner: Manner,
-    is_synced: bool,
-    input: &mut I,
-    err: &mut E,
-) -> (D, u8)
-    ensures status { result.1 ≤ 2 }
-    ensures starts { (held : Held) (old : Option (List Step)) (begun : TheBegun) (recovered : TheRecovered) → D.held disk ≡ held → begun.number ≡ number → recovered.engine ≡ engine.now → recovered.is_ended ≡ true
-        → HasOpened held None old begun recovered (D.steps disk) → Starts manner is_synced held None old (I.came input.old) (D.steps result.0) (I.came input.new) result.1 }
-    ensures read { result.1 ≡ 0 → I.has_failed input.new ≡ I.has_failed input.old }
-    ensures ended { manner.is_told ≡ false → result.1 ≡ 0 → IsTrue (I.has_ended input.new) }
-{
-    match manifest_of(alloc, &mut disk, number) {
-        Ok(bytes) => {
-            let manifest = NextManifest::Same(bytes.as_slice());
-            serve_next(
-                alloc, disk, place, number, engine, manifest, manner, is_synced, input, err,
+        None => {
+            let manifest = NextManifest::Same(own);
+            serve_following(
+                terms, disk, begun, manifest, recovered, given, input, lines, err,
             )
         }
-        Err(fault) => (disk, report(alloc, fault, place, err)),
     }
 }
 
 // The same with this manifest.
-fn serve_next<D: Disk, I: Input, E: Write>(
-    alloc: Global,
+fn serve_following<D: Disk, I: Input, M: GivenManifest, E: Write>(
+    terms: Terms<'_>,
     disk: D,
-    place: Place<'_>,
-    number: u64,
-    engine: &NumberedEngine<'_>,
+    begun: &Begun<'_>,
     manifest: NextManifest<'_>,
-    manner: Manner,
-    is_synced: bool,
+    recovered: &Recovered<'_>,
+    given: &mut M,
     input: &mut I,
+    lines: &mut Lines,
     err: &mut E,
-) -> (D, u8)
-    ensures status { result.1 ≤ 2 }
-    ensures starts { (held : Held) (given : Option (List ℕ)) (old : Option (List Step)) (begun : TheBegun) (recovered : TheRecovered) → begun.number ≡ number → recovered.engine ≡ engine.now → recovered.is_ended ≡ true
-        → HasOpened held given old begun recovered (D.steps disk) → IsNextGiven given (held.manifests number) manifest.entry
-        → Starts manner is_synced held given old (I.came input.old) (D.steps result.0) (I.came input.new) result.1 }
-    ensures read { result.1 ≡ 0 → I.has_failed input.new ≡ I.has_failed input.old }
-    ensures ended { manner.is_told ≡ false → result.1 ≡ 0 → IsTrue (I.has_ended input.new) }
+) -> (D, Outcome)
+    requires shut { recovered.now.is_ended ≡ true }
+    requires begun { lines.old.is_ended ≡ false }
+    requires first { IsFirstLines (I.came input.old) lines.old }
+    ensures status { HasStatus result.1 }
+    ensures read { IfServed result.1 (I.has_failed input.new ≡ I.has_failed input.old) }
+    ensures ended { terms.entry.manner.is_told ≡ false → IfEnded result.1 (IsTrue (I.has_ended input.new)) }
+    ensures going { IfFollowed result.1 (IsTrue lines.new.is_ended → IsTrue (I.has_ended input.new)) }
+    ensures stands { IfFollowed result.1 (IsSomewhere (I.came input.new) lines.new) }
+    ensures starts { (held : Held) (old : Option (List Step)) → IsNextGiven (option_map (λ bytes. bytes.now) terms.entry.given) (held.manifests begun.now.number) manifest.entry → HasOpened held (option_map (λ bytes. bytes.now) terms.entry.given) old begun.now recovered.now (D.steps disk) → (new : Option (List Step)) (last : Option CameState) (status : ℕ) → ServesOn terms.entry.manner terms.entry.is_synced result.1 (D.steps result.0) (I.came input.new) lines.new new last status → Starts terms.entry.manner terms.entry.is_synced held (option_map (λ bytes. bytes.now) terms.entry.given) old (I.came input.old) new last status }
 {
-    match follow(alloc, number, engine, manifest, Numbering::Same) {
-        Ok(next) => serve_made(alloc, disk, place, &next, manner, is_synced, input, err),
-        Err(fault) => (disk, report(alloc, fault, place, err)),
+    let engine = &recovered.engine;
+    match follow(terms.alloc, begun.number, engine, manifest, Numbering::Same) {
+        Ok(next) => serve_made(
+            terms,
+            disk,
+            &next,
+            manifest.bytes(),
+            given,
+            input,
+            lines,
+            err,
+        ),
+        Err(fault) => (disk, Outcome::Ended(report(terms.place, fault, err))),
     }
 }
 
-// Makes the next segment, and serves its engine.
-fn serve_made<D: Disk, I: Input, E: Write>(
-    alloc: Global,
+// Makes the next segment, whose manifest has these bytes, and serves its engine.
+fn serve_made<D: Disk, I: Input, M: GivenManifest, E: Write>(
+    terms: Terms<'_>,
     mut disk: D,
-    place: Place<'_>,
     next: &Begun<'_>,
-    manner: Manner,
-    is_synced: bool,
+    own: &[u8],
+    given: &mut M,
     input: &mut I,
+    lines: &mut Lines,
     err: &mut E,
-) -> (D, u8)
-    ensures status { result.1 ≤ 2 }
-    ensures starts { (held : Held) (given : Option (List ℕ)) (old : Option (List Step)) → HasNext held given old next.now (D.steps disk)
-        → Starts manner is_synced held given old (I.came input.old) (D.steps result.0) (I.came input.new) result.1 }
-    ensures read { result.1 ≡ 0 → I.has_failed input.new ≡ I.has_failed input.old }
-    ensures ended { manner.is_told ≡ false → result.1 ≡ 0 → IsTrue (I.has_ended input.new) }
+) -> (D, Outcome)
+    requires begun { lines.old.is_ended ≡ false }
+    requires first { IsFirstLines (I.came input.old) lines.old }
+    ensures status { HasStatus result.1 }
+    ensures read { IfServed result.1 (I.has_failed input.new ≡ I.has_failed input.old) }
+    ensures ended { terms.entry.manner.is_told ≡ false → IfEnded result.1 (IsTrue (I.has_ended input.new)) }
+    ensures going { IfFollowed result.1 (IsTrue lines.new.is_ended → IsTrue (I.has_ended input.new)) }
+    ensures stands { IfFollowed result.1 (IsSomewhere (I.came input.new) lines.new) }
+    ensures starts { (held : Held) (old : Option (List Step)) → IsOfMade next.now own.now → HasNext held (option_map (λ bytes. bytes.now) terms.entry.given) old next.now (D.steps disk) → (new : Option (List Step)) (last : Option CameState) (status : ℕ) → ServesOn terms.entry.manner terms.entry.is_synced result.1 (D.steps result.0) (I.came input.new) lines.new new last status → Starts terms.entry.manner terms.entry.is_synced held (option_map (λ bytes. bytes.now) terms.entry.given) old (I.came input.old) new last status }
 {
-    match open(alloc, &mut disk, next) {
+    match open(terms.alloc, &mut disk, next) {
         Ok(recovered) => {
             report_carried(&recovered, err);
-            serve_engine(
-                alloc, disk, place, next, recovered, manner, is_synced, input, err,
-            )
+            serve_first(terms, disk, next, own, recovered, given, input, lines, err)
         }
-        Err(fault) => (disk, report(alloc, fault, place, err)),
-    }
-}
-
-// Reports what was recovered.
-fn report_recovered<E: Write>(recovered: &Recovered<'_>, err: &mut E) {
-    let totals = recovered.engine.totals(recovered.records);
-    let _ = writeln!(err, "camr: recovered {}", Notice::Sums(totals));
-}
-
-// Reports what was carried over.
-fn report_carried<E: Write>(recovered: &Recovered<'_>, err: &mut E) {
-    let freezes = recovered.engine.totals(0).frozen;
-    let ccbs = count_ccbs(&recovered.engine);
-    let _ = writeln!(err, "camr: carried over {freezes} freezes, {ccbs} CCBs");
-}
-
-// How many CCBs are live.
-fn count_ccbs(engine: &NumberedEngine<'_>) -> usize {
-    for place in 0..usize::MAX {
-        if engine.ccb_at(place).is_none() {
-            return place;
-        }
-    }
-    usize::MAX
-}
-
-/// Replays the segments of a journal, whose folder the disk is, and returns the status: 0 if all are accepted, which is reported on `out`; 1
-/// if one is refused; 2 for want of memory, or if a file or a writer fails.
-pub fn audit_journal<D: Disk, W: Write, E: Write>(
-    alloc: Global,
-    disk: &mut D,
-    folder: &str,
-    out: &mut W,
-    err: &mut E,
-) -> u8
-    ensures status { result ≤ 2 }
-    // All of it was accepted, and that went out.
-    ensures accepted { result ≡ 0 → (found : Found) × IsAudited (D.held disk.old) found × Appends (W.contents out.old) (W.contents out.new) (audit_text found) }
-    // It has the fault that is reported.
-    ensures refused { result ≡ 1 → (error : Error Reason) × FailsToAudit (D.held disk.old) (D.steps disk.old) (D.steps disk.new) error × IsStatus error 1 }
-    ensures nothing { result ≡ 1 → Keeps (W.contents out.old) (W.contents out.new) }
-    // Nothing is written to the folder, and no lock is taken.
-    ensures quiet { IsQuiet (D.steps disk.old) (D.steps disk.new) }
-{
-    match audit(alloc, disk) {
-        Ok(audit) => put_audit(&audit, out, err),
-        Err(fault) => report(alloc, fault, Place { folder, path: "" }, err),
-    }
-}
-
-// Puts out that a journal is accepted, and returns the status.
-fn put_audit<W: Write, E: Write>(audit: &Audited, out: &mut W, err: &mut E) -> u8
-    ensures status { (result ≢ 1) × (result ≤ 2) }
-    ensures written { result ≡ 0 → Appends (W.contents out.old) (W.contents out.new) (audit_text audit.now) }
-{
-    write(text_of(audit).as_slice(), out, err)
-}
-
-// What is put out of a journal that is accepted.
-fn text_of(audit: &Audited) -> Text
-    ensures { result ≡ audit_text audit.now }
-{
-    let mut text = Text::none();
-    print_long_number(audit.segments, &mut text);
-    text.put(b" segments, ");
-    print_long_number(audit.records, &mut text);
-    text.put(b" records, accepted");
-    if audit.is_open {
-        text.put(b", open");
-    }
-    text.push(b'\n');
-    text
-}
-
-// Reports why a journal was refused, or its engine stopped, and returns the status.
-fn report<E: Write>(alloc: Global, fault: JournalError, place: Place<'_>, err: &mut E) -> u8
-    ensures { IsStatus fault result }
-{
-    match fault {
-        OrMemory::OutOfMemory => Fault::OutOfMemory.report(err),
-        OrMemory::Fault(fault) => report_fault(alloc, &fault, place, err),
-    }
-}
-
-// The same of a fault.
-fn report_fault<E: Write>(alloc: Global, fault: &JournalFault, place: Place<'_>, err: &mut E) -> u8
-    ensures { IsStatusOf fault.now result }
-{
-    match fault {
-        JournalFault::Foreign => refuse("J1", err),
-        JournalFault::OtherManifest => refuse("J2", err),
-        JournalFault::InUse => refuse("J3", err),
-        JournalFault::File(file) => report_file(alloc, *file, place, err),
-        JournalFault::Unreadable => Fault::File(place.path).report(err),
-        JournalFault::Given(fault) => tell(writeln!(err, "camr: {fault}").is_ok()),
-        JournalFault::Manifest(number, fault) => {
-            tell(writeln!(err, "camr: {number:06}.toml {fault}").is_ok())
-        }
-        JournalFault::Segment(number, fault) => {
-            report_segment(alloc, *number, fault, place, err)
-        }
-        JournalFault::RunLive => refuse("N3", err),
-        JournalFault::DoesNotFit => refuse("N4", err),
-        JournalFault::NotContinued(number) => {
-            tell(writeln!(err, "camr: {number:06}.trace X5").is_ok())
-        }
-        JournalFault::Unread => Fault::File(INPUT).report(err),
-        JournalFault::Unwritten => 2,
-        JournalFault::InternalError => Fault::InternalError.report(err),
-    }
-}
-
-// A refusal that has no place.
-fn refuse<E: Write>(code: &str, err: &mut E) -> u8
-    ensures { (result ≡ 1) ⊎ (result ≡ 2) }
-{
-    tell(writeln!(err, "camr: {code}").is_ok())
-}
-
-// The status of a refusal, which could be reported or not.
-fn tell(is_told: bool) -> u8
-    ensures { (result ≡ 1) ⊎ (result ≡ 2) }
-{
-    if is_told { 1 } else { 2 }
-}
-
-// Reports what is wrong with a segment.
-fn report_segment<E: Write>(
-    alloc: Global,
-    number: u64,
-    fault: &RecoveryFault,
-    place: Place<'_>,
-    err: &mut E,
-) -> u8
-    ensures { IsStatusOf (Segment number fault.now) result }
-{
-    match fault {
-        RecoveryFault::Form(fault) => tell(writeln!(
-            err,
-            "camr: {number:06}.trace {fault}"
-        ).is_ok()),
-        RecoveryFault::Unfollowed(fault) => {
-            tell(writeln!(err, "camr: {number:06}.trace {fault}").is_ok())
-        }
-        RecoveryFault::Unread | RecoveryFault::TooLong => {
-            report_file(alloc, JournalFile::Segment(number), place, err)
-        }
-    }
-}
-
-// Reports which file cannot be read or written, or is not UTF-8.
-fn report_file<E: Write>(alloc: Global, file: JournalFile, place: Place<'_>, err: &mut E) -> u8
-    ensures { result ≡ 2 }
-{
-    match path_of(alloc, file, place.folder) {
-        Ok(path) => Fault::File(path.as_str()).report(err),
-        Err(AllocError) => Fault::OutOfMemory.report(err),
-    }
-}
-
-// The path of a file.
-fn path_of(alloc: Global, file: JournalFile, folder: &str) -> Result<String, AllocError> {
-    match file {
-        JournalFile::Folder => String::from_str(alloc, folder),
-        JournalFile::Lock => format!(in alloc; "{folder}/lock"),
-        JournalFile::Manifest(number) => format!(in alloc; "{folder}/{number:06}.toml"),
-        JournalFile::Segment(number) => format!(in alloc; "{folder}/{number:06}.trace"),
+        Err(fault) => (disk, Outcome::Ended(report(terms.place, fault, err))),
     }
 }

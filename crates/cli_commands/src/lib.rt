@@ -2,10 +2,13 @@
 // over the bytes of the files and two writers. It relies on the readers, on `host_scenario` and on `trace`.
 #![tactic(auto)]
 
+mod auditing;
 mod carrying;
 mod fault;
 mod files;
+mod following;
 mod handing;
+mod journal_reports;
 mod journaling;
 mod refusals;
 mod replaying;
@@ -13,11 +16,13 @@ mod serving;
 mod usage;
 mod verdicts;
 
+pub use auditing::audit_journal;
 pub use carrying::{carry, run};
 pub use fault::Fault;
 pub use files::{status, text, unwritten};
+pub use following::{GivenManifest, ManifestUnread};
 pub use handing::{AnsweringSink, WriterSink};
-pub use journaling::{audit_journal, serve_journal};
+pub use journaling::serve_journal;
 pub use replaying::replayed;
 pub use serving::serve;
 pub use usage::report_usage;

@@ -1,34 +1,56 @@
-// A manifest's engine that is asked over a pipe. It relies on `host_live` for what its lines ask and what goes out, and on `manifest` for the
-// engine's configuration.
+// A manifest's engine that is asked over a pipe, and those that follow it. It relies on `host_live` for what its lines ask and what goes out, on
+// `following` for whether another engine follows, and on `manifest` for configurations.
 
-ghost use Rattle.std.specs.Prelude.{◌≡◌, ◌≢◌, ◌≤◌, false, IfErr, IfOk, IsErrAnd, IsTrue, IsUtf8};
-ghost use Rattle.std.specs.Io.KnownBytes.{Keeps};
-ghost use Rattle.host_live.specs.Served.{IsServed as HasServed};
-ghost use Rattle.host_live.specs.Telling.{IsBegun, IsWrittenOut};
-ghost use Rattle.manifest.specs.Meaning.{Means};
+ghost use Rattle.std.specs.Prelude.{◌≡◌, ◌≢◌, ◌≤◌, [], false, ℕ, IfErr, IfOk, IsErrAnd, IsTrue, IsUtf8, List, OnErr, OnOk, Option};
+ghost use Rattle.std.specs.Io.KnownBytes.{Appends, Keeps};
+ghost use Rattle.engine_core.specs.ByNumber.{IsBehind};
+ghost use Rattle.trace.specs.Growing.{IsFront};
+ghost use Rattle.whole_trace.specs.Continued.{items_of};
+ghost use Rattle.host_live.specs.Answering.{Answer};
+ghost use Rattle.host_live.specs.Inputs.{CameState};
+ghost use Rattle.host_live.specs.Turns.{IsSomewhere};
+ghost use Rattle.host_live.specs.declared.lines.Lines.{Lines as TheLines};
+ghost use Rattle.host_journal.specs.Made.{IsFirstEngine, made_of};
+ghost use Rattle.cli_commands.specs.Alone.{GoesAlone, HasStatusAlone, IsFirstOf, IsOutcomeAlone, IsServedFrom, IsTraceFirst, ServedAlone, owed_of};
 ghost use Rattle.cli_commands.specs.Faults.{status_of};
-ghost use Rattle.cli_commands.specs.Told.{HasCarriedOut, IsFaultyManifest, IsManifest, IsServed, IsServing, IsStopped};
+ghost use Rattle.cli_commands.specs.Journaling.{HasFollowed, IfEnded, IfFollowed, IfServed, IsFirstLines, IsUncounted};
+ghost use Rattle.cli_commands.specs.Told.{IsFaultyManifest, IsManifest, IsServing};
+ghost use Rattle.cli_commands.specs.declared.serving.Outcome.TheVariants.{Followed};
 
 use crate::fault::Fault;
 use crate::files::text;
-use engine_config::Config;
-use engine_core::{CcbState, LiveCcb};
-use host_live::{Input, LineFault, LiveFault, Manner, Outlet, Reports};
+use crate::following::{Desk, GivenManifest, InForce, Next, copied};
+use crate::journal_reports::Place;
+use base::OrMemory;
+use engine_core::NumberedEngine;
+use host_journal::{Begun, JournalError, first_engine, first_text};
+use host_live::{Input, Lines, LiveFault, Manner, Outlet, put_all};
 use manifest::Manifest;
-use std::alloc::Global;
+use std::alloc::{AllocError, Global};
 use std::io::Write;
-use world_calls::{Notice, Totals};
+use std::marker::{Brand, PhantomData};
 
 /// How the input is called where it cannot be read.
 pub(crate) const INPUT: &str = "standard input";
 
-/// Carries out what the lines of an input ask of an engine of a manifest, a path and its bytes, until the input ends, and answers the status:
-/// 0 at its end; 1 where the manifest is refused, before anything goes out; 2 for want of memory, or where the input or a sink fails. The
-/// engine's trace goes out line by line. A line that is not carried out is told on `err`, and changes nothing.
-pub fn serve<I: Input, S: Outlet, E: Write>(
+/// What became of an engine that was served.
+#[derive(Drop)]
+pub(crate) enum Outcome {
+    /// Nothing more is served, and that is the status.
+    Ended(u8),
+    /// That follows.
+    Followed(Next),
+}
+
+/// Carries out what the lines of an input ask of an engine of a manifest, a path and its bytes, and of those that follow it, until the input
+/// ends, and answers the status: 0 at its end; 1 if the manifest is refused, before anything goes out; 2 for want of memory, or if the input
+/// or a sink fails. The traces of the engines go out line by line, one after the other. A line that is not carried out is told on `err`, and
+/// changes nothing.
+pub fn serve<I: Input, S: Outlet, M: GivenManifest, E: Write>(
     alloc: Global,
     manifest: (&str, &[u8]),
     manner: Manner,
+    given: &mut M,
     input: &mut I,
     out: &mut S,
     err: &mut E,
@@ -36,21 +58,45 @@ pub fn serve<I: Input, S: Outlet, E: Write>(
     ensures status { result ≤ 2 }
     ensures no_text { ¬ (IsUtf8 manifest.entry.1.now) → result ≡ 2 }
     ensures done { result ≡ 0 → IsManifest manifest.entry.1.now }
-    // All that went out is a trace that a replay over the manifest accepts.
-    ensures accepted { result ≡ 0 → IsServed manifest.entry.1.now (S.bytes out.old) (S.bytes out.new) }
-    // It is that of what the lines that came asked for, one by one, and each was answered so.
-    ensures turned { result ≡ 0 → HasCarriedOut manifest.entry.1.now manner (I.came input.old) (I.came input.new) (S.bytes out.old) (S.bytes out.new) (S.answers out.old) (S.answers out.new) }
+    // All that went out is the trace of an engine of the manifest, and of each engine that followed, by what the lines that came asked for, one
+    // by one; and each was answered so. Where it stopped, it is a front of that.
+    ensures served { ServedAlone manifest.entry.1.now manner (I.came input.old) (I.came input.new) (S.bytes out.old) (S.answers out.old) (S.bytes out.new) (S.answers out.new) result }
+    // A replay over the manifest accepts what went out first.
+    ensures accepted { result ≡ 0 → IsTraceFirst manifest.entry.1.now (S.bytes out.old) (S.bytes out.new) }
     // It is at its end only if no read failed, and all of the input was read, or where lines are answered one of them ended it.
     ensures read { result ≡ 0 → I.has_failed input.new ≡ I.has_failed input.old }
     ensures ended { manner.is_told ≡ false → result ≡ 0 → IsTrue (I.has_ended input.new) }
-    // Where it stopped, it is a front of one.
-    ensures stopped { result ≡ 2 → IsStopped manifest.entry.1.now (S.bytes out.old) (S.bytes out.new) }
     ensures refused { result ≡ 1 → IsFaultyManifest manifest.entry.1.now }
     ensures nothing { result ≡ 1 → Keeps (S.bytes out.old) (S.bytes out.new) }
 {
-    match read(alloc, manifest) {
-        Ok(manifest) => serve_on(alloc, manifest.config, manner, input, out, err),
+    match first_of(alloc, manifest) {
+        Ok(first) => {
+            let place = Place {
+                alloc,
+                folder: "",
+                path: manifest.0,
+            };
+            serve_all(place, first, manner, given, input, out, err)
+        }
         Err(fault) => fault.report(err),
+    }
+}
+
+// What the first engine begins with: the manifest, a path and its bytes.
+fn first_of<'a>(alloc: Global, file: (&'a str, &[u8])) -> Result<Next, Fault<'a>>
+    ensures no_text { ¬ (IsUtf8 file.entry.1.now) → IsErrAnd result (λ e. status_of e ≡ 2) }
+    ensures first { IfOk result (IsFirstOf file.entry.1.now) }
+    ensures fault { IfErr result (λ e. status_of e ≡ 1 → IsFaultyManifest file.entry.1.now) }
+{
+    let manifest = read(alloc, file)?;
+    match copied(alloc, file.1) {
+        Ok(bytes) => Ok(Next {
+            number: 1,
+            bytes,
+            config: manifest.config,
+            carried: None,
+        }),
+        Err(AllocError) => Err(Fault::OutOfMemory),
     }
 }
 
@@ -63,26 +109,258 @@ fn read<'a>(alloc: Global, file: (&'a str, &[u8])) -> Result<Manifest, Fault<'a>
     Ok(manifest::read(alloc, text(file)?)?)
 }
 
-// The same of an engine of this configuration.
-fn serve_on<I: Input, S: Outlet, E: Write>(
-    alloc: Global,
-    config: Config,
+// Serves an engine that begins so, and then each that follows.
+fn serve_all<I: Input, S: Outlet, M: GivenManifest, E: Write>(
+    place: Place<'_>,
+    first: Next,
     manner: Manner,
+    given: &mut M,
     input: &mut I,
     out: &mut S,
     err: &mut E,
 ) -> u8
-    ensures status { (result ≢ 1) × (result ≤ 2) }
-    ensures whole { result ≡ 0 → IsWrittenOut config (S.bytes out.old) (S.bytes out.new) }
-    ensures turned { result ≡ 0 → HasServed config manner (I.came input.old) (I.came input.new) (S.bytes out.old) (S.bytes out.new) (S.answers out.old) (S.answers out.new) }
+    ensures status { (result ≤ 2) × (result ≢ 1) }
+    ensures served { (lines : TheLines) × IsFirstLines (I.came input.old) lines × GoesAlone manner (Followed first) (I.came input.old) lines (S.bytes out.old) (S.answers out.old) (I.came input.new) (S.bytes out.new) (S.answers out.new) result }
     ensures read { result ≡ 0 → I.has_failed input.new ≡ I.has_failed input.old }
     ensures ended { manner.is_told ≡ false → result ≡ 0 → IsTrue (I.has_ended input.new) }
-    ensures begun { result ≡ 2 → IsBegun config (S.bytes out.old) (S.bytes out.new) }
 {
-    let mut telling = Telling { err: &mut *err };
-    match host_live::serve(alloc, &config, manner, input, out, &mut telling) {
-        Ok(()) => 0,
-        Err(fault) => report(fault, err),
+    let mut lines = Lines::of(input, 0);
+    let mut outcome = Outcome::Followed(first);
+    for _ in 0..u64::MAX {
+        match outcome {
+            Outcome::Ended(status) => return status,
+            Outcome::Followed(next) => {
+                outcome = serve_next(place, next, manner, given, input, &mut lines, out, err);
+            }
+        }
+    }
+    uncounted(&outcome, err)
+}
+
+/// The status where nothing more is served, which is reported if another engine was to follow.
+pub(crate) fn uncounted<E: Write>(outcome: &Outcome, err: &mut E) -> u8
+    ensures { IsUncounted outcome.now result }
+{
+    match outcome {
+        Outcome::Ended(status) => *status,
+        Outcome::Followed(_) => {
+            let _ = Fault::InternalError.report(err);
+            2
+        }
+    }
+}
+
+// Serves an engine that begins so.
+fn serve_next<I: Input, S: Outlet, M: GivenManifest, E: Write>(
+    place: Place<'_>,
+    next: Next,
+    manner: Manner,
+    given: &mut M,
+    input: &mut I,
+    lines: &mut Lines,
+    out: &mut S,
+    err: &mut E,
+) -> Outcome
+    requires going { IsTrue lines.old.is_ended → IsTrue (I.has_ended input.old) }
+    requires somewhere { IsSomewhere (I.came input.old) lines.old }
+    ensures status { HasStatusAlone result }
+    ensures read { IfServed result (I.has_failed input.new ≡ I.has_failed input.old) }
+    ensures ended { manner.is_told ≡ false → IfEnded result (IsTrue (I.has_ended input.new)) }
+    ensures going { IfFollowed result (IsTrue lines.new.is_ended → IsTrue (I.has_ended input.new)) }
+    ensures stands { IfFollowed result (IsSomewhere (I.came input.new) lines.new) }
+    ensures rest { (last : Option CameState) (at : Option (List ℕ)) (told : Option (List Answer)) (status : ℕ) → GoesAlone manner result (I.came input.new) lines.new (S.bytes out.new) (S.answers out.new) last at told status → GoesAlone manner (Followed next) (I.came input.old) lines.old (S.bytes out.old) (S.answers out.old) last at told status }
+{
+    let Next {
+        number,
+        bytes,
+        config,
+        carried,
+    } = next;
+    let own = bytes.as_slice();
+    let begun = Begun {
+        number,
+        config,
+        manifest: Some(own),
+        carried,
+    };
+    match put_first(place.alloc, &begun, out) {
+        Ok(engine) => serve_begun(
+            place, &begun, own, engine, manner, given, input, lines, out, err,
+        ),
+        Err(fault) => Outcome::Ended(report(fault, err)),
+    }
+}
+
+// Puts out what the engine's trace begins with, and returns the engine.
+fn put_first<'a, S: Outlet>(
+    alloc: Global,
+    begun: &'a Begun<'_>,
+    out: &mut S,
+) -> Result<NumberedEngine<'a>, LiveFault>
+    ensures first { IfOk result (IsFirstEngine begun.now.config (items_of begun.now.carried)) }
+    ensures behind { IfOk result (IsBehind []) }
+    ensures put { OnOk result (Appends (S.bytes out.old) (S.bytes out.new) (made_of begun.now)) }
+    ensures part { OnErr result (IsFront (made_of begun.now) (S.bytes out.old) (S.bytes out.new)) }
+    ensures answers { S.answers out.new ≡ S.answers out.old }
+{
+    let first = match first_text(alloc, begun) {
+        Ok(first) => first,
+        Err(error) => return Err(live_fault(error)),
+    };
+    match first_engine(alloc, begun) {
+        Ok(engine) => match put_text(first.as_slice(), out) {
+            Ok(()) => Ok(engine),
+            Err(fault) => Err(fault),
+        },
+        Err(error) => Err(live_fault(error)),
+    }
+}
+
+// Puts out a text.
+fn put_text<S: Outlet>(text: &[u8], out: &mut S) -> Result<(), LiveFault>
+    ensures put { OnOk result (Appends (S.bytes out.old) (S.bytes out.new) text.now) }
+    ensures part { OnErr result (IsFront text.now (S.bytes out.old) (S.bytes out.new)) }
+    ensures answers { S.answers out.new ≡ S.answers out.old }
+{
+    match put_all(text, out) {
+        Ok(()) => Ok(()),
+        Err(_) => Err(LiveFault::Unwritten),
+    }
+}
+
+// Why an engine did not begin.
+fn live_fault(error: JournalError) -> LiveFault {
+    match error {
+        OrMemory::OutOfMemory => LiveFault::OutOfMemory,
+        OrMemory::Fault(_) => LiveFault::InternalError,
+    }
+}
+
+// Serves this engine, of which no record was made.
+fn serve_begun<I: Input, S: Outlet, M: GivenManifest, E: Write>(
+    place: Place<'_>,
+    begun: &Begun<'_>,
+    own: &[u8],
+    engine: NumberedEngine<'_>,
+    manner: Manner,
+    given: &mut M,
+    input: &mut I,
+    lines: &mut Lines,
+    out: &mut S,
+    err: &mut E,
+) -> Outcome
+    requires behind { IsBehind [] engine }
+    requires going { IsTrue lines.old.is_ended → IsTrue (I.has_ended input.old) }
+    requires somewhere { IsSomewhere (I.came input.old) lines.old }
+    ensures status { HasStatusAlone result }
+    ensures read { IfServed result (I.has_failed input.new ≡ I.has_failed input.old) }
+    ensures ended { manner.is_told ≡ false → IfEnded result (IsTrue (I.has_ended input.new)) }
+    ensures going { IfFollowed result (IsTrue lines.new.is_ended → IsTrue (I.has_ended input.new)) }
+    ensures stands { IfFollowed result (IsSomewhere (I.came input.new) lines.new) }
+    ensures served { IsServedFrom begun.now.number own.now engine.entry manner (owed_of (items_of begun.now.carried) lines.old.number) (I.came input.old) lines.old (S.bytes out.old) (S.answers out.old) (I.came input.new) lines.new (S.bytes out.new) (S.answers out.new) result }
+{
+    serve_under::<Brand, I, S, M, E>(
+        place, begun, own, engine, manner, given, input, lines, out, err,
+    )
+}
+
+// The same, with these in force.
+fn serve_under<F: InForce, I: Input, S: Outlet, M: GivenManifest, E: Write>(
+    place: Place<'_>,
+    begun: &Begun<'_>,
+    own: &[u8],
+    engine: NumberedEngine<'_>,
+    manner: Manner,
+    given: &mut M,
+    input: &mut I,
+    lines: &mut Lines,
+    out: &mut S,
+    err: &mut E,
+) -> Outcome
+    requires behind { IsBehind [] engine }
+    requires number { F.number ≡ begun.now.number }
+    requires own { F.own ≡ own.now }
+    requires going { IsTrue lines.old.is_ended → IsTrue (I.has_ended input.old) }
+    requires somewhere { IsSomewhere (I.came input.old) lines.old }
+    ensures status { HasStatusAlone result }
+    ensures read { IfServed result (I.has_failed input.new ≡ I.has_failed input.old) }
+    ensures ended { manner.is_told ≡ false → IfEnded result (IsTrue (I.has_ended input.new)) }
+    ensures going { IfFollowed result (IsTrue lines.new.is_ended → IsTrue (I.has_ended input.new)) }
+    ensures stands { IfFollowed result (IsSomewhere (I.came input.new) lines.new) }
+    ensures served { IsServedFrom begun.now.number own.now engine.entry manner (owed_of (items_of begun.now.carried) lines.old.number) (I.came input.old) lines.old (S.bytes out.old) (S.answers out.old) (I.came input.new) lines.new (S.bytes out.new) (S.answers out.new) result }
+{
+    let alone = Manner {
+        is_stepped: manner.is_stepped,
+        is_told: manner.is_told,
+        is_clocked: manner.is_clocked,
+        is_kept: false,
+    };
+    let mut desk: Desk<M, E, F> = Desk {
+        alloc: place.alloc,
+        err: &mut *err,
+        given: &mut *given,
+        path: place.path,
+        own,
+        number: begun.number,
+        next: None,
+        of: PhantomData,
+    };
+    let owed = owed_by(begun, lines);
+    let served = host_live::serve(
+        place.alloc,
+        engine,
+        0,
+        alone,
+        owed,
+        input,
+        lines,
+        out,
+        &mut desk,
+    );
+    let Desk {
+        alloc: _,
+        err: _,
+        given: _,
+        path: _,
+        own: _,
+        number: _,
+        next,
+        of: _,
+    } = desk;
+    outcome_of(served, next, err)
+}
+
+// What became of an engine that was served so, which that is to follow, if it was decided so.
+fn outcome_of<E: Write>(served: Result<bool, LiveFault>, next: Option<Next>, err: &mut E) -> Outcome
+    ensures { IsOutcomeAlone served next result }
+{
+    match served {
+        Ok(false) => Outcome::Ended(0),
+        Ok(true) => followed(next, err),
+        Err(fault) => Outcome::Ended(report(fault, err)),
+    }
+}
+
+/// That follows, which was decided.
+pub(crate) fn followed<E: Write>(next: Option<Next>, err: &mut E) -> Outcome
+    ensures { HasFollowed next result }
+{
+    match next {
+        Some(next) => Outcome::Followed(next),
+        None => {
+            let _ = Fault::InternalError.report(err);
+            Outcome::Ended(2)
+        }
+    }
+}
+
+// The line that asked for the engine, if it follows another one: it is owed an answer.
+fn owed_by(begun: &Begun<'_>, lines: &Lines) -> Option<usize>
+    ensures { result ≡ owed_of (items_of begun.now.carried) lines.now.number }
+{
+    match begun.carried {
+        Some(_) => Some(lines.number()),
+        None => None,
     }
 }
 
@@ -95,65 +373,5 @@ fn report<E: Write>(fault: LiveFault, err: &mut E) -> u8
         LiveFault::Unread => Fault::File(INPUT).report(err),
         LiveFault::InternalError => Fault::InternalError.report(err),
         LiveFault::Unwritten => 2,
-    }
-}
-
-/// The requests, a line each.
-const REQUESTS: [&str; 16] = [
-    "submit Q PRIORITY RETRIES",
-    "dispatch Q",
-    "complete C STATUS SCSI SENSE",
-    "gfreeze Q G",
-    "cfreeze C G",
-    "grelease F",
-    "clock T",
-    "park R",
-    "resume R",
-    "step R",
-    "drive R",
-    "drain",
-    "totals",
-    "ccbs",
-    "help",
-    "quit",
-];
-
-/// A writer that is told what is no part of the trace.
-#[derive(Drop)]
-pub(crate) struct Telling<'a, E: Write> {
-    pub(crate) err: &'a mut E,
-}
-
-impl<E: Write> Reports for Telling<'_, E> {
-    fn refused(&mut self, fault: LineFault, line: usize) {
-        let fault = match fault {
-            LineFault::Form => Fault::Line(line),
-            LineFault::NotHeld => Fault::NotHeld(line),
-        };
-        let _ = fault.report(self.err);
-    }
-
-    fn sums(&mut self, totals: Totals) {
-        let _ = writeln!(self.err, "camr: {}", Notice::Sums(totals));
-    }
-
-    fn ccb(&mut self, live: &LiveCcb) {
-        let state = match live.state() {
-            CcbState::Waiting => "waiting",
-            CcbState::Active => "active",
-            CcbState::InRecovery => "in recovery",
-        };
-        let ccb = live.ccb();
-        let _ = writeln!(
-            self.err,
-            "camr: ccb {} queue {} {state}",
-            ccb.number.0, ccb.queue.0
-        );
-    }
-
-    fn help(&mut self) {
-        for request in REQUESTS {
-            let _ = writeln!(self.err, "camr: {request}");
-        }
     }
 }

@@ -1,4 +1,5 @@
-// An open trace, closed: its whole lines, and a last line that fits them. It relies on `trace` for lines, and on `show_events` for the sums.
+// An open trace, closed: its whole lines, and a last line that fits them. It relies on `whole_trace` for lines, and on `show_events` for the
+// sums.
 
 ghost use Rattle.std.specs.Prelude.{◌≡◌, ◌++◌, ◌∷◌, IfOk, IfSome, string_bytes};
 ghost use Rattle.cli_inspection.specs.Shown.{Closes, IsLastFeed};
@@ -8,7 +9,11 @@ use cli_commands::text;
 use cli_text_page::Page;
 use show_events::{Ending, Walk};
 use std::alloc::{AllocError, Global};
-use world_calls::{Totals, Trace};
+use whole_trace::WholeTrace;
+use world_calls::{CarriedLine, Totals, Trace};
+
+/// A last line whose sums are all 0.
+const NOTHING: &str = "end 0 0 0 0\n";
 
 /// A trace that was open, with a last line of the program's own, and how it ended.
 #[derive(Drop)]
@@ -69,11 +74,12 @@ fn followed(alloc: Global, lines: &str, last: &str) -> Result<String, AllocError
     Ok(text)
 }
 
-// The last line that fits these lines over the manifest; none if one of them is not that of a record.
+// The last line that fits these lines over the manifest; none if one of them is not that of a trace. If no engine begins with the carried
+// lines, whatever the last line says is refused for one of these.
 fn last_line(alloc: Global, manifest: &str, lines: &str) -> Result<Option<String>, AllocError> {
-    let nothing = followed(alloc, lines, "end 0 0 0 0\n")?;
-    let trace = match trace::read(alloc, nothing.as_str()) {
-        Ok(trace) => trace,
+    let nothing = followed(alloc, lines, NOTHING)?;
+    let whole = match whole_trace::read(alloc, nothing.as_str()) {
+        Ok(whole) => whole,
         Err(OrMemory::OutOfMemory) => return Err(AllocError),
         Err(OrMemory::Fault(_)) => return Ok(None),
     };
@@ -82,8 +88,17 @@ fn last_line(alloc: Global, manifest: &str, lines: &str) -> Result<Option<String
         Err(OrMemory::OutOfMemory) => return Err(AllocError),
         Err(OrMemory::Fault(_)) => return Ok(None),
     };
-    let mut walk = Walk::open(alloc, &manifest.config)?;
-    let totals = totals_of(alloc, &mut walk, &trace)?;
+    match Walk::open(alloc, &manifest.config, carried_by(&whole))? {
+        Some(mut walk) => {
+            let totals = totals_of(alloc, &mut walk, &whole.trace)?;
+            Ok(Some(line_of(alloc, &totals)?))
+        }
+        None => Ok(Some(String::from_str(alloc, NOTHING)?)),
+    }
+}
+
+// The last line with these sums.
+fn line_of(alloc: Global, totals: &Totals) -> Result<String, AllocError> {
     let mut page = Page::new(alloc);
     page.fill(
         "end {} {} {} {}\n",
@@ -94,7 +109,15 @@ fn last_line(alloc: Global, manifest: &str, lines: &str) -> Result<Option<String
             u64::from(totals.runs),
         ],
     );
-    Ok(Some(page.finish()?))
+    page.finish()
+}
+
+/// The carried lines of a trace, if it is a continued one.
+pub(crate) fn carried_by(whole: &WholeTrace) -> Option<&[CarriedLine]> {
+    match &whole.carried {
+        Some(lines) => Some(lines.as_slice()),
+        None => None,
+    }
 }
 
 // The sums after all records of a trace.

@@ -8,7 +8,7 @@ ghost use Rattle.cli_commands.specs.Faults.{status_of};
 ghost use Rattle.cli_commands.specs.Told.{IsAcceptedTrace, IsManifest, IsRejectedTrace};
 ghost use Rattle.cli_inspection.specs.Shown.{IsOpenTrace, IsWholeOrOpen};
 
-use crate::closing::{ClosedTrace, closed};
+use crate::closing::{ClosedTrace, carried_by, closed};
 use crate::unread::report_unfollowed;
 use cli_commands::{Fault, replayed, status};
 use cli_inspect_line::{Drawing, Form, Plan};
@@ -144,7 +144,7 @@ fn print_closed<N: Notices, W: Write, E: Write>(
     }
 }
 
-// Prints that of a trace which is accepted, or open, with that ending, and answers the status. A continued one is not shown.
+// Prints that of a trace which is accepted, or open, with that ending, and answers the status.
 fn print_whole<W: Write, E: Write>(
     alloc: Global,
     told: Told,
@@ -157,23 +157,12 @@ fn print_whole<W: Write, E: Write>(
     ensures status { (result ≢ 1) × (result ≤ 2) }
     ensures quiet { result ≡ 0 → Keeps (E.contents err.old) (E.contents err.new) }
 {
-    if whole.carried.is_some() {
-        return report_continued(err);
-    }
     let shown = Shown {
+        carried: carried_by(whole),
         trace: &whole.trace,
         ending,
     };
     status(print(alloc, told, manifest, shown, out), err)
-}
-
-// Writes that a trace is continued, which nothing here shows, and answers the status.
-fn report_continued<E: Write>(err: &mut E) -> u8
-    ensures { result ≡ 2 }
-{
-    match writeln!(err, "camr: a continued trace is not shown") {
-        Ok(()) | Err(_) => 2,
-    }
 }
 
 // Writes that of a trace that is accepted, or of an open one.

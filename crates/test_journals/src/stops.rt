@@ -4,9 +4,9 @@
 ghost use Rattle.std.specs.Prelude.{[], Some, false, if◌then◌else◌};
 
 use crate::memory::Memory;
-use cli_commands::{audit_journal, serve_journal};
+use cli_commands::{GivenManifest, ManifestUnread, audit_journal, serve_journal};
 use host_live::{Came, Input, Manner};
-use std::alloc::Global;
+use std::alloc::{AllocError, Global};
 
 const MANIFEST: &str = "version = 1\n[[queue]]\nopenings = 1\nprogram = \"p1\"\n\
     [[program]]\nname = \"p1\"\nasm = \"\"\"\n\
@@ -80,18 +80,40 @@ impl Input for Once {
     }
 }
 
+/// The manifest, which does not change.
+#[derive(Drop)]
+struct SameManifest;
+
+impl GivenManifest for SameManifest {
+    fn read_again(&mut self, alloc: Global) -> Result<Option<Vec<u8>>, ManifestUnread> {
+        match MANIFEST.as_bytes().to_vec(alloc) {
+            Ok(bytes) => Ok(Some(bytes)),
+            Err(AllocError) => Err(ManifestUnread::OutOfMemory),
+        }
+    }
+}
+
 // The status of an engine with this journal, of which that is asked, and the journal as it is then.
 fn served(alloc: Global, disk: Memory, input: &'static [u8], is_synced: bool) -> (Memory, u8) {
     let manner = Manner {
         is_stepped: false,
         is_told: false,
         is_clocked: false,
+        is_kept: true,
     };
     let manifest = Some(("m.toml", MANIFEST.as_bytes()));
     let mut input = Once::of(input);
     let mut err = Vec::new(alloc);
     serve_journal(
-        alloc, disk, "DIR", manifest, manner, is_synced, &mut input, &mut err,
+        alloc,
+        disk,
+        "DIR",
+        manifest,
+        manner,
+        is_synced,
+        &mut SameManifest,
+        &mut input,
+        &mut err,
     )
 }
 

@@ -2,7 +2,7 @@
 
 ghost use Rattle.std.specs.Prelude.{None, false};
 
-use cli_commands::{WriterSink, serve};
+use cli_commands::{GivenManifest, ManifestUnread, WriterSink, serve};
 use host_live::{Came, Input, Manner};
 use std::alloc::Global;
 
@@ -84,6 +84,16 @@ impl Input for Late<'_> {
     }
 }
 
+/// No manifest that could be read again.
+#[derive(Drop)]
+struct NoManifest;
+
+impl GivenManifest for NoManifest {
+    fn read_again(&mut self, _alloc: Global) -> Result<Option<Vec<u8>>, ManifestUnread> {
+        Ok(None)
+    }
+}
+
 /// Where a clock reads more than an engine takes, that is refused once, and time stands still: it is not read again, and no timer is
 /// waited for. A `clock` line moves time as before.
 pub fn a_clock_beyond_the_last_reading(alloc: Global) -> bool {
@@ -104,7 +114,9 @@ pub fn a_clock_beyond_the_last_reading(alloc: Global) -> bool {
             is_stepped: false,
             is_told: false,
             is_clocked: true,
+            is_kept: false,
         },
+        &mut NoManifest,
         &mut input,
         &mut WriterSink::new(&mut out),
         &mut err,

@@ -6,7 +6,9 @@ ghost use Rattle.cli_line.specs.Files.{input_paths};
 ghost use Rattle.cli_inspect_line.specs.Files.{input_paths as inspected_paths};
 
 use crate::pieces::Pieces;
-use cli_commands::{AnsweringSink, Fault, WriterSink, carry, report_usage, serve};
+use cli_commands::{
+    AnsweringSink, Fault, GivenManifest, ManifestUnread, WriterSink, carry, report_usage, serve,
+};
 use cli_inspect_line::Plan as InspectPlan;
 use cli_inspection::{carry as inspect, report_unread};
 use cli_line::{Manner, Plan, not_utf8, plan};
@@ -113,13 +115,41 @@ fn serve_case(
         is_stepped: manner.is_stepped,
         is_told: manner.is_told,
         is_clocked: manner.is_clocked,
+        is_kept: false,
+    };
+    let mut again = Again {
+        path: manifest.0,
+        case,
     };
     if manner.is_told {
         let mut out = AnsweringSink::new(out);
-        serve(alloc, manifest, served, &mut input, &mut out, err)
+        serve(
+            alloc, manifest, served, &mut again, &mut input, &mut out, err,
+        )
     } else {
         let mut out = WriterSink::new(out);
-        serve(alloc, manifest, served, &mut input, &mut out, err)
+        serve(
+            alloc, manifest, served, &mut again, &mut input, &mut out, err,
+        )
+    }
+}
+
+/// The manifest of that path, where it is read again: it is the case's file `again.toml`, if there is one, or has not changed.
+#[derive(Drop)]
+struct Again<'a> {
+    path: &'a str,
+    case: &'a Case<'a>,
+}
+
+impl GivenManifest for Again<'_> {
+    fn read_again(&mut self, alloc: Global) -> Result<Option<Vec<u8>>, ManifestUnread> {
+        match read_input(alloc, "again.toml", self.case) {
+            Ok(bytes) => Ok(Some(bytes)),
+            Err(_) => match read_input(alloc, self.path, self.case) {
+                Ok(bytes) => Ok(Some(bytes)),
+                Err(_) => Err(ManifestUnread::Failed),
+            },
+        }
     }
 }
 

@@ -1,33 +1,16 @@
-use Rattle.std.proofs.Common.{ℕ, refl, subst, sym}
-use Rattle.engine_carried.specs.declared.numbering.Numbering.TheVariants.{Same as SameNumbers}
-use Rattle.engine_core.specs.ByNumber.{NumberedState}
-use Rattle.host_journal.specs.Follows.{IsNext, IsNotNext}
-use Rattle.cli_commands.specs.Journaling.{IsNextGiven, not_next, unfollowed}
-use Rattle.cli_commands.proofs.Starting.{no_end}
+use Rattle.std.proofs.Common.{◌≡◌, ℕ, List, Option, Some, refl}
+use Rattle.host_live.specs.Inputs.{CameState}
+use Rattle.host_journal.specs.Disks.{Step}
+use Rattle.cli_commands.specs.Journaling.{ServesOn, made, not_made}
+use Rattle.cli_commands.specs.declared.serving.Outcome.TheVariants.{Ended, Followed}
+use Rattle.cli_commands.proofs.Starting.{ended_of, owned_served}
 use Rattle.cli_commands.proofs.journaling.serve_next.Goals as goal
 
-pub returns-in-Ok-clause-starts : goal.returns-in-Ok-clause-starts
-returns-in-Ok-clause-starts g c = λ held given old begun recovered number engine ended opened which.
-    c.serve_made.ensures.starts held given old (record {
-      begun = begun;
-      recovered = recovered;
-      opened = opened;
-      is_ended = ended;
-      manifest = c.args.manifest;
-      which = subst (λ (n : ℕ). IsNextGiven given (held.manifests n) c.args.manifest) (sym number) which;
-      is_next = subst (λ (n : ℕ). IsNext n recovered.engine c.args.manifest SameNumbers c.in-Ok.next) (sym number)
-          (subst (λ (e : NumberedState). IsNext c.args.number e c.args.manifest SameNumbers c.in-Ok.next) (sym engine) c.in-Ok.ensures.follows);
-    })
+pub returns-in-Ok-clause-rest : goal.returns-in-Ok-clause-rest
+returns-in-Ok-clause-rest g c = λ new last status on.
+    made c.args.next _ (g.D.Disk.held c.args.disk) c.in-Ok.recovered (g.D.Disk.steps c.args.disk) (g.D.Disk.steps c.open.new.disk) _ new _ _ last c.args.lines.now _ _ status (record { number = refl; config = refl; manifest = c.as_slice-own.ensures.value; carried = refl }) c.in-Ok.ensures.opens c.in-Ok.ensures.steps (owned_served _ _ _ _ _ _ _ _ _ _ _ _ _ _ _ _ c.as_slice-own.ensures.value c.number.ensures c.serve_engine.ensures.served) on
 
-pub returns-in-Err-clause-starts : goal.returns-in-Err-clause-starts
-returns-in-Err-clause-starts g c = λ held given old begun recovered number engine ended opened which.
-    unfollowed begun recovered (g.D.Disk.steps c.args.disk) (g.D.Disk.steps c.args.disk) c.in-Err.fault _ opened ended
-    (not_next c.args.manifest (subst (λ (n : ℕ). IsNextGiven given (held.manifests n) c.args.manifest) (sym number) which)
-    (subst (λ (n : ℕ). IsNotNext n recovered.engine c.args.manifest c.in-Err.fault) (sym number) (subst (λ (e : NumberedState). IsNotNext c.args.number e c.args.manifest c.in-Err.fault) (sym engine) c.in-Err.ensures.refused)) refl)
-    c.report.ensures
-
-pub returns-in-Err-clause-read : goal.returns-in-Err-clause-read
-returns-in-Err-clause-read g c = no_end c.in-Err.fault c.report.result c.report.ensures
-
-pub returns-in-Err-clause-ended : goal.returns-in-Err-clause-ended
-returns-in-Err-clause-ended g c = λ told. no_end c.in-Err.fault c.report.result c.report.ensures
+pub returns-clause-rest : goal.returns-clause-rest
+returns-clause-rest g c = λ new last status on.
+    ended_of c.args.terms.manner c.args.terms.is_synced (ServesOn c.args.terms.manner c.args.terms.is_synced (Followed c.args.next) (g.D.Disk.steps c.args.disk) (g.I.Input.came c.args.input.now) c.args.lines.now) c.report.result (Ended c.report.result) _ _ c.args.lines.now new last status refl
+    (not_made c.args.next (record { number = c.args.next.number; config = c.args.next.config; manifest = Some (record { ref_ptr = c.as_slice-own.result.ref_ptr; now = c.as_slice-own.result.now }); carried = c.args.next.carried }) (g.D.Disk.held c.args.disk) (g.D.Disk.steps c.args.disk) (g.D.Disk.steps c.open.new.disk) _ c.args.lines.now c.in-Err.fault c.report.result (record { number = refl; config = refl; manifest = c.as_slice-own.ensures.value; carried = refl }) c.in-Err.ensures.opens c.in-Err.ensures.steps c.report.ensures) on

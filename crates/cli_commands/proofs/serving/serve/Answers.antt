@@ -1,17 +1,20 @@
-use Rattle.std.proofs.Common.{inl, inr}
-use Rattle.cli_commands.proofs.Served.{keeps_same, served}
+use Rattle.std.proofs.Common.{refl}
+use Rattle.cli_commands.specs.Alone.{none_served, was_served}
+use Rattle.cli_commands.proofs.Alone.{no_zero, trace_first}
+use Rattle.cli_commands.proofs.Served.{keeps_same}
 use Rattle.cli_commands.proofs.serving.serve.Goals as goal
 
+pub returns-in-Ok-clause-served : goal.returns-in-Ok-clause-served
+returns-in-Ok-clause-served g c = was_served c.in-Ok.first c.serve_all.ensures.served.0 _ _ _ _ _ c.serve_all.result c.in-Ok.ensures.first c.serve_all.ensures.served.1 c.serve_all.ensures.served.2
+
+pub returns-in-Ok-clause-done : goal.returns-in-Ok-clause-done
+returns-in-Ok-clause-done g c = λ none. (c.in-Ok.first.config, c.in-Ok.ensures.first.serving.0, c.in-Ok.ensures.first.serving.1)
+
+pub returns-in-Err-clause-served : goal.returns-in-Err-clause-served
+returns-in-Err-clause-served g c = none_served _ _ c.report.result (no_zero c.report.result c.report.ensures.status.0)
+
+pub returns-in-Err-clause-nothing : goal.returns-in-Err-clause-nothing
+returns-in-Err-clause-nothing g c = λ is. keeps_same (g.S.Outlet.bytes c.args.out.now)
+
 pub returns-in-Ok-clause-accepted : goal.returns-in-Ok-clause-accepted
-returns-in-Ok-clause-accepted g c = λ is.
-    served c.args.manifest.1.now c.in-Ok.manifest.config (g.S.Outlet.bytes c.args.out.now) (g.S.Outlet.bytes c.serve_on.new.out)
-    c.in-Ok.ensures.manifest (c.serve_on.ensures.whole is)
-
-pub returns-in-Ok-clause-turned : goal.returns-in-Ok-clause-turned
-returns-in-Ok-clause-turned g c = λ is. (c.in-Ok.manifest.config, c.in-Ok.ensures.manifest, c.serve_on.ensures.turned is)
-
-pub returns-in-Ok-clause-stopped : goal.returns-in-Ok-clause-stopped
-returns-in-Ok-clause-stopped g c = λ is. inr (c.in-Ok.manifest.config, c.in-Ok.ensures.manifest, c.serve_on.ensures.begun is)
-
-pub returns-in-Err-clause-stopped : goal.returns-in-Err-clause-stopped
-returns-in-Err-clause-stopped g c = λ is. inl (keeps_same (g.S.Outlet.bytes c.args.out.now))
+returns-in-Ok-clause-accepted g c = λ none. trace_first c.args.manifest.1.now c.args.manner c.in-Ok.first _ _ _ _ _ _ _ _ _ none c.in-Ok.ensures.first refl c.serve_all.ensures.served.2

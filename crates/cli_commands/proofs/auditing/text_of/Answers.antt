@@ -1,8 +1,8 @@
 use Rattle.std.proofs.Common.{◌≡◌, ◌∙◌, ℕ, Bool, List, [], ◌∷◌, ◌++◌, ap, append-nil, sym}
 use Rattle.std.specs.Prelude.{codes, decimal, if◌then◌else◌}
 use Rattle.cli_commands.proofs.Accepted.{put_long}
-use Rattle.cli_commands.proofs.journaling.text_of.Goals as goal
-use Rattle.cli_commands.proofs.journaling.text_of.Goals.{else-audit, then-audit}
+use Rattle.cli_commands.proofs.auditing.text_of.Goals as goal
+use Rattle.cli_commands.proofs.auditing.text_of.Goals.{else-audit, then-audit}
 
 pub returns : goal.returns
 returns c =

@@ -1,0 +1,93 @@
+-- What was served of an engine of a manifest, and of those that follow it.
+use Rattle.std.specs.Prelude.{◌≡◌, ◌≢◌, ◌≤◌, ◌⊎◌, ℕ, Bool, true, false, Option, Some, None, Result, Ok, Err, IfErr, List, [], option_map}
+use Rattle.std.specs.Io.KnownBytes.{Appends}
+use Rattle.engine_core.specs.ByNumber.{NumberedState}
+use Rattle.trace.specs.Growing.{IsFront}
+use Rattle.trace.specs.TraceText.{trace_text}
+use Rattle.whole_trace.specs.Continued.{items_of}
+use Rattle.world.specs.World.{Setup}
+use Rattle.world_calls.specs.declared.carried_line.CarriedLine.{CarriedLine}
+use Rattle.world_calls.specs.declared.trace.Trace.{Trace}
+use Rattle.host_live.specs.Answering.{Answer, with_answers}
+use Rattle.host_live.specs.Inputs.{CameState}
+use Rattle.host_live.specs.Served.{ContinuesTurns, IsOwed}
+use Rattle.host_live.specs.Telling.{Continues}
+use Rattle.host_live.specs.Turns.{IsAt, Point}
+use Rattle.host_live.specs.declared.lines.Lines.{Lines}
+use Rattle.host_live.specs.declared.manner.Manner.{Manner}
+use Rattle.host_live.specs.declared.serving.LiveFault.{LiveFault}
+use Rattle.host_journal.specs.Made.{IsFirstEngine, front_of, or_none}
+use Rattle.cli_commands.specs.Following.{IsFollowing}
+use Rattle.cli_commands.specs.Journaling.{HasFollowed, IsFirstLines}
+use Rattle.cli_commands.specs.Told.{IsOfManifest, IsServing}
+use Rattle.cli_commands.specs.declared.following.Next.{Next}
+use Rattle.cli_commands.specs.declared.serving.Outcome.{Outcome}
+use Rattle.cli_commands.specs.declared.serving.Outcome.TheVariants.{Ended, Followed}
+
+-- no later start goes on with the trace
+abbrev pub alone : Manner → Manner
+alone manner = record manner { is_kept = false }
+
+-- it is the manifest's, and follows none
+pub record IsFirstOf (manifest : List ℕ) (next : Next) : Type 0 where
+  pub serving : IsServing manifest next.config
+  pub bytes : next.bytes.items ≡ manifest
+  pub number : next.number ≡ 1
+  pub carried : items_of next.carried ≡ None
+
+-- what its trace begins with
+abbrev pub front_in : Next → List ℕ
+front_in next = or_none (front_of next.config (items_of next.carried))
+
+-- the line that asked for it is owed an answer
+abbrev pub owed_of : Option (List CarriedLine) → ℕ → Option ℕ
+owed_of carried number = option_map (λ lines. number) carried
+
+-- what became of an engine that was served so
+abbrev pub IsOutcomeAlone : Result Bool LiveFault → Option Next → Outcome → Type 0
+IsOutcomeAlone (Ok false) next outcome = outcome ≡ Ended 0
+IsOutcomeAlone (Ok true) next outcome = HasFollowed next outcome
+IsOutcomeAlone (Err fault) next outcome = outcome ≡ Ended 2
+
+-- An engine of which no record was made was served: what went out after that continues its trace by what the lines that came asked for. If
+-- another one is to follow, it is that.
+pub record IsServedFrom (number : ℕ) (own : List ℕ) (engine : NumberedState) (manner : Manner) (owed : Option ℕ) (began : Option CameState) (lines : Lines) (base : Option (List ℕ)) (given : Option (List Answer)) (came : Option CameState) (later : Lines) (at : Option (List ℕ)) (answered : Option (List Answer)) (outcome : Outcome) : Type 0 where
+  pub result : Result Bool LiveFault
+  pub next : Option Next
+  pub told : Continues engine.setup (alone manner) [] base result at
+  pub first : List Answer
+  pub owed_is : IsOwed (alone manner) owed result base first
+  pub turned : (point : Point) → IsAt point began lines → ContinuesTurns engine (alone manner) point came later (λ how now. IsFollowing number own how now next) [] base (with_answers given first) result at answered
+  pub is_outcome : IsOutcomeAlone result next outcome
+
+-- What was served of this outcome: nothing more at its end; or what the trace of the engine that follows begins with went out, that engine was
+-- served, and what was served after that; or only a front of that went out.
+pub data GoesAlone (manner : Manner) : Outcome → (began : Option CameState) (lines : Lines) (base : Option (List ℕ)) (given : Option (List Answer)) → (came : Option CameState) (at : Option (List ℕ)) (answered : Option (List Answer)) (status : ℕ) → Type 0 where
+  at_the_end : (status : ℕ) (came : Option CameState) (lines : Lines) (at : Option (List ℕ)) (answered : Option (List Answer)) → GoesAlone manner (Ended status) came lines at answered came at answered status
+  not_begun : (next : Next) (came : Option CameState) (lines : Lines) (base at : Option (List ℕ)) (answered : Option (List Answer)) → IsFront (front_in next) base at → GoesAlone manner (Followed next) came lines base answered came at answered 2
+  begun : (next : Next) (engine : NumberedState) (began came last : Option CameState) (lines later : Lines) (base mid at to : Option (List ℕ)) (given answered told : Option (List Answer)) (outcome : Outcome) (status : ℕ) → IsFirstEngine next.config (items_of next.carried) engine → Appends base mid (front_in next)
+      → IsServedFrom next.number next.bytes.items engine manner (owed_of (items_of next.carried) lines.number) began lines mid given came later at answered outcome → GoesAlone manner outcome came later at answered last to told status
+      → GoesAlone manner (Followed next) began lines base given last to told status
+  -- engines cannot be counted any more
+  not_counted : (next : Next) (came : Option CameState) (lines : Lines) (at : Option (List ℕ)) (answered : Option (List Answer)) → GoesAlone manner (Followed next) came lines at answered came at answered 2
+
+-- nothing was served; or an engine of the manifest, and what follows it
+pub data ServedAlone (manifest : List ℕ) (manner : Manner) (began : Option CameState) : (came : Option CameState) (base : Option (List ℕ)) (given : Option (List Answer)) (at : Option (List ℕ)) (answered : Option (List Answer)) (status : ℕ) → Type 0 where
+  none_served : (at : Option (List ℕ)) (answered : Option (List Answer)) (status : ℕ) → status ≢ 0 → ServedAlone manifest manner began began at answered at answered status
+  was_served : (first : Next) (lines : Lines) (came : Option CameState) (base : Option (List ℕ)) (given : Option (List Answer)) (at : Option (List ℕ)) (answered : Option (List Answer)) (status : ℕ) → IsFirstOf manifest first → IsFirstLines began lines
+      → GoesAlone manner (Followed first) began lines base given came at answered status → ServedAlone manifest manner began came base given at answered status
+
+-- What went out is the trace of a history of an engine of that manifest, with its sums.
+abbrev pub IsTraceOut : List ℕ → Option (List ℕ) → Option (List ℕ) → Type 0
+IsTraceOut manifest old new = (text : List ℕ) × Appends old new text × ((trace : Trace) × IsOfManifest manifest trace × (trace_text trace ≡ Some text))
+
+-- First that went out, and then more.
+abbrev pub IsTraceFirst : List ℕ → Option (List ℕ) → Option (List ℕ) → Type 0
+IsTraceFirst manifest old new = (mid : Option (List ℕ)) × IsTraceOut manifest old mid × ((more : List ℕ) × Appends mid new more)
+
+-- ---- inside
+
+-- a status that is no refusal
+abbrev pub HasStatusAlone : Outcome → Type 0
+HasStatusAlone (Ended status) = (status ≤ 2) × (status ≢ 1)
+HasStatusAlone (Followed next) = Unit {0}

@@ -143,6 +143,58 @@ uint32_t camr_raw_guest_release(camr_engine **engine, uint32_t freeze, uint32_t 
 
 void camr_raw_run_free(camr_run **run) { *run = NULL; }
 
+/* The journal is a new one, and its segment keeps what is taken. */
+uint32_t camr_raw_recover(const uint8_t *manifest, size_t length, const uint8_t *text, size_t text_length, camr_engine **engine,
+                          uint8_t *fault, size_t fault_length, size_t *written)
+{
+    (void)manifest, (void)length, (void)text, (void)text_length, (void)engine, (void)fault, (void)fault_length;
+    *written = 0;
+    return CAMR_FAULTY;
+}
+
+uint32_t camr_raw_succeed(camr_engine **engine, const uint8_t *manifest, size_t length, bool fresh, uint8_t *fault, size_t fault_length,
+                          size_t *written)
+{
+    (void)engine, (void)manifest, (void)length, (void)fresh, (void)fault, (void)fault_length;
+    *written = 0;
+    return CAMR_RUNS_LIVE;
+}
+
+uint32_t camr_raw_renew(camr_engine **engine, bool fresh)
+{
+    (void)engine, (void)fresh;
+    return CAMR_RUNS_LIVE;
+}
+
+uint32_t camr_raw_carried(camr_engine **engine, uint64_t from, uint8_t *place, size_t length, size_t *written, uint64_t *next)
+{
+    (void)engine, (void)place, (void)length;
+    *written = 0;
+    *next = from;
+    return CAMR_TAKEN;
+}
+
+uint32_t camr_raw_trace(camr_engine **engine, uint64_t from, uint8_t *place, size_t length, size_t *written, uint64_t *next)
+{
+    (void)engine, (void)place, (void)length;
+    *written = 0;
+    *next = from;
+    return CAMR_DONE;
+}
+
+bool camr_raw_take_run(camr_engine **engine, camr_run **run)
+{
+    (void)engine, (void)run;
+    return false;
+}
+
+void camr_raw_ccbs(camr_engine **engine, uint32_t from, uint32_t *numbers, size_t numbers_length, uint32_t *states, size_t states_length,
+                   size_t *count)
+{
+    (void)engine, (void)from, (void)numbers, (void)numbers_length, (void)states, (void)states_length;
+    *count = 0;
+}
+
 bool camr_raw_result_text(uint32_t result, uint8_t *place, size_t length, size_t *written)
 {
     *written = (size_t)snprintf((char *)place, length, "result %u", (unsigned)result);

@@ -8,29 +8,28 @@
  *   - a command that timed out is reported once its LUN is reset, and its neighbours with it;
  *   - a command that a lost connection took with it is reported once a new connection is there and every LUN is reset through it.
  *
- * The trace is taken from the engine as it grows, which keeps no line that was taken, and is written to TRACE; what a run decided is
- * read from its lines. Status 0: nothing was read wrong, and nothing is left.
+ * The trace goes to the folder JOURNAL, and nothing goes to a disk before its lines are there; what a run decided is read from its lines.
+ * What a command is, and what the blocks may hold, stands in the file JOURNAL.kept. After a crash the next start carries on from both.
+ * Status 0: nothing was read wrong, and nothing is left. met.h counts what was met.
  *
- *     transport MANIFEST TRACE PORTAL TARGET SECONDS
+ *     transport MANIFEST JOURNAL PORTAL TARGET SECONDS
  */
 #define _POSIX_C_SOURCE 200809L
 #define CAMR_ENGINE_HEAP
-#include "camr_engine.h"
+#include "../journal.h"
+#include "met.h"
 
-#include <inttypes.h>
 #include <iscsi/iscsi.h>
 #include <iscsi/scsi-lowlevel.h>
 #include <poll.h>
 #include <signal.h>
-#include <stdio.h>
-#include <string.h>
-#include <sys/resource.h>
+#include <sys/mman.h>
 #include <time.h>
 
 enum { LUNS = 4, ACTIVE = 32, COMMANDS = 40, PLACES = 64, BLOCK = 512, BLOCKS = 8, BYTES = BLOCK * BLOCKS, MOST_SENSE = 64 };
 enum { FIRST_LUN = 1, ABSENT_LUN = 9, PRIORITY = 10, RETRIES = 3, GUEST_LINK = 1, GUEST_RESET = 2, GUEST_PROBE = 3 };
 enum { COMMAND_MS = 1000, RESET_MS = 2000, LINK_MS = 2000, TICK_MS = 10, PROBE_MS = 100, ODD_MS = 120, QUIET_MS = 30000 };
-enum { MOST_PROBES = 60 };
+enum { MOST_PROBES = 60, MOST_CCBS = LUNS * COMMANDS, MOST_SEGMENT = 4 << 20 };
 
 /* What a command is. Those from BEYOND on are refused by a disk that is well. */
 enum kind { INQUIRE, CAPACITY, READ, WRITE, TEST, REGISTER, BEYOND, UNKNOWN_OPCODE, NACA, COMPARE, ABSENT, KINDS };
@@ -43,12 +42,17 @@ struct place {
     bool is_busy;
 };
 
+/* What is kept of a command: its CCB, or 0 if there is none; what it is, and its place, or PLACES if it has none. */
+struct slot {
+    uint32_t ccb, kind, place;
+};
+
 struct command {
     struct lun *lun;
     enum state state;
     enum kind kind;
     bool timed_out;
-    uint32_t ccb;
+    struct slot *slot;
     struct place *place;
     struct scsi_task *task;         /* NULL once the connection has none of it any more */
     uint64_t deadline;
@@ -69,48 +73,31 @@ struct lun {
     bool probe_is_out, load_asked;
     unsigned probes;
     uint64_t probe_at;
-    struct place places[PLACES];
+    struct place *places;
     struct command commands[COMMANDS];
 };
 
-/* The failures that are told apart, and how often each was met. A status of 0c with a SCSI status of 02 has sense data. */
-static struct {
-    const char *name;
-    uint8_t status, scsi;
-    int32_t sense;                  /* key, code, qualifier; a negative one fits any */
-    uint64_t count;
-} met[] = {
-    {"reset", 0x0c, 0x02, 0x62900, 0},          {"mode-changed", 0x0c, 0x02, 0x62a01, 0},
-    {"luns-changed", 0x0c, 0x02, 0x63f0e, 0},   {"preempted", 0x0c, 0x02, 0x62a03, 0},
-    {"out-of-range", 0x0c, 0x02, 0x52100, 0},   {"unknown-opcode", 0x0c, 0x02, 0x52000, 0},
-    {"invalid-field", 0x0c, 0x02, 0x52400, 0},  {"no-such-lun", 0x0c, 0x02, 0x52500, 0},
-    {"read-only", 0x0c, 0x02, 0x72700, 0},      {"not-ready", 0x0c, 0x02, 0x20401, 0},
-    {"no-medium", 0x0c, 0x02, 0x23a00, 0},      {"medium-error", 0x0c, 0x02, 0x31100, 0},
-    {"miscompare", 0x0c, 0x02, 0xe1d00, 0},     {"recovered", 0x0c, 0x02, 0x11700, 0},
-    {"aborted-command", 0x0c, 0x02, 0xb4b00, 0}, {"conflict", 0x0c, 0x18, -1, 0},
-    {"busy", 0x0c, 0x08, -1, 0},                {"task-set-full", 0x0c, 0x28, -1, 0},
-    {"aca-active", 0x0c, 0x30, -1, 0},          {"task-aborted", 0x0c, 0x40, -1, 0},
-    {"timed-out", 0x0b, 0, -1, 0},              {"reset-beside", 0x17, 0, -1, 0},
-    {"link-lost", 0x0e, 0, -1, 0},              {"another", 0, 0, -1, 0},
+/* What outlasts the process, as a file that is mapped into memory: what the commands are, what the places may hold, and the counts. */
+struct kept {
+    struct place places[LUNS][PLACES];
+    struct slot slots[LUNS][COMMANDS];
+    struct met met;
+    uint64_t finished, failed, wrong, read, written;
 };
-enum { DESCRIPTOR, DEFERRED, LONG, TESTS, LOADS, RESETS, LINKS, TOLD };
-static const char *const told_as[TOLD] = {"met descriptor-sense", "met deferred-error", "met long-sense", "did tests",
-                                          "did loads",            "did resets",         "did links"};
-static uint64_t told[TOLD];
 
 static struct {
-    const char *manifest, *trace, *portal, *target;
+    const char *manifest, *folder, *portal, *target;
+    struct journal journal;
+    struct kept *kept;
     camr_engine *engine;
-    uint64_t begun;                 /* the engine's clock reads 0 at this time */
-    FILE *file;
+    uint64_t begun, random;         /* the engine's clock reads 0 at the first */
     struct iscsi_context *link;     /* NULL while there is no connection */
     enum { DOWN, CONNECTING, RESETTING, UP } stage;
     bool is_lost, cancels, is_draining;
     uint64_t link_at;               /* when it is tried again, or given up */
     unsigned resets_left;
     uint32_t link_freeze;
-    uint64_t random;
-    uint64_t submitted, finished, failed, wrong, read, written;
+    unsigned live;                  /* how many commands there are */
     struct lun luns[LUNS];
 } host;
 
@@ -126,6 +113,14 @@ static void expect(camr_result result, const char *call)
     end("%s: %.*s", call, (int)length, text);
 }
 
+static void expect_kept(enum journal_result result)
+{
+    char text[512];
+    if (result == JOURNAL_DONE) return;
+    journal_text(&host.journal, text, sizeof text);
+    end("%s", text);
+}
+
 static uint64_t milliseconds(void)
 {
     struct timespec now;
@@ -135,8 +130,7 @@ static uint64_t milliseconds(void)
 
 static uint64_t random_below(uint64_t limit)
 {
-    host.random = host.random * 6364136223846793005u + 1442695040888963407u;
-    return (host.random >> 33) % limit;
+    return ((host.random = host.random * 6364136223846793005u + 1442695040888963407u) >> 33) % limit;
 }
 
 /* What a place holds in a generation: each block begins with its disk, its address and the generation, and goes on by these. */
@@ -158,15 +152,14 @@ static void judge(struct command *command)
     uint64_t generation;
     memcpy(&generation, command->buffer + 16, sizeof generation);
     fill(expected, command->lun, place, generation);
-    host.read++;
-    if (generation >= place->oldest && generation <= place->newest && memcmp(expected, command->buffer, BYTES) == 0) {
-        place->oldest = place->newest = generation;
-        return;
-    }
-    host.wrong++;
-    printf("wrong: LUN %u place %u: generation %" PRIu64 " was read, and %" PRIu64 " to %" PRIu64 " were written\n", command->lun->number,
-           (unsigned)(place - command->lun->places), generation, place->oldest, place->newest);
-    place->oldest = 0;
+    host.kept->read++;
+    bool is_right = generation >= place->oldest && generation <= place->newest && memcmp(expected, command->buffer, BYTES) == 0;
+    if (!is_right)
+        printf("wrong: LUN %u place %u: generation %" PRIu64 " was read, and %" PRIu64 " to %" PRIu64 " were written\n",
+               command->lun->number, (unsigned)(place - command->lun->places), generation, place->oldest, place->newest);
+    place->oldest = is_right ? generation : 0;
+    if (is_right) place->newest = generation;
+    else host.kept->wrong++;
 }
 
 /* ---- the trace, and what runs decide ------------------------------------------------------------------------------------------ */
@@ -177,56 +170,21 @@ struct decision {
     char ask[9];                    /* four bytes for the transport, in hexadecimal */
 };
 
-static void read_lines(char *lines, struct decision *decision)
+static void read_lines(void *argument, const char *lines)
 {
-    for (char *line = strtok(lines, "\n"); line != NULL; line = strtok(NULL, "\n")) {
+    struct decision *decision = argument;
+    for (; *lines != '\0'; lines = strchr(lines, '\n') + 1) {
         unsigned helper;
         char word[9] = "";
-        if (sscanf(line, "advance %*u %*u helper %u %8s", &helper, word) < 1) continue;
+        if (sscanf(lines, "advance %*u %*u helper %u %8s", &helper, word) < 1) continue;
         if (helper == 5) decision->code = (unsigned)strtoul(word, NULL, 16);
         if (helper == 10) memcpy(decision->ask, word, sizeof word);
     }
 }
 
-/* Takes the trace's new lines, and writes them. */
 static void follow_trace(struct decision *decision)
 {
-    static char lines[65536];
-    for (;;) {
-        size_t written;
-        expect(camr_take(host.engine, lines, sizeof lines - 1, &written), "camr_take");
-        if (written == 0) return;
-        if (fwrite(lines, 1, written, host.file) != written) end("the trace cannot be written");
-        lines[written] = '\0';
-        if (decision != NULL) read_lines(lines, decision);
-    }
-}
-
-static void open_engine(void)
-{
-    static char manifest[1 << 20];
-    char fault[256];
-    FILE *file = fopen(host.manifest, "rb");
-    if (file == NULL) end("%s cannot be read", host.manifest);
-    size_t length = fread(manifest, 1, sizeof manifest, file);
-    fclose(file);
-    camr_result result = camr_open(manifest, length, &host.engine, fault, sizeof fault);
-    if (result == CAMR_FAULTY) end("%s: %s", host.manifest, fault);
-    expect(result, "camr_open");
-    host.file = fopen(host.trace, "wb");
-    if (host.file == NULL) end("%s cannot be written", host.trace);
-    host.begun = milliseconds();
-}
-
-/* Ends an engine's trace with its sums, which are all 0 for what is frozen, active or live. */
-static void close_engine(void)
-{
-    char line[128];
-    size_t written;
-    follow_trace(NULL);
-    expect(camr_trace_end(host.engine, line, sizeof line, &written), "camr_trace_end");
-    if (fwrite(line, 1, written, host.file) != written || fclose(host.file) != 0) end("the trace cannot be written");
-    camr_close(host.engine);
+    expect_kept(journal_keep(&host.journal, host.engine, decision != NULL ? read_lines : NULL, decision));
 }
 
 static void read_clock(uint64_t now)
@@ -267,13 +225,10 @@ static enum scsi_xfer_dir describe(const struct command *command, unsigned char 
     if (command->kind == INQUIRE) cdb[4] = 96;
     if (command->kind == NACA) cdb[5] = 0x04;
     if (command->kind == COMPARE) cdb[1] = 0x02;
-    if (command->kind == REGISTER) {
-        cdb[1] = 0x06; /* register, and ignore the key that there is */
-        cdb[8] = 24;
-    } else if (*length == BYTES) {
-        for (unsigned at = 0; at < 4; at++) cdb[2 + at] = (unsigned char)(block >> (24 - 8 * at));
-        cdb[8] = BLOCKS;
-    }
+    if (command->kind == REGISTER) cdb[1] = 0x06, cdb[8] = 24; /* register, and ignore the key that there is */
+    if (*length != BYTES) return rows[command->kind].direction;
+    for (unsigned at = 0; at < 4; at++) cdb[2 + at] = (unsigned char)(block >> (24 - 8 * at));
+    cdb[8] = BLOCKS;
     return rows[command->kind].direction;
 }
 
@@ -307,7 +262,7 @@ static void start_commands(struct lun *lun)
         if (lun->is_held) return;
         expect(result, "camr_dispatch");
         struct command *command = lun->commands;
-        while (command->ccb != ccb) command++;
+        while (command->slot->ccb != ccb) command++;
         lun->waiting--;
         lun->active++;
         give(command);
@@ -315,16 +270,23 @@ static void start_commands(struct lun *lun)
 }
 
 /* Chooses a free place, and whether it is read or written. */
-static void choose_place(struct command *command)
+static void choose_place(struct command *command, const struct lun *lun)
 {
-    struct lun *lun = command->lun;
     unsigned at = (unsigned)random_below(PLACES);
     while (lun->places[at].is_busy) at = (at + 1) % PLACES;
     struct place *place = command->place = &lun->places[at];
     place->is_busy = true;
     if (command->kind != COMPARE) command->kind = place->oldest == 0 || random_below(3) == 0 ? WRITE : READ;
-    if (command->kind == WRITE) fill(command->buffer, lun, place, ++place->newest);
-    if (command->kind == COMPARE) fill(command->buffer, lun, place, 0);
+    if (command->kind == WRITE) place->newest++;
+}
+
+/* Makes the bytes that a command sends. */
+static void fill_command(struct command *command)
+{
+    memset(command->buffer, 0, 24);
+    command->buffer[15] = (unsigned char)command->lun->number; /* the key that is registered */
+    if (command->kind == WRITE) fill(command->buffer, command->lun, command->place, command->place->newest);
+    if (command->kind == COMPARE) fill(command->buffer, command->lun, command->place, 0);
 }
 
 /* Submits a disk's next command, if there is one to be submitted. */
@@ -340,13 +302,14 @@ static void submit(struct command *command)
         command->kind = lun->next_odd;
         lun->next_odd = lun->next_odd + 1 < KINDS ? lun->next_odd + 1 : TEST;
     }
-    memset(command->buffer, 0, 24);
-    command->buffer[15] = (unsigned char)lun->number; /* the key that is registered */
-    if (command->kind == READ || command->kind == COMPARE) choose_place(command);
-    expect(camr_submit(host.engine, lun->number - FIRST_LUN, PRIORITY, RETRIES, &command->ccb), "camr_submit");
+    if (command->kind == READ || command->kind == COMPARE) choose_place(command, lun);
+    fill_command(command);
+    command->slot->kind = command->kind;
+    command->slot->place = command->place != NULL ? (uint32_t)(command->place - lun->places) : PLACES;
+    expect(camr_submit(host.engine, lun->number - FIRST_LUN, PRIORITY, RETRIES, &command->slot->ccb), "camr_submit");
     command->state = WAITING;
     lun->waiting++;
-    host.submitted++;
+    host.live++;
 }
 
 /* A command has come to its end. */
@@ -356,23 +319,20 @@ static void finish(struct command *command, unsigned code)
     struct lun *lun = command->lun;
     bool is_good = code == CAMR_REQ_CMP;
     command->state = IDLE;
-    command->ccb = 0;
-    host.finished++;
-    if (!is_good) host.failed++;
+    host.live--;
+    host.kept->finished++;
+    if (!is_good) host.kept->failed++;
     if (command->kind == lun->stage && lun->stage < READ) {
         if (!is_good) end("LUN %u cannot be asked what it is", lun->number);
         if (lun->stage == INQUIRE && (command->buffer[0] & 0x1f) != 0) end("LUN %u is no disk", lun->number);
         if (lun->stage == CAPACITY && (command->buffer[6] << 8 | command->buffer[7]) != BLOCK) end("LUN %u has other blocks", lun->number);
         lun->stage++;
     }
-    if (place == NULL) return;
-    place->is_busy = false;
+    if (place != NULL) place->is_busy = false;
     if (command->kind == READ && is_good) judge(command);
     if (command->kind == READ && !is_good) place->oldest = 0; /* a write heals it */
-    if (command->kind == WRITE && is_good) {
-        place->oldest = place->newest;
-        host.written++;
-    }
+    if (command->kind == WRITE && is_good) place->oldest = place->newest, host.kept->written++;
+    command->slot->ccb = 0;
 }
 
 /* Carries out what a policy asked for: it is begun in the loop. */
@@ -380,31 +340,13 @@ static void carry_out(struct lun *lun, const char *ask)
 {
     bool is_load = strcmp(ask, "6c6f6164") == 0;                /* load */
     if (strcmp(ask, "72736574") == 0) lun->reset_asked = true;  /* rset */
-    if (strcmp(ask, "6c696e6b") == 0 && host.stage == UP && !host.is_lost) { /* link */
-        told[LINKS]++;
-        host.is_lost = true;
-    }
+    if (strcmp(ask, "6c696e6b") == 0 && host.stage == UP && !host.is_lost) host.is_lost = true, host.kept->met.links++; /* link */
     if ((!is_load && strcmp(ask, "74657374") != 0) || lun->probe_freeze != 0) return; /* test */
     expect(camr_guest_freeze(host.engine, lun->number - FIRST_LUN, GUEST_PROBE, &lun->probe_freeze), "camr_guest_freeze");
     lun->load_asked = is_load;
     lun->probe_is_out = false;
     lun->probes = 0;
     lun->probe_at = milliseconds();
-}
-
-static void count(uint8_t status, uint8_t scsi, const unsigned char *sense, size_t length)
-{
-    int32_t codes = -1;
-    size_t row = 0;
-    if (length >= 4 && (sense[0] & 0x7e) == 0x72) codes = (sense[1] & 0x0f) << 16 | sense[2] << 8 | sense[3];
-    if (length >= 14 && (sense[0] & 0x7e) == 0x70) codes = (sense[2] & 0x0f) << 16 | sense[12] << 8 | sense[13];
-    if (length != 0 && (sense[0] & 0x7e) == 0x72) told[DESCRIPTOR]++;
-    if (length != 0 && (sense[0] & 0x7d) == 0x71) told[DEFERRED]++;
-    if (length > MOST_SENSE) told[LONG]++;
-    while (row + 1 < sizeof met / sizeof *met &&
-           (met[row].status != status || met[row].scsi != scsi || (met[row].sense >= 0 && met[row].sense != codes)))
-        row++;
-    met[row].count++;
 }
 
 /* Reports a command to the engine, and lets the policy decide if it failed. */
@@ -416,11 +358,11 @@ static void report(struct command *command, uint8_t status, uint8_t scsi, const 
     uint64_t r0;
     bool ended;
     if (status != CAMR_REQ_CMP) {
-        count(status, scsi, sense, length);
+        met_failure(&host.kept->met, status, scsi, sense, length);
         read_clock(milliseconds()); /* a timer counts from the last reading */
         follow_trace(NULL);
     }
-    expect(camr_complete(host.engine, command->ccb, status, scsi, sense, length < MOST_SENSE ? length : MOST_SENSE, &run), "camr_complete");
+    expect(camr_complete(host.engine, command->slot->ccb, status, scsi, sense, length < MOST_SENSE ? length : MOST_SENSE, &run), "camr_complete");
     lun->active--;
     if (run == NULL) {
         finish(command, CAMR_REQ_CMP);
@@ -430,12 +372,8 @@ static void report(struct command *command, uint8_t status, uint8_t scsi, const 
     camr_run_free(run);
     follow_trace(&decision);
     lun->is_held = false;
-    if (decision.code != 0) {
-        finish(command, decision.code);
-    } else {
-        command->state = WAITING;
-        lun->waiting++;
-    }
+    if (decision.code != 0) finish(command, decision.code);
+    else command->state = WAITING, lun->waiting++;
     carry_out(lun, decision.ask);
 }
 
@@ -474,9 +412,11 @@ static void lun_is_reset(struct iscsi_context *link, int status, void *data, voi
     else lun->reset_is_out = false;
 }
 
-/* Whether the connection has nothing left to send. libiscsi lets a LUN RESET overtake what it has not sent. */
+/* Whether the connection has nothing left to send. libiscsi lets a LUN RESET overtake what it has not sent. Nothing goes out here that is
+   not in the journal. */
 static bool all_is_sent(void)
 {
+    follow_trace(NULL);
     if (iscsi_service(host.link, POLLOUT) < 0) host.is_lost = true;
     return iscsi_out_queue_length(host.link) == 0;
 }
@@ -520,7 +460,7 @@ static void probe(struct lun *lun)
     if (++lun->probes > MOST_PROBES) release(&lun->probe_freeze); /* its commands fail, and the policy decides */
     if (lun->probe_freeze == 0) return;
     lun->probe_is_out = true;
-    told[lun->load_asked ? LOADS : TESTS]++;
+    *(lun->load_asked ? &host.kept->met.loads : &host.kept->met.tests) += 1;
     struct scsi_task *task = lun->load_asked ? iscsi_startstopunit_task(host.link, (int)lun->number, 0, 0, 0, 0, 1, 1, probed, lun)
                                              : iscsi_testunitready_task(host.link, (int)lun->number, probed, lun);
     if (task == NULL) host.is_lost = true;
@@ -538,7 +478,7 @@ static void look_after(struct lun *lun, uint64_t now)
     if (lun->reset_asked && lun->reset_freeze == 0) {
         expect(camr_guest_freeze(host.engine, lun->number - FIRST_LUN, GUEST_RESET, &lun->reset_freeze), "camr_guest_freeze");
         lun->reset_deadline = now + RESET_MS;
-        told[RESETS]++;
+        host.kept->met.resets++;
     }
     if (lun->reset_asked && !lun->reset_is_out && all_is_sent()) {
         lun->reset_asked = false;
@@ -625,18 +565,21 @@ static void serve_link(uint64_t now)
         place.events = (short)iscsi_which_events(host.link);
         if (place.fd < 0) host.is_lost = true;
     }
-    if (poll(&place, 1, (int)wait) > 0 && iscsi_service(host.link, place.revents) < 0) host.is_lost = true;
+    short came = poll(&place, 1, (int)wait) > 0 ? place.revents : 0;
+    if ((came & ~POLLOUT) != 0 && iscsi_service(host.link, came & ~POLLOUT) < 0) host.is_lost = true;
+    if ((came & POLLOUT) != 0 && !host.is_lost) all_is_sent();
     now = milliseconds();
     if (is_due && due + host.begun <= now) read_clock(now);
 }
 
 static void say_how_far(uint64_t records)
 {
-    struct rusage usage;
-    getrusage(RUSAGE_SELF, &usage);
-    printf("%" PRIu64 " commands, %" PRIu64 " records, %" PRIu64 " wrong, at most %ld KB\n", host.finished, records, host.wrong,
-           usage.ru_maxrss);
-    fflush(NULL);
+    unsigned long pages = 0;
+    FILE *file = fopen("/proc/self/statm", "r");
+    if (file == NULL || fscanf(file, "%*u %lu", &pages) != 1) end("/proc/self/statm cannot be read");
+    fclose(file);
+    printf("%" PRIu64 " commands, %" PRIu64 " records in segment %" PRIu64 ", %" PRIu64 " wrong, %lu KB\n", host.kept->finished, records,
+           host.journal.number, host.kept->wrong, pages * ((unsigned long)sysconf(_SC_PAGESIZE) / 1024));
 }
 
 /* Goes on until that time, and then until nothing is left. */
@@ -652,42 +595,106 @@ static void run_until(uint64_t last)
         for (struct lun *lun = host.luns; lun < host.luns + LUNS && host.stage == UP; lun++) look_after(lun, now);
         follow_trace(NULL);
         expect(camr_totals(host.engine, &totals), "camr_totals");
-        if (now >= said_at + 1000) {
-            say_how_far(totals.history);
-            said_at = now;
-        }
+        if (host.journal.length > MOST_SEGMENT && totals.runs == 0)
+            expect_kept(journal_rotate(&host.journal, &host.engine, NULL, 0, false, NULL, NULL));
+        if (now >= said_at + 1000) say_how_far(totals.history), said_at = now;
         host.is_draining = now >= last;
-        if (now >= last + QUIET_MS) end("not all came to an end: %" PRIu64 " of %" PRIu64 " commands", host.finished, host.submitted);
-        if (!host.is_draining || host.submitted != host.finished || totals.frozen != 0 || totals.active != 0 || totals.runs != 0) continue;
-        close_engine();
-        return;
+        if (now >= last + QUIET_MS) end("not all came to an end: %u commands are left", host.live);
+        if (host.is_draining && host.live == 0 && totals.frozen == 0 && totals.active == 0 && totals.runs == 0) return;
     }
+}
+
+/* Starts on the journal, which says that nobody else has the other file either. */
+static void open_journal(void)
+{
+    char *manifest, path[4096];
+    size_t length;
+    if (!journal_read(AT_FDCWD, host.manifest, &manifest, &length)) end("%s: %s", host.manifest, strerror(errno));
+    expect_kept(journal_start(&host.journal, host.folder, manifest, length, false, &host.engine));
+    free(manifest);
+    snprintf(path, sizeof path, "%s.kept", host.folder);
+    int file = open(path, O_RDWR | O_CREAT, 0666);
+    if (file < 0 || ftruncate(file, sizeof *host.kept) != 0) end("%s: %s", path, strerror(errno));
+    host.kept = mmap(NULL, sizeof *host.kept, PROT_READ | PROT_WRITE, MAP_SHARED, file, 0);
+    if (host.kept == MAP_FAILED) end("%s: %s", path, strerror(errno));
+    close(file);
+}
+
+/* A command is as before, if the engine has its CCB: the number of which is taken from the list then. */
+static void carry_command(struct command *command, uint32_t *numbers, const uint32_t *states, size_t count)
+{
+    struct lun *lun = command->lun;
+    struct slot *slot = command->slot;
+    size_t at = 0;
+    while (at < count && numbers[at] != slot->ccb) at++;
+    if (at == count) slot->ccb = 0;
+    if (slot->ccb == 0) return;
+    numbers[at] = 0;
+    command->kind = slot->kind;
+    command->place = slot->place < PLACES ? &lun->places[slot->place] : NULL;
+    if (command->place != NULL) command->place->is_busy = true;
+    fill_command(command);
+    command->state = states[at] == CAMR_ACTIVE ? IN_DEVICE : WAITING;
+    *(command->state == IN_DEVICE ? &lun->active : &lun->waiting) += 1;
+    host.live++;
+}
+
+/* Goes on from where the journal leads. Runs that were out come to their ends. A command that is active may be in its disk: it is reported
+   as all are that a lost connection took, once the LUN is reset. The freezes are held on, and given back as ever; that of a disk that was
+   asked whether it is ready is given back when it is looked after, and the policy asks again. */
+static void carry_on(void)
+{
+    static uint32_t numbers[MOST_CCBS], states[MOST_CCBS];
+    camr_run *run;
+    uint64_t r0;
+    size_t count;
+    bool ended;
+    host.begun = milliseconds() - host.journal.clock;
+    for (; camr_take_run(host.engine, &run) == CAMR_DONE; camr_run_free(run)) expect(camr_drive(host.engine, run, &r0, &ended), "camr_drive");
+    expect(camr_ccbs(host.engine, 0, numbers, states, MOST_CCBS, &count), "camr_ccbs");
+    for (struct lun *lun = host.luns; lun < host.luns + LUNS; lun++)
+        for (unsigned at = 0; at < COMMANDS; at++) carry_command(&lun->commands[at], numbers, states, count);
+    for (size_t at = 0; at < count; at++) /* what is in no slot had succeeded, and only its line is missing */
+        if (numbers[at] != 0) expect(camr_complete(host.engine, numbers[at], CAMR_REQ_CMP, 0, NULL, 0, &run), "camr_complete");
+    for (const struct journal_freeze *its = host.journal.freezes; its < host.journal.freezes + host.journal.freeze_count; its++) {
+        struct lun *lun = &host.luns[its->is_controller ? 0 : its->place];
+        *(its->guest == GUEST_LINK ? &host.link_freeze : its->guest == GUEST_RESET ? &lun->reset_freeze : &lun->probe_freeze) = its->freeze;
+        lun->probes = MOST_PROBES;
+    }
+    printf("segment %" PRIu64 ": %zu CCBs and %zu freezes of guests are carried on\n", host.journal.number, count, host.journal.freeze_count);
 }
 
 int main(int count, char **words)
 {
     unsigned long seconds = count == 6 ? strtoul(words[5], NULL, 10) : 0;
     if (seconds == 0) {
-        fprintf(stderr, "usage: transport MANIFEST TRACE PORTAL TARGET SECONDS\n");
+        fprintf(stderr, "usage: transport MANIFEST JOURNAL PORTAL TARGET SECONDS\n");
         return 2;
     }
+    setvbuf(stdout, NULL, _IOLBF, 0);
     signal(SIGPIPE, SIG_IGN); /* libiscsi writes to a connection that may have ended */
-    host.manifest = words[1], host.trace = words[2], host.portal = words[3], host.target = words[4];
+    host.manifest = words[1], host.folder = words[2], host.portal = words[3], host.target = words[4];
     host.random = milliseconds();
+    open_journal();
     for (unsigned number = 0; number < LUNS; number++) {
-        host.luns[number].number = number + FIRST_LUN;
-        host.luns[number].next_odd = TEST + number % (KINDS - TEST);
-        for (unsigned at = 0; at < COMMANDS; at++) host.luns[number].commands[at].lun = &host.luns[number];
+        struct lun *lun = &host.luns[number];
+        lun->number = number + FIRST_LUN;
+        lun->next_odd = TEST + number % (KINDS - TEST);
+        lun->places = host.kept->places[number];
+        for (unsigned at = 0; at < PLACES; at++) lun->places[at].is_busy = false;
+        for (unsigned at = 0; at < COMMANDS; at++) lun->commands[at].lun = lun, lun->commands[at].slot = &host.kept->slots[number][at];
     }
-    open_engine();
+    carry_on();
     uint64_t begun = milliseconds();
     drop_link(begun);
     run_until(begun + seconds * 1000);
     host.cancels = true;
     if (host.link != NULL) iscsi_destroy_context(host.link);
-    for (size_t row = 0; row < sizeof met / sizeof *met; row++) printf("met %s %" PRIu64 "\n", met[row].name, met[row].count);
-    for (size_t row = 0; row < TOLD; row++) printf("%s %" PRIu64 "\n", told_as[row], told[row]);
+    expect_kept(journal_end(&host.journal, host.engine, NULL, NULL));
+    journal_close(&host.journal);
+    camr_close(host.engine);
+    met_print(&host.kept->met);
     printf("%" PRIu64 " commands, %" PRIu64 " without success, %" PRIu64 " places read, %" PRIu64 " written, %" PRIu64 " wrong\n",
-           host.finished, host.failed, host.read, host.written, host.wrong);
-    return host.wrong == 0 ? 0 : 1;
+           host.kept->finished, host.kept->failed, host.kept->read, host.kept->written, host.kept->wrong);
+    return host.kept->wrong == 0 ? 0 : 1;
 }

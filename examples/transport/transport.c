@@ -2,21 +2,18 @@
  * A small transport over the recovery engine: four disks, simulated by 4 or more threads that serve their queues, with timeouts,
  * unit attentions and full task sets by a seeded generator. All calls that are given the engine are made under one mutex, and
  * runs execute their private instructions outside of it. The main thread reads the clock and prints the sums once a second.
- * At the end the trace goes to a file, which `camr replay` accepts.
+ * The trace goes to a journal, from which the next start carries on, also if this one was killed.
  *
- *     transport MANIFEST TRACE SECONDS THREADS
+ *     transport MANIFEST JOURNAL SECONDS THREADS
  */
 #define _POSIX_C_SOURCE 200809L
 #define CAMR_ENGINE_HEAP
-#include "camr_engine.h"
+#include "../journal.h"
 
-#include <inttypes.h>
 #include <pthread.h>
-#include <stdio.h>
-#include <string.h>
 #include <time.h>
 
-enum { DISKS = 4, OPENINGS = 8, MOST_THREADS = 64, RETRIES = 3, BATCH = 4 };
+enum { DISKS = 4, OPENINGS = 8, MOST_THREADS = 64, RETRIES = 3, BATCH = 4, MOST_CCBS = 4096, MOST_SEGMENT = 4 << 20 };
 
 /* What a disk was given and has not reported: its active CCBs. There are no more than its queue has openings. And whether a CCB of
  * its queue may wait: more are submitted if none does, so that few wait while it is frozen. */
@@ -29,7 +26,9 @@ struct disk {
 /* All of it stands under the mutex, the engine too. */
 static struct {
     pthread_mutex_t lock;
+    struct journal journal;
     camr_engine *engine;
+    uint64_t begun;                 /* the engine's clock reads 0 at this time */
     struct disk disks[DISKS];
     bool stops;
     uint64_t failures, recoveries;
@@ -43,6 +42,16 @@ static void expect(camr_result result, const char *call)
     if (result == CAMR_DONE) return;
     camr_result_text(result, text, sizeof text, &length);
     fprintf(stderr, "transport: %s: %.*s\n", call, (int)length, text);
+    exit(1);
+}
+
+/* The same for a call of the journal's. */
+static void expect_kept(enum journal_result result)
+{
+    char text[512];
+    if (result == JOURNAL_DONE) return;
+    journal_text(&host.journal, text, sizeof text);
+    fprintf(stderr, "transport: %s\n", text);
     exit(1);
 }
 
@@ -98,6 +107,14 @@ static void recover(camr_run *run)
     host.recoveries++;
 }
 
+/* Lets the queue's policy decide, if a command failed. */
+static void decide(camr_run *run)
+{
+    if (run == NULL) return;
+    host.failures++;
+    recover(run);
+}
+
 /* How a command ends, by chance: 3 of 100 time out, 2 find a unit attention, and 1 a full task set. */
 static void report(unsigned disk, uint32_t ccb, uint64_t chance)
 {
@@ -113,10 +130,7 @@ static void report(unsigned disk, uint32_t ccb, uint64_t chance)
     else
         result = camr_complete(host.engine, ccb, CAMR_REQ_CMP, 0, NULL, 0, &run);
     expect(result, "camr_complete");
-    if (run != NULL) {
-        host.failures++;
-        recover(run);
-    }
+    decide(run);
     start_commands(disk);
 }
 
@@ -150,6 +164,8 @@ static void *serve(void *argument)
         }
         ccb = its->commands[0];
         memmove(its->commands, its->commands + 1, --its->count * sizeof *its->commands);
+        /* before the disk has it, its start is in the journal */
+        expect_kept(journal_keep(&host.journal, host.engine, NULL, NULL));
         pthread_mutex_unlock(&host.lock);
         pause_for(100 + (long)(next_random(&state) % 400));
         pthread_mutex_lock(&host.lock);
@@ -160,10 +176,10 @@ static void *serve(void *argument)
 }
 
 /* Reads the clock, so that timers go, and lets the queues start what they were kept from. */
-static void read_clock(uint64_t begun)
+static void read_clock(void)
 {
     uint32_t removed;
-    expect(camr_clock(host.engine, milliseconds() - begun, &removed), "camr_clock");
+    expect(camr_clock(host.engine, milliseconds() - host.begun, &removed), "camr_clock");
     if (removed != 0)
         for (unsigned disk = 0; disk < DISKS; disk++) start_commands(disk);
 }
@@ -178,61 +194,64 @@ static void print_totals(uint64_t second)
     fflush(stdout);
 }
 
-/* Takes the lines of the trace that are new, which the engine forgets then, and writes them, a buffer at a time. */
-static bool take_trace(FILE *file)
+/* Keeps what is new of the trace. A segment that has grown long is ended if no run is live, and the next one is begun. */
+static void keep(void)
 {
-    static char buffer[65536];
-    size_t written;
-    do {
-        expect(camr_take(host.engine, buffer, sizeof buffer, &written), "camr_take");
-        if (fwrite(buffer, 1, written, file) != written) return false;
-    } while (written != 0);
-    return true;
+    camr_totals_t totals;
+    expect_kept(journal_keep(&host.journal, host.engine, NULL, NULL));
+    expect(camr_totals(host.engine, &totals), "camr_totals");
+    if (host.journal.length > MOST_SEGMENT && totals.runs == 0)
+        expect_kept(journal_rotate(&host.journal, &host.engine, NULL, 0, false, NULL, NULL));
 }
 
-/* Writes what is left of the trace, and its last line. */
-static bool end_trace(FILE *file)
+/* Goes on from where the journal leads. The disks are simulated, so they went with the process that had the engine before: it is as if
+   they had been reset. Runs that were out come to their ends first, and then the commands that the disks had are reported. */
+static void carry_on(void)
 {
-    char line[128];
-    size_t written;
-    if (!take_trace(file)) return false;
-    expect(camr_trace_end(host.engine, line, sizeof line, &written), "camr_trace_end");
-    return fwrite(line, 1, written, file) == written && fclose(file) == 0;
-}
-
-static bool open_engine(const char *path)
-{
-    static char manifest[1 << 20];
-    char fault[256];
-    FILE *file = fopen(path, "rb");
-    if (file == NULL) return false;
-    size_t length = fread(manifest, 1, sizeof manifest, file);
-    fclose(file);
-    camr_result result = camr_open(manifest, length, &host.engine, fault, sizeof fault);
-    if (result == CAMR_FAULTY) fprintf(stderr, "transport: %s: %s\n", path, fault);
-    return result == CAMR_DONE;
+    static uint32_t numbers[MOST_CCBS], states[MOST_CCBS];
+    camr_run *run;
+    size_t count;
+    host.begun = milliseconds() - host.journal.clock;
+    while (camr_take_run(host.engine, &run) == CAMR_DONE) decide(run);
+    expect(camr_ccbs(host.engine, 0, numbers, states, MOST_CCBS, &count), "camr_ccbs");
+    printf("%s segment %" PRIu64 ": %" PRIu64 " runs were out, %zu CCBs are live\n",
+           host.journal.begun == JOURNAL_RECOVERED ? "goes on with" : "begins", host.journal.number, host.recoveries, count);
+    fflush(stdout);
+    for (size_t at = 0; at < count; at++) {
+        if (states[at] != CAMR_ACTIVE) continue;
+        expect(camr_complete(host.engine, numbers[at], CAMR_SCSI_BUS_RESET, 0, NULL, 0, &run), "camr_complete");
+        decide(run);
+    }
+    for (unsigned disk = 0; disk < DISKS; disk++) start_commands(disk);
 }
 
 int main(int count, char **words)
 {
     pthread_t threads[MOST_THREADS];
+    char *manifest;
+    size_t length;
     unsigned long seconds = count == 5 ? strtoul(words[3], NULL, 10) : 0;
     unsigned long serving = count == 5 ? strtoul(words[4], NULL, 10) : 0;
     if (seconds == 0 || serving < DISKS || serving > MOST_THREADS) {
-        fprintf(stderr, "usage: transport MANIFEST TRACE SECONDS THREADS\n");
+        fprintf(stderr, "usage: transport MANIFEST JOURNAL SECONDS THREADS\n");
         return 2;
     }
-    if (!open_engine(words[1])) return 1;
-    FILE *file = fopen(words[2], "wb");
-    bool is_written = file != NULL;
-    uint64_t begun = milliseconds();
+    if (!journal_read(AT_FDCWD, words[1], &manifest, &length)) {
+        fprintf(stderr, "transport: %s: %s\n", words[1], strerror(errno));
+        return 1;
+    }
+    expect_kept(journal_start(&host.journal, words[2], manifest, length, false, &host.engine));
+    free(manifest);
+    pthread_mutex_lock(&host.lock);
+    carry_on();
+    pthread_mutex_unlock(&host.lock);
     for (unsigned long number = 0; number < serving; number++)
         if (pthread_create(&threads[number], NULL, serve, (void *)(uintptr_t)number) != 0) return 1;
     for (uint64_t tick = 1; tick <= (uint64_t)seconds * 100; tick++) {
         pause_for(10000);
         pthread_mutex_lock(&host.lock);
-        read_clock(begun);
-        is_written = is_written && take_trace(file);
+        read_clock();
+        keep();
         if (tick % 100 == 0) print_totals(tick / 100);
         pthread_mutex_unlock(&host.lock);
     }
@@ -240,8 +259,8 @@ int main(int count, char **words)
     host.stops = true;
     pthread_mutex_unlock(&host.lock);
     for (unsigned long number = 0; number < serving; number++) pthread_join(threads[number], NULL);
-    is_written = is_written && end_trace(file);
-    if (!is_written) fprintf(stderr, "transport: %s: the trace was not written\n", words[2]);
+    expect_kept(journal_end(&host.journal, host.engine, NULL, NULL));
+    journal_close(&host.journal);
     camr_close(host.engine);
-    return is_written ? 0 : 1;
+    return 0;
 }

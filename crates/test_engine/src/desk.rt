@@ -120,8 +120,15 @@ impl Desk {
             Ok(Some(Request::Totals)) => Became::Sums,
             Ok(Some(Request::Step(run))) => outcome_of(self.asked.step(run)),
             Ok(Some(Request::Drive(run))) => outcome_of(self.asked.drive(run)),
-            Ok(Some(Request::Drain | Request::Ccbs | Request::Quit | Request::Help)) =>
-                Became::Unknown,
+            Ok(
+                Some(
+                    Request::Drain
+                    | Request::Ccbs
+                    | Request::Quit
+                    | Request::Help
+                    | Request::Succeed(_),
+                ),
+            ) => Became::Unknown,
             Ok(None) => self.attempt_own(line),
             Err(AllocError) => Became::OutOfMemory,
         }

@@ -105,7 +105,7 @@ pub owned_served : (engine : NumberedState) (count : ℕ) (segment : Begun) (own
     → own ≡ its → n ≡ number → IsServedTo engine count segment own manner is_synced (Some n) old began lines new came later outcome → IsServedTo engine count segment its manner is_synced (Some number) old began lines new came later outcome
 owned_served engine count segment own its manner is_synced n number old began lines new came later outcome same is it =
     subst (λ (m : ℕ). IsServedTo engine count segment its manner is_synced (Some m) old began lines new came later outcome) is
-      (subst (λ (o : List ℕ). IsServedTo engine count segment o manner is_synced (Some n) old began lines new came later outcome) same it)
+    (subst (λ (o : List ℕ). IsServedTo engine count segment o manner is_synced (Some n) old began lines new came later outcome) same it)
 
 -- ---- the manifest of a segment that was shut
 

@@ -1,6 +1,6 @@
 -- What a turn is, from the waiting for it to its answer.
 use Rattle.std.proofs.Common.{◌≡◌, ◌∙◌, ℕ, ◌+◌, Bool, true, false, Option, Some, None, Result, Ok, Err, List, [], ◌∷◌, ◌++◌, refl, sym, ap, subst, append_assoc, append-nil, drop, inl, inr, if◌then◌else◌}
-use Rattle.std.specs.Prelude.{IfSome, ⊤}
+use Rattle.std.specs.Prelude.{◌⊎◌, IfSome, ⊤}
 use Rattle.world_calls.specs.declared.record.Record.{Record}
 use Rattle.engine_core.specs.ByNumber.{NumberedState}
 use Rattle.host_live.specs.Answering.{Answer, AreBehind, with_answers}
@@ -9,7 +9,7 @@ use Rattle.host_live.specs.Inputs.{CameState, all_of}
 use Rattle.host_live.specs.LinesCome.{Stands, TellsLine, Waits}
 use Rattle.host_live.specs.Served.{AnswersDecided, AnswersTurn, Carries, CarriesCut, GrowsWith, IsDecidedTurn, IsLineNow, IsNow, NextIs}
 use Rattle.host_live.specs.Successions.{IsDecided, fault_of_unfollowed}
-use Rattle.host_live.specs.Turns.{ActsOn, Does, IsOfClock, IsReading, Leads, LeadsInPart, OneTurn, ReadThen, StopsAt, Turn, TurnInPart, answer_to, at_reading, fault_of, in_line, is_answered, whole_line, cut_line, timer_due, asked_for, asked_to_quit, asked_to_succeed, call_driven, carried, elsewhere, led_to_none, led_to_part, no_drive, no_request, no_step, no_text, not_followed, not_held, one_call, one_drive, one_step, only_told, part_all, passed_over, run_live}
+use Rattle.host_live.specs.Turns.{ActsOn, Does, IsOfClock, IsReading, Leads, LeadsInPart, OneTurn, ReadThen, StopsAt, Turn, TurnInPart, answer_to, at_reading, fault_of, in_line, is_answered, whole_line, cut_line, refused_line, timer_due, asked_for, asked_to_quit, asked_to_succeed, call_driven, carried, elsewhere, led_to_none, led_to_part, no_drive, no_request, no_step, no_text, not_held, one_call, one_drive, one_step, only_told, part_all, passed_over, run_live}
 use Rattle.host_live.specs.declared.answering.After.{After}
 use Rattle.host_live.specs.declared.answering.After.TheVariants as after
 use Rattle.host_live.specs.declared.answering.Turn.{Turn as CarriedOut}
@@ -59,33 +59,6 @@ turn_in_part : (manner : Manner) (line : List ℕ) (records : List Record) (beca
 turn_in_part manner line records became now (passed_over state text skipped none) = subst (TurnInPart manner line) (sym none) (none_in_part manner line)
 turn_in_part manner line records became now (carried reading same state of_clock it) = record { reading = reading; of_clock = of_clock; part = read_these reading (λ acts leads. led_in_part manner line acts same state leads) records it }
 
--- no engine follows: the line that asked for one is refused
-down_does : (manner : Manner) (request : Request) (acts : List Record) (became : Served) (now : NumberedState) → Does manner request acts became now → (how : Succession) (why : Unfollowed) → became ≡ served.Asked how → Does manner request acts (served.Refused (fault_of_unfollowed why)) now
-down_does manner request acts became now (elsewhere same state still of) how why is = absurd (let bad : served.Refused Form ≡ served.Asked how = is in cc)
-down_does manner request acts became now (not_held call state held) how why is = absurd (let bad : served.Refused NotHeld ≡ served.Asked how = is in cc)
-down_does manner request acts became now (one_call call answer state none) how why is = absurd (let bad : served.Done ≡ served.Asked how = is in cc)
-down_does manner request acts became now (call_driven call answer run advances state some driven) how why is = absurd (let bad : served.Done ≡ served.Asked how = is in cc)
-down_does manner request acts became now (no_step run state none) how why is = absurd (let bad : served.Refused NotHeld ≡ served.Asked how = is in cc)
-down_does manner request acts became now (one_step run record_of state of) how why is = absurd (let bad : served.Done ≡ served.Asked how = is in cc)
-down_does manner request acts became now (no_drive run state none) how why is = absurd (let bad : served.Refused NotHeld ≡ served.Asked how = is in cc)
-down_does manner request acts became now (one_drive run advances state driven) how why is = absurd (let bad : served.Done ≡ served.Asked how = is in cc)
-down_does manner request acts became now (only_told same state telling) how why is = absurd (let bad : served.Done ≡ served.Asked how = is in cc)
-down_does manner request acts became now (asked_to_quit state) how why is = absurd (let bad : served.Quit ≡ served.Asked how = is in cc)
-down_does manner request acts became now (run_live other state live) how why is = absurd (let bad : served.Refused RunLive ≡ served.Asked how = is in cc)
-down_does manner request acts became now (not_followed other cause state none) how why is = absurd (let bad : served.Refused (fault_of_unfollowed cause) ≡ served.Asked how = is in cc)
-down_does manner request acts became now (asked_to_succeed other state none) how why is = not_followed other why state none
-
-down_leads : (manner : Manner) (line : List ℕ) (acts : List Record) (became : Served) (now : NumberedState) → Leads manner line acts became now → (how : Succession) (why : Unfollowed) → became ≡ served.Asked how → Leads manner line acts (served.Refused (fault_of_unfollowed why)) now
-down_leads manner line acts became now (no_text state none nothing) how why is = absurd (let bad : served.Refused Form ≡ served.Asked how = is in cc)
-down_leads manner line acts became now (no_request state text other none nothing) how why is = absurd (let bad : served.Refused Form ≡ served.Asked how = is in cc)
-down_leads manner line acts became now (asked_for request same state text other spelled does keeps) how why is =
-    asked_for request (served.Refused (fault_of_unfollowed why)) state text other spelled (down_does manner request acts same state does how why is) (λ still of. absurd (let bad : served.Refused Form ≡ served.Asked how = sym (keeps still of).1 ∙ is in cc))
-
-turned_down : (manner : Manner) (line : List ℕ) (records : List Record) (became : Served) (now : NumberedState) → Turn manner line records became now → (how : Succession) (why : Unfollowed) → became ≡ served.Asked how → Turn manner line records (served.Refused (fault_of_unfollowed why)) now
-turned_down manner line records became now (passed_over state text skipped none) how why is = absurd (let bad : served.Skipped ≡ served.Asked how = is in cc)
-turned_down manner line records became now (carried reading same state of_clock it) how why is =
-    carried reading (served.Refused (fault_of_unfollowed why)) state of_clock (read_these reading (λ acts leads. down_leads manner line acts same state leads how why is) records it)
-
 -- where the lines stand behind these
 stands_in : (base told : List ℕ) (came : Option CameState) (lines : Lines) → Stands base came lines told → (line rest : List ℕ) → told ≡ line ++ rest → IfSome came (λ known. (more : List ℕ) × (all_of known ≡ base ++ (line ++ more)))
 stands_in base told None lines stands line rest is = tt
@@ -125,25 +98,34 @@ line_now base told came old new (next.Due reading) it = ([], tt)
 line_now base told came old new next.End it = ([], tt)
 line_now base told came old new next.Failed it = ([], tt)
 
-module _ (E F : Type 0) (manner : Manner) (base told : List ℕ) (came : Option CameState) (old new : Lines) (Decided : Succession → NumberedState → Type 0) (now : NumberedState) (printed : Printed) (at : Option (List ℕ)) (records : List Record) (given answered : Option (List Answer)) where
+module _ (E F : Type 0) (manner : Manner) (Refuses : Succession → NumberedState → Unfollowed → Type 0) (base told : List ℕ) (came : Option CameState) (old new : Lines) (Decided : Succession → NumberedState → Type 0) (now : NumberedState) (printed : Printed) (at : Option (List ℕ)) (records : List Record) (given answered : Option (List Answer)) where
   -- it was decided whether another engine follows, if a line asks for one
   abbrev Settled : CarriedOut → Type 0
   Settled (turn.Line became) = IsDecided Decided now became
   Settled turn.Timer = ⊤
   Settled turn.End = ⊤
 
-  carried_settled : (what : Next) (line : List ℕ) (out is : CarriedOut) → IsDecidedTurn out Decided now is → Carries manner what line (ok_of E out) now records → Carries manner what line (ok_of E is) now records × Settled is
-  carried_settled next.Line line (turn.Line became) is dec turned = subst (λ (o : CarriedOut). Carries manner next.Line line (ok_of E o) now records × Settled o) (sym dec.1) (elim dec.2 [
-    | inl same ↦ subst (λ (b : Served). Turn manner line records b now × IsDecided Decided now b) (sym same.0) (turned, same.1)
-    | inr down ↦ subst (λ (b : Served). Turn manner line records b now × IsDecided Decided now b) (sym down.3) (turned_down manner line records became now turned down.0 down.1 down.2, tt)
-  ])
-  carried_settled next.Cut line (turn.Line became) is dec turned = subst (λ (o : CarriedOut). Carries manner next.Cut line (ok_of E o) now records × Settled o) (sym dec.1) (elim dec.2 [
-    | inl same ↦ subst (λ (b : Served). CarriesCut manner (ok_of E (turn.Line b)) records × IsDecided Decided now b) (sym same.0) (turned, same.1)
+  -- what a line asked for was refused, for such a cause
+  record IsTurnedDown (what : Next) (line : List ℕ) (is : CarriedOut) : Type 0 where
+    pub how : Succession
+    pub why : Unfollowed
+    pub came_next : what ≡ next.Line
+    pub turned : Turn manner line records (served.Asked how) now
+    pub refuses : Refuses how now why
+    pub became : is ≡ turn.Line (served.Refused (fault_of_unfollowed why))
+
+  carried_settled : (what : Next) (line : List ℕ) (out is : CarriedOut) → IsDecidedTurn out Refuses Decided now is → Carries manner what line (ok_of E out) now records → (Carries manner what line (ok_of E is) now records × Settled is) ⊎ IsTurnedDown what line is
+  carried_settled next.Line line (turn.Line became) is dec turned = elim dec.2 [
+    | inl same ↦ inl (subst (λ (o : CarriedOut). Carries manner next.Line line (ok_of E o) now records × Settled o) (sym dec.1) (subst (λ (b : Served). Turn manner line records b now × IsDecided Decided now b) (sym same.0) (turned, same.1)))
+    | inr down ↦ inr (record { how = down.0; why = down.1; came_next = refl; turned = subst (λ (b : Served). Turn manner line records b now) down.2 turned; refuses = down.3; became = dec.1 ∙ ap (λ (b : Served). turn.Line b) down.4 })
+  ]
+  carried_settled next.Cut line (turn.Line became) is dec turned = elim dec.2 [
+    | inl same ↦ inl (subst (λ (o : CarriedOut). Carries manner next.Cut line (ok_of E o) now records × Settled o) (sym dec.1) (subst (λ (b : Served). CarriesCut manner (ok_of E (turn.Line b)) records × IsDecided Decided now b) (sym same.0) (turned, same.1)))
     | inr down ↦ absurd (let bad : served.Refused Form ≡ served.Asked down.0 = sym turned.0 ∙ down.2 in cc)
-  ])
-  carried_settled (next.Due reading) line turn.Timer is dec turned = subst (λ (o : CarriedOut). Carries manner (next.Due reading) line (ok_of E o) now records × Settled o) (sym dec) (turned, tt)
-  carried_settled next.Nothing line turn.Timer is dec turned = subst (λ (o : CarriedOut). Carries manner next.Nothing line (ok_of E o) now records × Settled o) (sym dec) (turned, tt)
-  carried_settled next.End line turn.End is dec turned = subst (λ (o : CarriedOut). Carries manner next.End line (ok_of E o) now records × Settled o) (sym dec) (turned, tt)
+  ]
+  carried_settled (next.Due reading) line turn.Timer is dec turned = inl (subst (λ (o : CarriedOut). Carries manner (next.Due reading) line (ok_of E o) now records × Settled o) (sym dec) (turned, tt))
+  carried_settled next.Nothing line turn.Timer is dec turned = inl (subst (λ (o : CarriedOut). Carries manner next.Nothing line (ok_of E o) now records × Settled o) (sym dec) (turned, tt))
+  carried_settled next.End line turn.End is dec turned = inl (subst (λ (o : CarriedOut). Carries manner next.End line (ok_of E o) now records × Settled o) (sym dec) (turned, tt))
   carried_settled next.Line line turn.Timer is dec turned = absurd turned
   carried_settled next.Line line turn.End is dec turned = absurd turned
   carried_settled next.Cut line turn.Timer is dec turned = absurd turned
@@ -158,13 +140,13 @@ module _ (E F : Type 0) (manner : Manner) (base told : List ℕ) (came : Option 
 
   -- what came was carried out, and answered
   next_is : (what : Next) (it : Waits base old told what came new) (out : CarriedOut) (comes : After) → Carries manner what (line_now base told came old new what it).0 (ok_of E out) now records → Settled out
-      → AnswersTurn manner new.number out given (ok_of (Unit {0}) comes) answered printed at → (others : List Answer) × (answered ≡ with_answers given others) × NextIs manner base told old.number came new Decided (ok_of F comes) now printed at records others
+      → AnswersTurn manner new.number out given (ok_of (Unit {0}) comes) answered printed at → (others : List Answer) × (answered ≡ with_answers given others) × NextIs manner Refuses base told old.number came new Decided (ok_of F comes) now printed at records others
   next_is next.Line it (turn.Line became) after.More turned settled answers = (
     answer_to manner new.number became answers.0,
     answers.1,
     (
       it.0.line ++ 10 ∷ [],
-      subst (λ (n : ℕ). OneTurn manner told old.number (it.0.line ++ 10 ∷ []) n records (answer_to manner n became answers.0) now) (sym it.1) (whole_line it.0.line records became answers.0 now it.0.begins it.0.one_line turned answers.3 answers.4),
+      subst (λ (n : ℕ). OneTurn manner Refuses told old.number (it.0.line ++ 10 ∷ []) n records (answer_to manner n became answers.0) now) (sym it.1) (whole_line it.0.line records became answers.0 now it.0.begins it.0.one_line turned answers.3 answers.4),
       answered_now printed at new.number answers.0 (fault_of became) (is_answered manner became) answers.2,
       it.0.stands,
     ),
@@ -208,8 +190,8 @@ module _ (E F : Type 0) (manner : Manner) (base told : List ℕ) (came : Option 
     answers.1,
     (
       it.0.line,
-      subst (λ (b : Served). OneTurn manner told old.number it.0.line new.number records (answer_to manner new.number b answers.0) now) (sym turned.0)
-          (subst (λ (n : ℕ). OneTurn manner told old.number it.0.line n records (answer_to manner n (served.Refused Form) answers.0) now) (sym it.1) (cut_line it.0.line turned.1 records answers.0 now it.0.begins it.0.one_line it.0.some turned.2 turned.3)),
+      subst (λ (b : Served). OneTurn manner Refuses told old.number it.0.line new.number records (answer_to manner new.number b answers.0) now) (sym turned.0)
+          (subst (λ (n : ℕ). OneTurn manner Refuses told old.number it.0.line n records (answer_to manner n (served.Refused Form) answers.0) now) (sym it.1) (cut_line it.0.line turned.1 records answers.0 now it.0.begins it.0.one_line it.0.some turned.2 turned.3)),
       answered_now printed at new.number answers.0 (fault_of became) (is_answered manner became) answers.2,
       it.0.stands,
     ),
@@ -217,11 +199,11 @@ module _ (E F : Type 0) (manner : Manner) (base told : List ℕ) (came : Option 
   next_is next.Cut it (turn.Line became) after.End turned settled answers = absurd (let bad : served.Refused Form ≡ served.Quit = sym turned.0 ∙ answers.4 in cc)
   next_is next.Cut it (turn.Line became) after.Asked turned settled answers = absurd (let bad : served.Refused Form ≡ served.Asked answers.1 = sym turned.0 ∙ answers.2 in cc)
   next_is (next.Due reading) it turn.Timer after.More turned settled answers =
-      ([], answers.0 ∙ none_given given, ([], subst (λ (n : ℕ). OneTurn manner told old.number [] n records [] now) (sym it.1) (timer_due (Some reading) records now turned.0 turned.1), tt, subst (Stands base came new) (sym (append-nil told)) it.0))
+      ([], answers.0 ∙ none_given given, ([], subst (λ (n : ℕ). OneTurn manner Refuses told old.number [] n records [] now) (sym it.1) (timer_due (Some reading) records now turned.0 turned.1), tt, subst (Stands base came new) (sym (append-nil told)) it.0))
   next_is (next.Due reading) it turn.Timer after.End turned settled answers = absurd (let bad : after.End ≡ after.More = answers.1 in cc)
   next_is (next.Due reading) it turn.Timer after.Asked turned settled answers = absurd (let bad : after.Asked ≡ after.More = answers.1 in cc)
   next_is next.Nothing it turn.Timer after.More turned settled answers =
-      ([], answers.0 ∙ none_given given, ([], subst (λ (n : ℕ). OneTurn manner told old.number [] n records [] now) (sym it.1) (timer_due None records now (λ still. refl) turned), tt, subst (Stands base came new) (sym (append-nil told)) it.0))
+      ([], answers.0 ∙ none_given given, ([], subst (λ (n : ℕ). OneTurn manner Refuses told old.number [] n records [] now) (sym it.1) (timer_due None records now (λ still. refl) turned), tt, subst (Stands base came new) (sym (append-nil told)) it.0))
   next_is next.Nothing it turn.Timer after.End turned settled answers = absurd (let bad : after.End ≡ after.More = answers.1 in cc)
   next_is next.Nothing it turn.Timer after.Asked turned settled answers = absurd (let bad : after.Asked ≡ after.More = answers.1 in cc)
   next_is next.End it turn.End after.More turned settled answers = absurd (let bad : after.More ≡ after.End = answers.1 in cc)
@@ -238,6 +220,32 @@ module _ (E F : Type 0) (manner : Manner) (base told : List ℕ) (came : Option 
   next_is next.End it (turn.Line became) comes turned settled answers = absurd turned
   next_is next.End it turn.Timer comes turned settled answers = absurd turned
   next_is next.Failed it out comes turned settled answers = absurd turned
+
+  -- a line that asked for another engine was refused, and answered
+  refused_is : (it : Waits base old told next.Line came new) (how : Succession) (why : Unfollowed) (comes : After) → Turn manner it.0.line records (served.Asked how) now → Refuses how now why
+      → AnswersTurn manner new.number (turn.Line (served.Refused (fault_of_unfollowed why))) given (ok_of (Unit {0}) comes) answered printed at → (others : List Answer) × (answered ≡ with_answers given others) × NextIs manner Refuses base told old.number came new Decided (ok_of F comes) now printed at records others
+  refused_is it how why after.More turned refuses answers = (
+    answer_to manner new.number (served.Refused (fault_of_unfollowed why)) answers.0,
+    answers.1,
+    (
+      it.0.line ++ 10 ∷ [],
+      subst (λ (n : ℕ). OneTurn manner Refuses told old.number (it.0.line ++ 10 ∷ []) n records (answer_to manner n (served.Refused (fault_of_unfollowed why)) answers.0) now) (sym it.1) (refused_line it.0.line how why records answers.0 now it.0.begins it.0.one_line turned refuses),
+      answered_now printed at new.number answers.0 (fault_of (served.Refused (fault_of_unfollowed why))) (is_answered manner (served.Refused (fault_of_unfollowed why))) answers.2,
+      it.0.stands,
+    ),
+  )
+  refused_is it how why after.End turned refuses answers = absurd (let bad : served.Refused (fault_of_unfollowed why) ≡ served.Quit = answers.4 in cc)
+  refused_is it how why after.Asked turned refuses answers = absurd (let bad : served.Refused (fault_of_unfollowed why) ≡ served.Asked answers.1 = answers.2 in cc)
+
+  turned_down : (what : Next) (it : Waits base old told what came new) (is : CarriedOut) (comes : After) → IsTurnedDown what (line_now base told came old new what it).0 is
+      → AnswersTurn manner new.number is given (ok_of (Unit {0}) comes) answered printed at → (others : List Answer) × (answered ≡ with_answers given others) × NextIs manner Refuses base told old.number came new Decided (ok_of F comes) now printed at records others
+  turned_down next.Line it is comes down answers =
+      refused_is it down.how down.why comes down.turned down.refuses (subst (λ (o : CarriedOut). AnswersTurn manner new.number o given (ok_of (Unit {0}) comes) answered printed at) down.became answers)
+  turned_down next.Cut it is comes down answers = absurd (let bad : next.Cut ≡ next.Line = down.came_next in cc)
+  turned_down next.Nothing it is comes down answers = absurd (let bad : next.Nothing ≡ next.Line = down.came_next in cc)
+  turned_down (next.Due reading) it is comes down answers = absurd (let bad : next.Due reading ≡ next.Line = down.came_next in cc)
+  turned_down next.End it is comes down answers = absurd (let bad : next.End ≡ next.Line = down.came_next in cc)
+  turned_down next.Failed it is comes down answers = absurd (let bad : next.Failed ≡ next.Line = down.came_next in cc)
 
   -- what came goes on behind what was told
   still_told : (what : Next) (it : Waits base old told what came new) → IfSome came (λ known. (more : List ℕ) × (all_of known ≡ base ++ (told ++ more)))
@@ -262,7 +270,7 @@ module _ (E F : Type 0) (manner : Manner) (base told : List ℕ) (came : Option 
 
   -- the engine stopped in the turn
   pub stops_in : (what : Next) (it : Waits base old told what came new) (fault : E) (last : F) → Carries manner what (line_now base told came old new what it).0 (err_of CarriedOut fault) now records
-      → NextIs manner base told old.number came new Decided (err_of After last) now printed at records []
+      → NextIs manner Refuses base told old.number came new Decided (err_of After last) now printed at records []
   stops_in what it fault last turned = (refl, stops_in_it what it fault turned)
 
   carried_in_it : (what : Next) (it : Waits base old told what came new) (out : CarriedOut) → Carries manner what (line_now base told came old new what it).0 (ok_of E out) now records → StopsAt manner base came told records
@@ -285,16 +293,18 @@ module _ (E F : Type 0) (manner : Manner) (base told : List ℕ) (came : Option 
 
   -- or could not be answered
   pub next_or : (what : Next) (it : Waits base old told what came new) (out : CarriedOut) (result : Result After F) → Carries manner what (line_now base told came old new what it).0 (ok_of E out) now records
-      → AnswersDecided manner new.number out Decided now given result answered printed at → (others : List Answer) × (answered ≡ with_answers given others) × NextIs manner base told old.number came new Decided result now printed at records others
+      → AnswersDecided manner new.number out Refuses Decided now given result answered printed at → (others : List Answer) × (answered ≡ with_answers given others) × NextIs manner Refuses base told old.number came new Decided result now printed at records others
   next_or what it out (Ok comes) carries answers =
-      let both = carried_settled what (line_now base told came old new what it).0 out answers.0 answers.1 carries in
-      next_is what it answers.0 comes both.0 both.1 answers.2
+      elim (carried_settled what (line_now base told came old new what it).0 out answers.0 answers.1 carries) [
+        | inl both ↦ next_is what it answers.0 comes both.0 both.1 answers.2
+        | inr down ↦ turned_down what it answers.0 comes down answers.2
+      ]
   next_or what it out (Err last) carries answers = ([], answers ∙ none_given given, (refl, carried_in_it what it out carries))
 
 -- it stopped before the turn
-pub stops_before : {F : Type 0} (manner : Manner) (base told : List ℕ) (before came : Option CameState) (old new : Lines) (Decided : Succession → NumberedState → Type 0) (now : NumberedState) (printed : Printed) (at : Option (List ℕ)) (last : F) → came ≡ before → Stands base before old told
-    → NextIs manner base told old.number came new Decided (err_of After last) now printed at [] []
-stops_before manner base told before came old new Decided now printed at last same stands =
+pub stops_before : {F : Type 0} (manner : Manner) (Refuses : Succession → NumberedState → Unfollowed → Type 0) (base told : List ℕ) (before came : Option CameState) (old new : Lines) (Decided : Succession → NumberedState → Type 0) (now : NumberedState) (printed : Printed) (at : Option (List ℕ)) (last : F) → came ≡ before → Stands base before old told
+    → NextIs manner Refuses base told old.number came new Decided (err_of After last) now printed at [] []
+stops_before manner Refuses base told before came old new Decided now printed at last same stands =
     (refl, at_reading None (λ still. refl) refl (subst (λ (c : Option CameState). IfSome c (λ known. (more : List ℕ) × (all_of known ≡ base ++ (told ++ more)))) (sym same) (told_all base told before old stands)))
 
 -- what was waited for is behind the line before
@@ -318,41 +328,41 @@ with_then old mid new at between to failed some fails given middle answered it b
     record { more = it.more; others = it.others; these = it.these; by = by_then it.more old mid new at between to failed some fails it.by by; are_answers = same ∙ it.are_answers }
 
 -- a turn, from the waiting for it to its answer
-pub served_so : (E F : Type 0) (manner : Manner) (base told : List ℕ) (came : Option CameState) (lines later : Lines) (Decided : Succession → NumberedState → Type 0) (what : Next) (it : Waits base lines told what came later) (out : CarriedOut) (result : Result After F) (old mid done new : PrintedState) (at some next_at to : Option (List ℕ)) (failed first second fails : ℕ) (given middle later_given answered : Option (List Answer))
+pub served_so : (E F : Type 0) (manner : Manner) (Refuses : Succession → NumberedState → Unfollowed → Type 0) (base told : List ℕ) (came : Option CameState) (lines later : Lines) (Decided : Succession → NumberedState → Type 0) (what : Next) (it : Waits base lines told what came later) (out : CarriedOut) (result : Result After F) (old mid done new : PrintedState) (at some next_at to : Option (List ℕ)) (failed first second fails : ℕ) (given middle later_given answered : Option (List Answer))
     → GrowsBy [] old at failed mid some first → middle ≡ given → GrowsAs (Carries manner what (line_now base told came lines later what it).0 (ok_of E out) done.engine) mid some first done next_at second → later_given ≡ middle
-    → GrowsBy [] done next_at second new to fails → new.engine ≡ done.engine → AnswersDecided manner later.number out Decided done.engine later_given result answered new.printed to
-    → GrowsWith (NextIs manner base told lines.number came later Decided result new.engine new.printed to) old at failed given new to fails answered
-served_so E F manner base told came lines later Decided what it out result old mid done new at some next_at to failed first second fails given middle later_given answered waited same carried_out still settled engine answers =
-    let is = next_or E F manner base told came lines later Decided done.engine new.printed to carried_out.more later_given answered what it out result carried_out.these answers in
+    → GrowsBy [] done next_at second new to fails → new.engine ≡ done.engine → AnswersDecided manner later.number out Refuses Decided done.engine later_given result answered new.printed to
+    → GrowsWith (NextIs manner Refuses base told lines.number came later Decided result new.engine new.printed to) old at failed given new to fails answered
+served_so E F manner Refuses base told came lines later Decided what it out result old mid done new at some next_at to failed first second fails given middle later_given answered waited same carried_out still settled engine answers =
+    let is = next_or E F manner Refuses base told came lines later Decided done.engine new.printed to carried_out.more later_given answered what it out result carried_out.these answers in
     record {
       more = carried_out.more;
       others = is.0;
-      these = subst (λ (e : NumberedState). NextIs manner base told lines.number came later Decided result e new.printed to carried_out.more is.0) (sym engine) is.2;
+      these = subst (λ (e : NumberedState). NextIs manner Refuses base told lines.number came later Decided result e new.printed to carried_out.more is.0) (sym engine) is.2;
       by = by_then carried_out.more old done new at next_at to failed second fails (both_by old mid done at some next_at failed first second [] carried_out.more waited carried_out.by) settled;
       are_answers = is.1 ∙ ap (λ (g : Option (List Answer)). with_answers g is.0) (still ∙ same);
     }
 
 -- the engine stopped in the turn
-pub stopped_so : (E F : Type 0) (manner : Manner) (base told : List ℕ) (came : Option CameState) (lines later : Lines) (Decided : Succession → NumberedState → Type 0) (what : Next) (it : Waits base lines told what came later) (fault : E) (last : F) (old mid done new : PrintedState) (at some next_at to : Option (List ℕ)) (failed first second fails : ℕ) (given middle later_given answered : Option (List Answer))
+pub stopped_so : (E F : Type 0) (manner : Manner) (Refuses : Succession → NumberedState → Unfollowed → Type 0) (base told : List ℕ) (came : Option CameState) (lines later : Lines) (Decided : Succession → NumberedState → Type 0) (what : Next) (it : Waits base lines told what came later) (fault : E) (last : F) (old mid done new : PrintedState) (at some next_at to : Option (List ℕ)) (failed first second fails : ℕ) (given middle later_given answered : Option (List Answer))
     → GrowsBy [] old at failed mid some first → middle ≡ given → GrowsAs (Carries manner what (line_now base told came lines later what it).0 (err_of CarriedOut fault) done.engine) mid some first done next_at second → later_given ≡ middle
     → GrowsBy [] done next_at second new to fails → answered ≡ later_given
-    → GrowsWith (NextIs manner base told lines.number came later Decided (err_of After last) new.engine new.printed to) old at failed given new to fails answered
-stopped_so E F manner base told came lines later Decided what it fault last old mid done new at some next_at to failed first second fails given middle later_given answered waited same carried_out still settled kept =
+    → GrowsWith (NextIs manner Refuses base told lines.number came later Decided (err_of After last) new.engine new.printed to) old at failed given new to fails answered
+stopped_so E F manner Refuses base told came lines later Decided what it fault last old mid done new at some next_at to failed first second fails given middle later_given answered waited same carried_out still settled kept =
     record {
       more = carried_out.more;
       others = [];
-      these = stops_in E F manner base told came lines later Decided done.engine new.printed to carried_out.more given answered what it fault last carried_out.these;
+      these = stops_in E F manner Refuses base told came lines later Decided done.engine new.printed to carried_out.more given answered what it fault last carried_out.these;
       by = by_then carried_out.more old done new at next_at to failed second fails (both_by old mid done at some next_at failed first second [] carried_out.more waited carried_out.by) settled;
       are_answers = (kept ∙ (still ∙ same)) ∙ none_given given;
     }
 
 -- it stopped before the turn
-pub unserved_so : {F : Type 0} (manner : Manner) (base told : List ℕ) (before came : Option CameState) (lines later : Lines) (Decided : Succession → NumberedState → Type 0) (last : F) (old new : PrintedState) (at to : Option (List ℕ)) (failed fails : ℕ) (given answered : Option (List Answer))
-    → GrowsBy [] old at failed new to fails → answered ≡ given → came ≡ before → Stands base before lines told → GrowsWith (NextIs manner base told lines.number came later Decided (err_of After last) new.engine new.printed to) old at failed given new to fails answered
-unserved_so manner base told before came lines later Decided last old new at to failed fails given answered by kept same stands = record {
+pub unserved_so : {F : Type 0} (manner : Manner) (Refuses : Succession → NumberedState → Unfollowed → Type 0) (base told : List ℕ) (before came : Option CameState) (lines later : Lines) (Decided : Succession → NumberedState → Type 0) (last : F) (old new : PrintedState) (at to : Option (List ℕ)) (failed fails : ℕ) (given answered : Option (List Answer))
+    → GrowsBy [] old at failed new to fails → answered ≡ given → came ≡ before → Stands base before lines told → GrowsWith (NextIs manner Refuses base told lines.number came later Decided (err_of After last) new.engine new.printed to) old at failed given new to fails answered
+unserved_so manner Refuses base told before came lines later Decided last old new at to failed fails given answered by kept same stands = record {
   more = [];
   others = [];
-  these = stops_before manner base told before came lines later Decided new.engine new.printed to last same stands;
+  these = stops_before manner Refuses base told before came lines later Decided new.engine new.printed to last same stands;
   by = by;
   are_answers = kept ∙ none_given given;
 }

@@ -21,6 +21,7 @@ use Rattle.world.specs.TotalsOf.{TotalsOf, totals_in}
 use Rattle.host_live.specs.Answering.{Answer, IsLong, with_answers}
 use Rattle.host_live.specs.Inputs.{CameState}
 use Rattle.host_live.specs.Served.{ContinuesTurns, IsGoneOn, IsGoneOnInPart, IsOwed, IsPrintedBehind, IsServedOn, IsServedOnInPart, is_carried_out}
+use Rattle.host_live.specs.declared.reports.Unfollowed.{Unfollowed}
 use Rattle.host_live.specs.declared.request.Succession.{Succession}
 use Rattle.host_live.specs.Turns.{IsAt, Point}
 use Rattle.host_live.specs.declared.lines.Lines.{Lines}
@@ -32,6 +33,11 @@ use Rattle.host_live.specs.Telling.{Closes, Continues, IsContinued, IsContinuedI
 
 clash : {A : Type 0} (b : Bool) → b ≡ false → b ≡ true → A
 clash b is other = absurd (let bad : false ≡ true = sym is ∙ other in cc)
+
+-- whatever there is
+pub if_any : {A : Type 0} {Q : Type 0} (o : Option A) → Q → IfSome o (λ it. Q)
+if_any None it = tt
+if_any (Some value) it = it
 
 -- ---- an engine that stood behind a history went on, and its records went out as far as they did
 
@@ -65,12 +71,13 @@ module _ (manner : Manner) (start : NumberedState) (count : ℕ) (engine : Print
       let all : engine.printed.count ≡ length (records ++ made) = omega (arith, grows.printed.count, counted, length-append records made) in
       (on.world, history_on.1, ap (λ (n : ℕ). sums_behind n engine.engine) all ∙ sym (ap (λ (w : World). totals_in (records ++ made) w) on.is))
 
-  continued_in_part : (out : IsContinuedInPart start.setup records base at) × (rest : List Record) × (made ≡ out.more ++ rest)
+  continued_in_part : (out : IsContinuedInPart start.setup manner records base at) × (rest : List Record) × (made ≡ out.more ++ rest) × (out.last ≡ None)
   continued_in_part = elim grows.printed.prints [
     | went a b goes none ↦ (
       record { more = made; last = None; history = history_on; sums = tt; bytes = goes.more; is = append_nothing (records_text its made) ∙ goes.is; front = record { handed = goes.handed; rest = engine.printed.lines.waiting; whole = goes.whole; told = goes.told } },
       [],
       sym (append-nil made),
+      refl,
     )
     | stopped a b shown rest whole stops fault ↦
         let longer : records ++ made ≡ (records ++ shown) ++ rest = ap (λ (t : List Record). records ++ t) whole ∙ sym (append_assoc records shown rest) in (
@@ -85,6 +92,7 @@ module _ (manner : Manner) (start : NumberedState) (count : ℕ) (engine : Print
           },
           rest,
           whole,
+          refl,
         )
     | stayed a b same still ↦ clash false refl a
   ]
@@ -127,19 +135,19 @@ module _ (manner : Manner) (start : NumberedState) (count : ℕ) (engine : Print
 
   stopped_at_last : (to : Option (List ℕ)) → count ≡ length records → engine.printed.has_failed ≡ false
       → (StopsIn (Some []) engine.printed.lines.waiting at to ⊎ StopsIn (totals_text sums_on) engine.printed.lines.waiting at to) ⊎ Goes (totals_text sums_on) engine.printed.lines.waiting at [] to
-      → (out : IsContinuedInPart start.setup records base to) × (rest : List Record) × (made ≡ out.more ++ rest)
-  stopped_at_last to counted whole ends = elim ends [
+      → (manner.is_kept ≡ true → engine.engine.runs.list ≡ []) → (out : IsContinuedInPart start.setup manner records base to) × (made ≡ out.more)
+  stopped_at_last to counted whole ends none = elim ends [
     | inl stops ↦ elim stops [
       | inl s ↦
           let on = stops_on (records_text its made) (Some []) [] engine.printed.lines.waiting base at to (all_went whole) s in
-          (record { more = made; last = None; history = history_on; sums = tt; bytes = on.more; is = on.is; front = on.front }, [], sym (append-nil made))
+          (record { more = made; last = None; history = history_on; sums = tt; bytes = on.more; is = on.is; front = on.front }, refl)
       | inr s ↦
           let on = stops_on (records_text its made) (totals_text sums_on) [] engine.printed.lines.waiting base at to (all_went whole) s in
-          (record { more = made; last = Some sums_on; history = history_on; sums = sums_follow counted; bytes = on.more; is = on.is; front = on.front }, [], sym (append-nil made))
+          (record { more = made; last = Some sums_on; history = history_on; sums = (sums_follow counted, λ kept. ap length (none kept)); bytes = on.more; is = on.is; front = on.front }, refl)
     ]
     | inr gone ↦
         let on = last_went to whole gone in
-        (record { more = made; last = Some sums_on; history = history_on; sums = sums_follow counted; bytes = on.more; is = on.is; front = record { handed = on.handed; rest = []; whole = on.whole; told = on.told } }, [], sym (append-nil made))
+        (record { more = made; last = Some sums_on; history = history_on; sums = (sums_follow counted, λ kept. ap length (none kept)); bytes = on.more; is = on.is; front = record { handed = on.handed; rest = []; whole = on.whole; told = on.told } }, refl)
   ]
 
   abbrev Printed_on : List Record → ℕ → Type 0
@@ -153,7 +161,7 @@ module _ (manner : Manner) (start : NumberedState) (count : ℕ) (engine : Print
     | inl alive ↦ subst (λ (o : Option (List ℕ)). IsContinued start.setup manner records base o) (sym alive.2) (left_open alive.0 all whole alive.1).0
     | inr ended ↦ (shut to counted whole ended.0 ended.1).0
   ]
-  closed_out (Err fault) to counted all whole closes = (stopped_at_last to counted whole closes).0
+  closed_out (Err fault) to counted all whole closes = (stopped_at_last to counted whole closes.1 closes.0).0
 
   -- what went out after the last line, or without it
   pub continues_closed : {T E : Type 0} (r : Result T E) (to : Option (List ℕ)) → count ≡ length records → engine.printed.lines.waiting ≡ [] → engine.printed.has_failed ≡ false → Closes manner engine at r to → Continues start.setup manner records base r to
@@ -162,40 +170,58 @@ module _ (manner : Manner) (start : NumberedState) (count : ℕ) (engine : Print
   pub continues_part : (T : Type 0) {E : Type 0} (fault : E) → Continues {T = T} start.setup manner records base (Err fault) at
   continues_part T fault = continued_in_part.0
 
-  module _ (point : Point) (came : Option CameState) (lines : Lines) (Decided : Succession → NumberedState → Type 0) (given answered : Option (List Answer)) (answers : List Answer) (are : answered ≡ with_answers given answers) where
-    turned_all : (is_followed : Bool) (to : Option (List ℕ)) → IsGoneOn manner start Printed_on point came lines Decided is_followed made answers → (it : (out : IsContinued start.setup manner records base to) × (out.more ≡ made))
-        → IsServedOn start manner point came lines Decided is_followed records base to given answered
+  module _ (Refuses : Succession → NumberedState → Unfollowed → Type 0) (point : Point) (came : Option CameState) (lines : Lines) (Decided : Succession → NumberedState → Type 0) (given answered : Option (List Answer)) (answers : List Answer) (are : answered ≡ with_answers given answers) where
+    turned_all : (is_followed : Bool) (to : Option (List ℕ)) → IsGoneOn manner Refuses start Printed_on point came lines Decided is_followed made answers → (it : (out : IsContinued start.setup manner records base to) × (out.more ≡ made))
+        → IsServedOn start manner Refuses point came lines Decided is_followed records base to given answered
     turned_all is_followed to these it = record {
       out = it.0;
       answers = answers;
       are_answers = are;
-      turned = subst (λ (rs : List Record). IsGoneOn manner start Out_on point came lines Decided is_followed rs answers) (sym it.1)
-          (gone_on_placed manner point came Printed_on Out_on (λ rs behind is. is.1) start lines Decided is_followed made answers these);
+      turned = subst (λ (rs : List Record). IsGoneOn manner Refuses start Out_on point came lines Decided is_followed rs answers) (sym it.1)
+          (gone_on_placed manner Refuses point came Printed_on Out_on (λ rs behind is. is.1) start lines Decided is_followed made answers these);
     }
 
-    turned_part : (to : Option (List ℕ)) → IsGoneOnInPart manner start Printed_on point came made answers → (it : (out : IsContinuedInPart start.setup records base to) × (rest : List Record) × (made ≡ out.more ++ rest))
-        → IsServedOnInPart start manner point came records base to given answered
+    -- it stopped before the last line
+    turned_part : (to : Option (List ℕ)) → IsGoneOnInPart manner Refuses start Printed_on point came made answers → (it : (out : IsContinuedInPart start.setup manner records base to) × (rest : List Record) × (made ≡ out.more ++ rest) × (out.last ≡ None))
+        → IsServedOnInPart start manner Refuses point came lines Decided records base to given answered
     turned_part to these it = record {
       out = it.0;
       rest = it.1;
       answers = answers;
       are_answers = are;
-      turned = subst (λ (rs : List Record). IsGoneOnInPart manner start Out_on point came rs answers) it.2
-          (gone_on_in_part_placed manner point came Printed_on Out_on (λ rs behind is. is.1) start made answers these);
+      turned = subst (λ (rs : List Record). IsGoneOnInPart manner Refuses start Out_on point came rs answers) it.2
+          (gone_on_in_part_placed manner Refuses point came Printed_on Out_on (λ rs behind is. is.1) start made answers these);
+      closed = subst (λ (o : Option Totals). IfSome o (λ totals. (it.1 ≡ []) × ((is_followed : Bool) × IsGoneOn manner Refuses start Out_on point came lines Decided is_followed it.0.more answers))) (sym it.3) tt;
     }
 
+    -- or at it
+    turned_shut : (is_followed : Bool) (to : Option (List ℕ)) → IsGoneOn manner Refuses start Printed_on point came lines Decided is_followed made answers → (it : (out : IsContinuedInPart start.setup manner records base to) × (made ≡ out.more))
+        → IsServedOnInPart start manner Refuses point came lines Decided records base to given answered
+    turned_shut is_followed to these it =
+        let gone = subst (λ (rs : List Record). IsGoneOn manner Refuses start Out_on point came lines Decided is_followed rs answers) it.1
+        (gone_on_placed manner Refuses point came Printed_on Out_on (λ rs behind is. is.1) start lines Decided is_followed made answers these) in
+        record {
+          out = it.0;
+          rest = [];
+          answers = answers;
+          are_answers = are;
+          turned = subst (λ (rs : List Record). IsGoneOnInPart manner Refuses start Out_on point came rs answers) (sym (append-nil it.0.more))
+              (gone_on_wholly manner Refuses point came Out_on Out_on (λ rs behind is. is) start lines Decided is_followed it.0.more answers gone);
+          closed = if_any it.0.last (refl, (is_followed, gone));
+        }
+
     pub continues_turns_closed : {E : Type 0} (r : Result Bool E) (is_followed : Bool) (to : Option (List ℕ)) → IfOk r (λ it. it ≡ is_followed) → count ≡ length records → engine.printed.lines.waiting ≡ [] → engine.printed.has_failed ≡ false → Closes manner engine at r to
-        → IsGoneOn manner start Printed_on point came lines Decided is_followed made answers → ContinuesTurns start manner point came lines Decided records base given r to answered
+        → IsGoneOn manner Refuses start Printed_on point came lines Decided is_followed made answers → ContinuesTurns start manner Refuses point came lines Decided records base given r to answered
     continues_turns_closed (Ok it) is_followed to same counted all whole closes these =
-        subst (λ (b : Bool). IsServedOn start manner point came lines Decided b records base to given answered) (sym same) (elim closes [
+        subst (λ (b : Bool). IsServedOn start manner Refuses point came lines Decided b records base to given answered) (sym same) (elim closes [
           | inl alive ↦
-              subst (λ (o : Option (List ℕ)). IsServedOn start manner point came lines Decided is_followed records base o given answered) (sym alive.2) (turned_all is_followed at these (left_open alive.0 all whole alive.1))
+              subst (λ (o : Option (List ℕ)). IsServedOn start manner Refuses point came lines Decided is_followed records base o given answered) (sym alive.2) (turned_all is_followed at these (left_open alive.0 all whole alive.1))
           | inr ended ↦ turned_all is_followed to these (shut to counted whole ended.0 ended.1)
         ])
     continues_turns_closed (Err fault) is_followed to same counted all whole closes these =
-        turned_part to (gone_on_wholly manner point came Printed_on Printed_on (λ rs behind is. is) start lines Decided is_followed made answers these) (stopped_at_last to counted whole closes)
+        turned_shut is_followed to these (stopped_at_last to counted whole closes.1 closes.0)
 
-    pub continues_turns_part : {E : Type 0} (fault : E) → IsGoneOnInPart manner start Printed_on point came made answers → ContinuesTurns start manner point came lines Decided records base given (err_of Bool fault) at answered
+    pub continues_turns_part : {E : Type 0} (fault : E) → IsGoneOnInPart manner Refuses start Printed_on point came made answers → ContinuesTurns start manner Refuses point came lines Decided records base given (err_of Bool fault) at answered
     continues_turns_part fault these = turned_part at these continued_in_part
 
 -- where no write failed none is counted
@@ -212,9 +238,9 @@ none_more : (base : Option (List ℕ)) → Appends base base []
 none_more None = tt
 none_more (Some bytes) = sym (append-nil bytes)
 
-pub continues_none : (engine : NumberedState) (records : List Record) (base : Option (List ℕ)) → IsBehind records engine → IsContinuedInPart engine.setup records base base
+pub continues_none : (engine : NumberedState) (manner : Manner) (records : List Record) (base : Option (List ℕ)) → IsBehind records engine → IsContinuedInPart engine.setup manner records base base
 unfolding records_text
-continues_none engine records base behind = record {
+continues_none engine manner records base behind = record {
   more = [];
   last = None;
   sums = tt;
@@ -225,24 +251,25 @@ continues_none engine records base behind = record {
 }
 
 -- nothing was turned either
-pub unturned : (engine : NumberedState) (manner : Manner) (point : Point) (came : Option CameState) (lines : Lines) (records : List Record) (base : Option (List ℕ)) (given : Option (List Answer)) → IsAt point came lines → IsBehind records engine → IsServedOnInPart engine manner point came records base base given given
+pub unturned : (engine : NumberedState) (manner : Manner) (Refuses : Succession → NumberedState → Unfollowed → Type 0) (point : Point) (came : Option CameState) (lines : Lines) (Decided : Succession → NumberedState → Type 0) (records : List Record) (base : Option (List ℕ)) (given : Option (List Answer)) → IsAt point came lines → IsBehind records engine → IsServedOnInPart engine manner Refuses point came lines Decided records base base given given
 unfolding continues_none
-unturned engine manner point came lines records base given at behind = record {
-  out = continues_none engine records base behind;
+unturned engine manner Refuses point came lines Decided records base given at behind = record {
+  out = continues_none engine manner records base behind;
   rest = [];
   answers = [];
   are_answers = none_given given;
-  turned = none_gone_on manner engine (IsOutBehind (version_of engine.setup) [] base) point came lines at;
+  turned = none_gone_on manner Refuses engine (IsOutBehind (version_of engine.setup) [] base) point came lines at;
+  closed = tt;
 }
 
 -- ---- the answer that was owed
 
-module _ (engine : NumberedState) (manner : Manner) (point : Point) (came : Option CameState) (lines : Lines) (Decided : Succession → NumberedState → Type 0) (records : List Record) (base before at : Option (List ℕ)) (given middle answered : Option (List Answer)) where
-  pub behind_owed : {E : Type 0} (first : List Answer) (result : Result Bool E) → before ≡ base → middle ≡ with_answers given first → ContinuesTurns engine manner point came lines Decided records before middle result at answered
-      → ContinuesTurns engine manner point came lines Decided records base (with_answers given first) result at answered
+module _ (engine : NumberedState) (manner : Manner) (Refuses : Succession → NumberedState → Unfollowed → Type 0) (point : Point) (came : Option CameState) (lines : Lines) (Decided : Succession → NumberedState → Type 0) (records : List Record) (base before at : Option (List ℕ)) (given middle answered : Option (List Answer)) where
+  pub behind_owed : {E : Type 0} (first : List Answer) (result : Result Bool E) → before ≡ base → middle ≡ with_answers given first → ContinuesTurns engine manner Refuses point came lines Decided records before middle result at answered
+      → ContinuesTurns engine manner Refuses point came lines Decided records base (with_answers given first) result at answered
   behind_owed first result same are it =
-      subst (λ (g : Option (List Answer)). ContinuesTurns engine manner point came lines Decided records base g result at answered) are
-      (subst (λ (b : Option (List ℕ)). ContinuesTurns engine manner point came lines Decided records b middle result at answered) same it)
+      subst (λ (g : Option (List Answer)). ContinuesTurns engine manner Refuses point came lines Decided records base g result at answered) are
+      (subst (λ (b : Option (List ℕ)). ContinuesTurns engine manner Refuses point came lines Decided records b middle result at answered) same it)
 
 owed_so : {T U F : Type 0} (E : Type 0) (manner : Manner) (line : ℕ) (done : T) (result : Result U F) (base : Option (List ℕ)) (first : List Answer) (told : Bool) → manner.is_told ≡ told → IsOwed {E = E} manner (Some line) (Ok done) base first → IsOwed manner (Some line) result base first
 owed_so E manner line done (Ok value) base first told is it = it

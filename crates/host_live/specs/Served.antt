@@ -1,5 +1,5 @@
 -- What a live engine served: of its input, of its answers, and of the trace that is out.
-use Rattle.std.specs.Prelude.{◌≡◌, ◌≢◌, ◌⊎◌, ℕ, Bool, true, false, Option, Some, None, Result, Ok, Err, List, [], ◌∷◌, ◌++◌, MatchBool, ⊤}
+use Rattle.std.specs.Prelude.{◌≡◌, ◌≢◌, ◌⊎◌, ℕ, Bool, true, false, Option, Some, None, IfSome, Result, Ok, Err, List, [], ◌∷◌, ◌++◌, MatchBool, ⊤}
 use Rattle.world_calls.specs.declared.record.Record.{Record}
 use Rattle.world.specs.World.{version_of}
 use Rattle.engine_core.specs.ByNumber.{NumberedState}
@@ -37,54 +37,55 @@ abbrev pub AreDrivenLast : Manner → NumberedState → List Record → Type 0
 AreDrivenLast manner now records = MatchBool manner.is_kept (records ≡ []) (AreDriven now records)
 
 -- All that came was turned, and then the runs that were out were driven; or the lines up to one that asked for the engine that follows.
-pub data Finishes (manner : Manner) (start : NumberedState) (Placed : List Record → ℕ → Type 0) (point : Point) (came : Option CameState) (lines : Lines) (Decided : Succession → NumberedState → Type 0) : (is_followed : Bool) → List Record → List Answer → Type 0 where
-  to_the_end : (turned last : List Record) (answers : List Answer) (now : NumberedState) → Ends manner start Placed point came turned answers → AreDrivenLast manner now last → Follows start (turned ++ last) now
-      → Finishes manner start Placed point came lines Decided false (turned ++ last) answers
-  to_the_next : (turned : List Record) (answers : List Answer) → EndsAsked manner start Placed point came lines Decided turned answers → Finishes manner start Placed point came lines Decided true turned answers
+pub data Finishes (manner : Manner) (Refuses : Succession → NumberedState → Unfollowed → Type 0) (start : NumberedState) (Placed : List Record → ℕ → Type 0) (point : Point) (came : Option CameState) (lines : Lines) (Decided : Succession → NumberedState → Type 0) : (is_followed : Bool) → List Record → List Answer → Type 0 where
+  to_the_end : (turned last : List Record) (answers : List Answer) (now : NumberedState) → Ends manner Refuses start Placed point came turned answers → AreDrivenLast manner now last → Follows start (turned ++ last) now
+      → Finishes manner Refuses start Placed point came lines Decided false (turned ++ last) answers
+  to_the_next : (turned : List Record) (answers : List Answer) → EndsAsked manner Refuses start Placed point came lines Decided turned answers → Finishes manner Refuses start Placed point came lines Decided true turned answers
 
 -- a part of that was done
-pub data FinishesInPart (manner : Manner) (start : NumberedState) (Placed : List Record → ℕ → Type 0) (point : Point) (came : Option CameState) : List Record → List Answer → Type 0 where
-  in_turns : (records : List Record) (answers : List Answer) → Stops manner start Placed point came records answers → FinishesInPart manner start Placed point came records answers
-  in_drives : (turned driven : List Record) (answers : List Answer) → Ends manner start Placed point came turned answers → AreOfRuns driven → (manner.is_kept ≡ true → driven ≡ []) → FinishesInPart manner start Placed point came (turned ++ driven) answers
-  at_last : (lines : Lines) (is_followed : Bool) (records : List Record) (answers : List Answer) → Finishes manner start Placed point came lines (λ how now. ⊤) is_followed records answers → FinishesInPart manner start Placed point came records answers
+pub data FinishesInPart (manner : Manner) (Refuses : Succession → NumberedState → Unfollowed → Type 0) (start : NumberedState) (Placed : List Record → ℕ → Type 0) (point : Point) (came : Option CameState) : List Record → List Answer → Type 0 where
+  in_turns : (records : List Record) (answers : List Answer) → Stops manner Refuses start Placed point came records answers → FinishesInPart manner Refuses start Placed point came records answers
+  in_drives : (turned driven : List Record) (answers : List Answer) → Ends manner Refuses start Placed point came turned answers → AreOfRuns driven → (manner.is_kept ≡ true → driven ≡ []) → FinishesInPart manner Refuses start Placed point came (turned ++ driven) answers
+  at_last : (lines : Lines) (is_followed : Bool) (records : List Record) (answers : List Answer) → Finishes manner Refuses start Placed point came lines (λ how now. ⊤) is_followed records answers → FinishesInPart manner Refuses start Placed point came records answers
 
 -- The runs that were out were driven first. Then what came was turned.
-pub record IsGoneOn (manner : Manner) (start : NumberedState) (Placed : List Record → ℕ → Type 0) (point : Point) (came : Option CameState) (lines : Lines) (Decided : Succession → NumberedState → Type 0) (is_followed : Bool) (records : List Record) (answers : List Answer) : Type 0 where
+pub record IsGoneOn (manner : Manner) (Refuses : Succession → NumberedState → Unfollowed → Type 0) (start : NumberedState) (Placed : List Record → ℕ → Type 0) (point : Point) (came : Option CameState) (lines : Lines) (Decided : Succession → NumberedState → Type 0) (is_followed : Bool) (records : List Record) (answers : List Answer) : Type 0 where
   pub driven : List Record
   pub turned : List Record
   pub now : NumberedState
   pub all : records ≡ driven ++ turned
   pub first : AreDrivenFirst manner now driven
   pub follows : Follows start driven now
-  pub finishes : Finishes manner now (λ (more : List Record). Placed (driven ++ more)) point came lines Decided is_followed turned answers
+  pub finishes : Finishes manner Refuses now (λ (more : List Record). Placed (driven ++ more)) point came lines Decided is_followed turned answers
 
 -- a part of that was done
-pub data IsGoneOnInPart (manner : Manner) (start : NumberedState) (Placed : List Record → ℕ → Type 0) (point : Point) (came : Option CameState) (records : List Record) (answers : List Answer) : Type 0 where
-  in_first : manner.is_stepped ≡ false → AreOfRuns records → answers ≡ [] → IsGoneOnInPart manner start Placed point came records answers
-  in_the_rest : (driven turned : List Record) (now : NumberedState) → records ≡ driven ++ turned → AreDrivenFirst manner now driven → Follows start driven now → FinishesInPart manner now (λ (more : List Record). Placed (driven ++ more)) point came turned answers
-      → IsGoneOnInPart manner start Placed point came records answers
+pub data IsGoneOnInPart (manner : Manner) (Refuses : Succession → NumberedState → Unfollowed → Type 0) (start : NumberedState) (Placed : List Record → ℕ → Type 0) (point : Point) (came : Option CameState) (records : List Record) (answers : List Answer) : Type 0 where
+  in_first : manner.is_stepped ≡ false → AreOfRuns records → answers ≡ [] → IsGoneOnInPart manner Refuses start Placed point came records answers
+  in_the_rest : (driven turned : List Record) (now : NumberedState) → records ≡ driven ++ turned → AreDrivenFirst manner now driven → Follows start driven now → FinishesInPart manner Refuses now (λ (more : List Record). Placed (driven ++ more)) point came turned answers
+      → IsGoneOnInPart manner Refuses start Placed point came records answers
 
 -- ---- what is said of a call
 
 -- What is out continues the trace of these records by that of the turns of what came, and the answers are those of these turns, each given
 -- when the lines of its turn, and none of later ones, were out.
-pub record IsServedOn (start : NumberedState) (manner : Manner) (point : Point) (came : Option CameState) (lines : Lines) (Decided : Succession → NumberedState → Type 0) (is_followed : Bool) (records : List Record) (base at : Option (List ℕ)) (given answered : Option (List Answer)) : Type 0 where
+pub record IsServedOn (start : NumberedState) (manner : Manner) (Refuses : Succession → NumberedState → Unfollowed → Type 0) (point : Point) (came : Option CameState) (lines : Lines) (Decided : Succession → NumberedState → Type 0) (is_followed : Bool) (records : List Record) (base at : Option (List ℕ)) (given answered : Option (List Answer)) : Type 0 where
   pub out : IsContinued start.setup manner records base at
   pub answers : List Answer
   pub are_answers : answered ≡ with_answers given answers
-  pub turned : IsGoneOn manner start (IsOutBehind (version_of start.setup) [] base) point came lines Decided is_followed out.more answers
+  pub turned : IsGoneOn manner Refuses start (IsOutBehind (version_of start.setup) [] base) point came lines Decided is_followed out.more answers
 
--- a front of that
-pub record IsServedOnInPart (start : NumberedState) (manner : Manner) (point : Point) (came : Option CameState) (records : List Record) (base at : Option (List ℕ)) (given answered : Option (List Answer)) : Type 0 where
-  pub out : IsContinuedInPart start.setup records base at
+-- a front of that; the last line begins in it only behind all of that
+pub record IsServedOnInPart (start : NumberedState) (manner : Manner) (Refuses : Succession → NumberedState → Unfollowed → Type 0) (point : Point) (came : Option CameState) (lines : Lines) (Decided : Succession → NumberedState → Type 0) (records : List Record) (base at : Option (List ℕ)) (given answered : Option (List Answer)) : Type 0 where
+  pub out : IsContinuedInPart start.setup manner records base at
   pub rest : List Record
   pub answers : List Answer
   pub are_answers : answered ≡ with_answers given answers
-  pub turned : IsGoneOnInPart manner start (IsOutBehind (version_of start.setup) [] base) point came (out.more ++ rest) answers
+  pub turned : IsGoneOnInPart manner Refuses start (IsOutBehind (version_of start.setup) [] base) point came (out.more ++ rest) answers
+  pub closed : IfSome out.last (λ totals. (rest ≡ []) × ((is_followed : Bool) × IsGoneOn manner Refuses start (IsOutBehind (version_of start.setup) [] base) point came lines Decided is_followed out.more answers))
 
-abbrev pub ContinuesTurns : {E : Type 0} → NumberedState → Manner → Point → Option CameState → Lines → (Succession → NumberedState → Type 0) → List Record → Option (List ℕ) → Option (List Answer) → Result Bool E → Option (List ℕ) → Option (List Answer) → Type 0
-ContinuesTurns start manner point came lines Decided records base given (Ok is_followed) at answered = IsServedOn start manner point came lines Decided is_followed records base at given answered
-ContinuesTurns start manner point came lines Decided records base given (Err fault) at answered = IsServedOnInPart start manner point came records base at given answered
+abbrev pub ContinuesTurns : {E : Type 0} → NumberedState → Manner → (Succession → NumberedState → Unfollowed → Type 0) → Point → Option CameState → Lines → (Succession → NumberedState → Type 0) → List Record → Option (List ℕ) → Option (List Answer) → Result Bool E → Option (List ℕ) → Option (List Answer) → Type 0
+ContinuesTurns start manner Refuses point came lines Decided records base given (Ok is_followed) at answered = IsServedOn start manner Refuses point came lines Decided is_followed records base at given answered
+ContinuesTurns start manner Refuses point came lines Decided records base given (Err fault) at answered = IsServedOnInPart start manner Refuses point came lines Decided records base at given answered
 
 -- the answer to that line
 abbrev pub is_carried_out : (line behind : ℕ) → List Answer
@@ -112,19 +113,19 @@ pub record GrowsWith (These : List Record → List Answer → Type 0) (old : Pri
   pub are_answers : answered ≡ with_answers given others
 
 -- the lines were turned
-abbrev pub EndsOr : {E : Type 0} → Manner → NumberedState → (List Record → ℕ → Type 0) → Point → Option CameState → Lines → (Succession → NumberedState → Type 0) → Result Bool E → List Record → List Answer → Type 0
-EndsOr manner start Placed point came lines Decided (Ok false) records answers = Ends manner start Placed point came records answers
-EndsOr manner start Placed point came lines Decided (Ok true) records answers = EndsAsked manner start Placed point came lines Decided records answers
-EndsOr manner start Placed point came lines Decided (Err fault) records answers = Stops manner start Placed point came records answers
+abbrev pub EndsOr : {E : Type 0} → Manner → (Succession → NumberedState → Unfollowed → Type 0) → NumberedState → (List Record → ℕ → Type 0) → Point → Option CameState → Lines → (Succession → NumberedState → Type 0) → Result Bool E → List Record → List Answer → Type 0
+EndsOr manner Refuses start Placed point came lines Decided (Ok false) records answers = Ends manner Refuses start Placed point came records answers
+EndsOr manner Refuses start Placed point came lines Decided (Ok true) records answers = EndsAsked manner Refuses start Placed point came lines Decided records answers
+EndsOr manner Refuses start Placed point came lines Decided (Err fault) records answers = Stops manner Refuses start Placed point came records answers
 
 -- and the runs driven, or a part of that was done
-abbrev pub FinishesOr : {E : Type 0} → Manner → NumberedState → (List Record → ℕ → Type 0) → Point → Option CameState → Lines → (Succession → NumberedState → Type 0) → Result Bool E → List Record → List Answer → Type 0
-FinishesOr manner start Placed point came lines Decided (Ok is_followed) records answers = Finishes manner start Placed point came lines Decided is_followed records answers
-FinishesOr manner start Placed point came lines Decided (Err fault) records answers = FinishesInPart manner start Placed point came records answers
+abbrev pub FinishesOr : {E : Type 0} → Manner → (Succession → NumberedState → Unfollowed → Type 0) → NumberedState → (List Record → ℕ → Type 0) → Point → Option CameState → Lines → (Succession → NumberedState → Type 0) → Result Bool E → List Record → List Answer → Type 0
+FinishesOr manner Refuses start Placed point came lines Decided (Ok is_followed) records answers = Finishes manner Refuses start Placed point came lines Decided is_followed records answers
+FinishesOr manner Refuses start Placed point came lines Decided (Err fault) records answers = FinishesInPart manner Refuses start Placed point came records answers
 
-abbrev pub GoesOnOr : {E : Type 0} → Manner → NumberedState → (List Record → ℕ → Type 0) → Point → Option CameState → Lines → (Succession → NumberedState → Type 0) → Result Bool E → List Record → List Answer → Type 0
-GoesOnOr manner start Placed point came lines Decided (Ok is_followed) records answers = IsGoneOn manner start Placed point came lines Decided is_followed records answers
-GoesOnOr manner start Placed point came lines Decided (Err fault) records answers = IsGoneOnInPart manner start Placed point came records answers
+abbrev pub GoesOnOr : {E : Type 0} → Manner → (Succession → NumberedState → Unfollowed → Type 0) → NumberedState → (List Record → ℕ → Type 0) → Point → Option CameState → Lines → (Succession → NumberedState → Type 0) → Result Bool E → List Record → List Answer → Type 0
+GoesOnOr manner Refuses start Placed point came lines Decided (Ok is_followed) records answers = IsGoneOn manner Refuses start Placed point came lines Decided is_followed records answers
+GoesOnOr manner Refuses start Placed point came lines Decided (Err fault) records answers = IsGoneOnInPart manner Refuses start Placed point came records answers
 
 abbrev pub DrivesFirst : {T E : Type 0} → Manner → Result T E → NumberedState → List Record → Type 0
 DrivesFirst manner (Ok done) now records = AreDrivenFirst manner now records
@@ -149,11 +150,11 @@ abbrev pub IsPrintedBehind : Printed → Option (List ℕ) → List Record → �
 IsPrintedBehind printed at records behind = (printed.has_failed ≡ false) × IsOutBehind printed.lines.version printed.lines.waiting at records behind
 
 -- one turn, the end, a line that asks for the engine that follows, or a part of a turn
-abbrev pub NextIs : {E : Type 0} → Manner → List ℕ → List ℕ → ℕ → Option CameState → Lines → (Succession → NumberedState → Type 0) → Result After E → NumberedState → Printed → Option (List ℕ) → List Record → List Answer → Type 0
-NextIs manner base told number came lines Decided (Ok after.More) now printed at records answers = (bytes : List ℕ) × OneTurn manner told number bytes lines.number records answers now × AreBehind (IsNow printed at) answers × Stands base came lines (told ++ bytes)
-NextIs manner base told number came lines Decided (Ok after.End) now printed at records answers = ((records ≡ []) × (answers ≡ []) × IsAll base came told) ⊎ (Quits manner base came told number records answers now × AreBehind (IsNow printed at) answers)
-NextIs manner base told number came lines Decided (Ok after.Asked) now printed at records answers = (answers ≡ []) × Asks manner base came lines Decided told number records now
-NextIs manner base told number came lines Decided (Err fault) now printed at records answers = (answers ≡ []) × StopsAt manner base came told records
+abbrev pub NextIs : {E : Type 0} → Manner → (Succession → NumberedState → Unfollowed → Type 0) → List ℕ → List ℕ → ℕ → Option CameState → Lines → (Succession → NumberedState → Type 0) → Result After E → NumberedState → Printed → Option (List ℕ) → List Record → List Answer → Type 0
+NextIs manner Refuses base told number came lines Decided (Ok after.More) now printed at records answers = (bytes : List ℕ) × OneTurn manner Refuses told number bytes lines.number records answers now × AreBehind (IsNow printed at) answers × Stands base came lines (told ++ bytes)
+NextIs manner Refuses base told number came lines Decided (Ok after.End) now printed at records answers = ((records ≡ []) × (answers ≡ []) × IsAll base came told) ⊎ (Quits manner base came told number records answers now × AreBehind (IsNow printed at) answers)
+NextIs manner Refuses base told number came lines Decided (Ok after.Asked) now printed at records answers = (answers ≡ []) × Asks manner base came lines Decided told number records now
+NextIs manner Refuses base told number came lines Decided (Err fault) now printed at records answers = (answers ≡ []) × StopsAt manner base came told records
 
 -- the line that is carried out
 abbrev pub IsLineNow : Next → Lines → List ℕ → Type 0
@@ -236,16 +237,16 @@ AnswersTurn manner number turn.Timer given (Err fault) answered printed at = ans
 AnswersTurn manner number turn.End given (Err fault) answered printed at = answered ≡ given
 
 -- what a line leads to where it was decided whether another engine follows: the same; or it is refused, if it asked for one and none follows
-abbrev pub IsDecidedLine : Served → (Succession → NumberedState → Type 0) → NumberedState → Served → Type 0
-IsDecidedLine became Decided now result =
-    ((result ≡ became) × IsDecided Decided now became) ⊎ ((how : Succession) × (why : Unfollowed) × (became ≡ served.Asked how) × (result ≡ served.Refused (fault_of_unfollowed why)))
+abbrev pub IsDecidedLine : Served → (Succession → NumberedState → Unfollowed → Type 0) → (Succession → NumberedState → Type 0) → NumberedState → Served → Type 0
+IsDecidedLine became Refuses Decided now result =
+    ((result ≡ became) × IsDecided Decided now became) ⊎ ((how : Succession) × (why : Unfollowed) × (became ≡ served.Asked how) × Refuses how now why × (result ≡ served.Refused (fault_of_unfollowed why)))
 
-abbrev pub IsDecidedTurn : CarriedOut → (Succession → NumberedState → Type 0) → NumberedState → CarriedOut → Type 0
-IsDecidedTurn (turn.Line became) Decided now result = (is : Served) × (result ≡ turn.Line is) × IsDecidedLine became Decided now is
-IsDecidedTurn turn.Timer Decided now result = result ≡ turn.Timer
-IsDecidedTurn turn.End Decided now result = result ≡ turn.End
+abbrev pub IsDecidedTurn : CarriedOut → (Succession → NumberedState → Unfollowed → Type 0) → (Succession → NumberedState → Type 0) → NumberedState → CarriedOut → Type 0
+IsDecidedTurn (turn.Line became) Refuses Decided now result = (is : Served) × (result ≡ turn.Line is) × IsDecidedLine became Refuses Decided now is
+IsDecidedTurn turn.Timer Refuses Decided now result = result ≡ turn.Timer
+IsDecidedTurn turn.End Refuses Decided now result = result ≡ turn.End
 
 -- it was decided, and answered
-abbrev pub AnswersDecided : {E : Type 0} → Manner → ℕ → CarriedOut → (Succession → NumberedState → Type 0) → NumberedState → Option (List Answer) → Result After E → Option (List Answer) → Printed → Option (List ℕ) → Type 0
-AnswersDecided manner number out Decided now given (Ok what) answered printed at = (is : CarriedOut) × IsDecidedTurn out Decided now is × AnswersTurn {E = Unit {0}} manner number is given (Ok what) answered printed at
-AnswersDecided manner number out Decided now given (Err fault) answered printed at = answered ≡ given
+abbrev pub AnswersDecided : {E : Type 0} → Manner → ℕ → CarriedOut → (Succession → NumberedState → Unfollowed → Type 0) → (Succession → NumberedState → Type 0) → NumberedState → Option (List Answer) → Result After E → Option (List Answer) → Printed → Option (List ℕ) → Type 0
+AnswersDecided manner number out Refuses Decided now given (Ok what) answered printed at = (is : CarriedOut) × IsDecidedTurn out Refuses Decided now is × AnswersTurn {E = Unit {0}} manner number is given (Ok what) answered printed at
+AnswersDecided manner number out Refuses Decided now given (Err fault) answered printed at = answered ≡ given

@@ -28,10 +28,14 @@ abbrev pub last_text : Option Totals → Option (List ℕ)
 last_text None = Some []
 last_text (Some totals) = totals_text totals
 
+-- it has the sums after these records, and no run is live then if the trace is kept
+abbrev pub HasSums : Setup → Manner → List Record → Totals → Type 0
+HasSums setup manner records totals = TotalsOf setup records totals × (manner.is_kept ≡ true → totals.runs ≡ 0)
+
 -- there is one, with the sums after these records, unless the trace is kept and a run is live then
 abbrev pub IsLast : Setup → Manner → List Record → Option Totals → Type 0
 IsLast setup manner records None = (manner.is_kept ≡ true) × IsStillLive setup records
-IsLast setup manner records (Some totals) = TotalsOf setup records totals × (manner.is_kept ≡ true → totals.runs ≡ 0)
+IsLast setup manner records (Some totals) = HasSums setup manner records totals
 
 -- What went out is the lines of records with which a history of an engine of this setup goes on after these ones, and the last line, unless
 -- the trace is kept and a run is live.
@@ -45,11 +49,11 @@ pub record IsContinued (setup : Setup) (manner : Manner) (records : List Record)
   pub told : Appends base at bytes
 
 -- What went out is a front of such lines.
-pub record IsContinuedInPart (setup : Setup) (records : List Record) (base at : Option (List ℕ)) : Type 0 where
+pub record IsContinuedInPart (setup : Setup) (manner : Manner) (records : List Record) (base at : Option (List ℕ)) : Type 0 where
   pub more : List Record
   pub last : Option Totals
   pub history : IsHistory setup (records ++ more)
-  pub sums : IfSome last (TotalsOf setup (records ++ more))
+  pub sums : IfSome last (HasSums setup manner (records ++ more))
   pub bytes : List ℕ
   pub is : option_append (records_text (version_of setup) more) (last_text last) ≡ Some bytes
   pub front : IsFront bytes base at
@@ -57,7 +61,7 @@ pub record IsContinuedInPart (setup : Setup) (records : List Record) (base at : 
 -- what is said of one that stood behind these records, and served to its end, or stopped before
 abbrev pub Continues : {T E : Type 0} → Setup → Manner → List Record → Option (List ℕ) → Result T E → Option (List ℕ) → Type 0
 Continues setup manner records base (Ok done) at = IsContinued setup manner records base at
-Continues setup manner records base (Err fault) at = IsContinuedInPart setup records base at
+Continues setup manner records base (Err fault) at = IsContinuedInPart setup manner records base at
 
 -- ---- inside
 
@@ -73,4 +77,4 @@ abbrev pub Closes : {T E : Type 0} → Manner → PrintedState → Option (List 
 Closes manner state at (Ok done) to =
     ((manner.is_kept ≡ true) × (state.engine.runs.list ≡ [] → ⊥) × (to ≡ at))
     ⊎ ((manner.is_kept ≡ true → state.engine.runs.list ≡ []) × Goes (totals_text (sums_behind state.printed.count state.engine)) state.printed.lines.waiting at [] to)
-Closes manner state at (Err fault) to = EndsTrace {T = Unit {0}} state at (Err fault) to
+Closes manner state at (Err fault) to = (manner.is_kept ≡ true → state.engine.runs.list ≡ []) × EndsTrace {T = Unit {0}} state at (Err fault) to

@@ -31,9 +31,9 @@ use Rattle.host_live.specs.declared.request.Succession.{Succession}
 
 -- ---- records
 
--- these records lead from the one engine to the other, whatever history was
+-- these records lead from the one engine to the other, of the same configuration and beginning, whatever history was
 abbrev pub Follows : NumberedState → List Record → NumberedState → Type 0
-Follows start records now = (before : List Record) → IsBehind before start → IsBehind (before ++ records) now
+Follows start records now = (now.setup ≡ start.setup) × ((before : List Record) → IsBehind before start → IsBehind (before ++ records) now)
 
 -- at most one reading of the clock: that one, if it was read
 abbrev pub IsReading : Option ℕ → List Record → Type 0
@@ -139,7 +139,6 @@ pub data Does (manner : Manner) : Request → List Record → Served → Numbere
   asked_to_quit : (now : NumberedState) → Does manner asks.Quit [] served.Quit now
   run_live : (how : Succession) (now : NumberedState) → (now.runs.list ≡ [] → ⊥) → Does manner (asks.Succeed how) [] (served.Refused RunLive) now
   asked_to_succeed : (how : Succession) (now : NumberedState) → now.runs.list ≡ [] → Does manner (asks.Succeed how) [] (served.Asked how) now
-  not_followed : (how : Succession) (why : Unfollowed) (now : NumberedState) → now.runs.list ≡ [] → Does manner (asks.Succeed how) [] (served.Refused (fault_of_unfollowed why)) now
 
 -- a part of it or all, where the engine stopped
 pub data DoesInPart (manner : Manner) : Request → List Record → Type 0 where
@@ -255,20 +254,23 @@ IsSomewhere came lines = (point : Point) × IsAt point came lines
 
 -- Behind these lines, which are so many: the bytes of what came next, the number of the last line, the records, the answers, and the engine
 -- then. A line begins where one ended. Where lines are answered, none asked to quit; and none asked for the engine that follows.
-pub data OneTurn (manner : Manner) (told : List ℕ) (number : ℕ) : List ℕ → ℕ → List Record → List Answer → NumberedState → Type 0 where
+pub data OneTurn (manner : Manner) (Refuses : Succession → NumberedState → Unfollowed → Type 0) (told : List ℕ) (number : ℕ) : List ℕ → ℕ → List Record → List Answer → NumberedState → Type 0 where
   whole_line : (line : List ℕ) (records : List Record) (became : Served) (behind : ℕ) (now : NumberedState) → EndsALine told → IsOneLine line → Turn manner line records became now → (manner.is_told ≡ true → became ≢ served.Quit) → asked_of became ≡ None
-      → OneTurn manner told number (line ++ 10 ∷ []) (number + 1) records (answer_to manner (number + 1) became behind) now
+      → OneTurn manner Refuses told number (line ++ 10 ∷ []) (number + 1) records (answer_to manner (number + 1) became behind) now
+  -- It asked for another engine, and none follows, for such a cause.
+  refused_line : (line : List ℕ) (how : Succession) (why : Unfollowed) (records : List Record) (behind : ℕ) (now : NumberedState) → EndsALine told → IsOneLine line → Turn manner line records (served.Asked how) now → Refuses how now why
+      → OneTurn manner Refuses told number (line ++ 10 ∷ []) (number + 1) records (answer_to manner (number + 1) (served.Refused (fault_of_unfollowed why)) behind) now
   cut_line : (line : List ℕ) (reading : Option ℕ) (records : List Record) (behind : ℕ) (now : NumberedState) → EndsALine told → IsOneLine line → line ≢ [] → IsOfClock manner reading → IsReading reading records
-      → OneTurn manner told number line (number + 1) records (answer_to manner (number + 1) (served.Refused Form) behind) now
-  timer_due : (reading : Option ℕ) (records : List Record) (now : NumberedState) → IsOfClock manner reading → IsReading reading records → OneTurn manner told number [] number records [] now
+      → OneTurn manner Refuses told number line (number + 1) records (answer_to manner (number + 1) (served.Refused Form) behind) now
+  timer_due : (reading : Option ℕ) (records : List Record) (now : NumberedState) → IsOfClock manner reading → IsReading reading records → OneTurn manner Refuses told number [] number records [] now
 
 -- The lines that came so far from that point on, and the timers that were due between them, turn by turn. Each answer stands where it may
 -- behind the records so far.
-pub data Turns (manner : Manner) (start : NumberedState) (Placed : List Record → ℕ → Type 0) (point : Point) : List ℕ → ℕ → List Record → List Answer → Type 0 where
-  no_turn : Turns manner start Placed point point.told point.number [] []
+pub data Turns (manner : Manner) (Refuses : Succession → NumberedState → Unfollowed → Type 0) (start : NumberedState) (Placed : List Record → ℕ → Type 0) (point : Point) : List ℕ → ℕ → List Record → List Answer → Type 0 where
+  no_turn : Turns manner Refuses start Placed point point.told point.number [] []
   one_more : (told : List ℕ) (number : ℕ) (records : List Record) (answers : List Answer) (bytes : List ℕ) (last : ℕ) (more : List Record) (others : List Answer) (now : NumberedState)
-      → Turns manner start Placed point told number records answers → OneTurn manner told number bytes last more others now → Follows start (records ++ more) now → AreBehind (Placed (records ++ more)) others
-      → Turns manner start Placed point (told ++ bytes) last (records ++ more) (answers ++ others)
+      → Turns manner Refuses start Placed point told number records answers → OneTurn manner Refuses told number bytes last more others now → Follows start (records ++ more) now → AreBehind (Placed (records ++ more)) others
+      → Turns manner Refuses start Placed point (told ++ bytes) last (records ++ more) (answers ++ others)
 
 -- That line asked to quit, where lines are answered.
 pub record Quits (manner : Manner) (base : List ℕ) (came : Option CameState) (told : List ℕ) (number : ℕ) (more : List Record) (others : List Answer) (now : NumberedState) : Type 0 where
@@ -282,10 +284,10 @@ pub record Quits (manner : Manner) (base : List ℕ) (came : Option CameState) (
   pub is : IfSome came (λ known. (rest : List ℕ) × (all_of known ≡ base ++ (told ++ (line ++ 10 ∷ rest))))
 
 -- All that came was turned, and the input is at its end; or a line asked to quit.
-pub data Ends (manner : Manner) (start : NumberedState) (Placed : List Record → ℕ → Type 0) (point : Point) (came : Option CameState) : List Record → List Answer → Type 0 where
-  at_end : (told : List ℕ) (number : ℕ) (records : List Record) (answers : List Answer) → Turns manner start Placed point told number records answers → IsAll point.base came told → Ends manner start Placed point came records answers
-  at_quit : (told : List ℕ) (number : ℕ) (records more : List Record) (answers others : List Answer) (now : NumberedState) → Turns manner start Placed point told number records answers → Quits manner point.base came told number more others now
-      → Follows start (records ++ more) now → AreBehind (Placed (records ++ more)) others → Ends manner start Placed point came (records ++ more) (answers ++ others)
+pub data Ends (manner : Manner) (Refuses : Succession → NumberedState → Unfollowed → Type 0) (start : NumberedState) (Placed : List Record → ℕ → Type 0) (point : Point) (came : Option CameState) : List Record → List Answer → Type 0 where
+  at_end : (told : List ℕ) (number : ℕ) (records : List Record) (answers : List Answer) → Turns manner Refuses start Placed point told number records answers → IsAll point.base came told → Ends manner Refuses start Placed point came records answers
+  at_quit : (told : List ℕ) (number : ℕ) (records more : List Record) (answers others : List Answer) (now : NumberedState) → Turns manner Refuses start Placed point told number records answers → Quits manner point.base came told number more others now
+      → Follows start (records ++ more) now → AreBehind (Placed (records ++ more)) others → Ends manner Refuses start Placed point came (records ++ more) (answers ++ others)
 
 -- That line asked for another engine, and it was decided that it follows this one, which has no live run. What comes next is not turned yet.
 pub record Asks (manner : Manner) (base : List ℕ) (came : Option CameState) (lines : Lines) (Decided : Succession → NumberedState → Type 0) (told : List ℕ) (number : ℕ) (more : List Record) (now : NumberedState) : Type 0 where
@@ -299,11 +301,11 @@ pub record Asks (manner : Manner) (base : List ℕ) (came : Option CameState) (l
   pub stands : Stands base came lines (told ++ (line ++ 10 ∷ []))
 
 -- All lines before such a one were turned, and it.
-pub record EndsAsked (manner : Manner) (start : NumberedState) (Placed : List Record → ℕ → Type 0) (point : Point) (came : Option CameState) (lines : Lines) (Decided : Succession → NumberedState → Type 0) (records : List Record) (answers : List Answer) : Type 0 where
+pub record EndsAsked (manner : Manner) (Refuses : Succession → NumberedState → Unfollowed → Type 0) (start : NumberedState) (Placed : List Record → ℕ → Type 0) (point : Point) (came : Option CameState) (lines : Lines) (Decided : Succession → NumberedState → Type 0) (records : List Record) (answers : List Answer) : Type 0 where
   pub told : List ℕ
   pub number : ℕ
   pub turned : List Record
-  pub turns : Turns manner start Placed point told number turned answers
+  pub turns : Turns manner Refuses start Placed point told number turned answers
   pub more : List Record
   pub now : NumberedState
   pub asks : Asks manner point.base came lines Decided told number more now
@@ -316,11 +318,11 @@ pub data StopsAt (manner : Manner) (base : List ℕ) (came : Option CameState) (
   in_line : (line : List ℕ) → EndsALine told → IsOneLine line → TurnInPart manner line records → IfSome came (λ known. (rest : List ℕ) × (all_of known ≡ base ++ (told ++ (line ++ 10 ∷ rest)))) → StopsAt manner base came told records
 
 -- It stopped behind some turns.
-pub record Stops (manner : Manner) (start : NumberedState) (Placed : List Record → ℕ → Type 0) (point : Point) (came : Option CameState) (records : List Record) (answers : List Answer) : Type 0 where
+pub record Stops (manner : Manner) (Refuses : Succession → NumberedState → Unfollowed → Type 0) (start : NumberedState) (Placed : List Record → ℕ → Type 0) (point : Point) (came : Option CameState) (records : List Record) (answers : List Answer) : Type 0 where
   pub told : List ℕ
   pub number : ℕ
   pub turned : List Record
-  pub turns : Turns manner start Placed point told number turned answers
+  pub turns : Turns manner Refuses start Placed point told number turned answers
   pub more : List Record
   pub at : StopsAt manner point.base came told more
   pub all : records ≡ turned ++ more

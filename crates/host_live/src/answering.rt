@@ -49,7 +49,7 @@ pub(crate) fn answer_decided<S: Outlet, N: Reports>(
 ) -> Result<After, LiveFault>
     ensures grown { GrowsBy [] host.old.engine (S.bytes out.old) (S.failures out.old) host.new.engine (S.bytes out.new) (S.failures out.new) }
     ensures engine { host.new.engine.engine ≡ host.old.engine.engine }
-    ensures answers { AnswersDecided manner line turn (N.has_decided reports.new) host.old.engine.engine (S.answers out.old) result (S.answers out.new) host.new.engine.printed (S.bytes out.new) }
+    ensures answers { AnswersDecided manner line turn N.may_refuse (N.has_decided reports.new) host.old.engine.engine (S.answers out.old) result (S.answers out.new) host.new.engine.printed (S.bytes out.new) }
     ensures unread { result ≢ Err Unread }
     ensures ended { manner.is_told ≡ false → result ≡ Ok AfterAll → turn ≡ AtEnd }
     ensures unwritten { result ≡ Err Unwritten → host.new.engine.printed.has_failed ≡ true }
@@ -67,7 +67,7 @@ fn decide<N: Reports>(
     turn: Turn,
     reports: &mut N,
 ) -> Result<Turn, LiveFault>
-    ensures decided { IfOk result (IsDecidedTurn turn (N.has_decided reports.new) host.now.engine.engine) }
+    ensures decided { IfOk result (IsDecidedTurn turn N.may_refuse (N.has_decided reports.new) host.now.engine.engine) }
     ensures unread { result ≢ Err Unread }
     ensures written { result ≢ Err Unwritten }
 {
@@ -88,7 +88,7 @@ fn decide_line<N: Reports>(
     served: Served,
     reports: &mut N,
 ) -> Result<Served, LiveFault>
-    ensures decided { IfOk result (IsDecidedLine served (N.has_decided reports.new) host.now.engine.engine) }
+    ensures decided { IfOk result (IsDecidedLine served N.may_refuse (N.has_decided reports.new) host.now.engine.engine) }
     ensures unread { result ≢ Err Unread }
     ensures written { result ≢ Err Unwritten }
 {
@@ -105,7 +105,7 @@ fn ask<N: Reports>(
     how: Succession,
     reports: &mut N,
 ) -> Result<Served, LiveFault>
-    ensures decided { IfOk result (IsDecidedLine (Asked how) (N.has_decided reports.new) host.now.engine.engine) }
+    ensures decided { IfOk result (IsDecidedLine (Asked how) N.may_refuse (N.has_decided reports.new) host.now.engine.engine) }
     ensures unread { result ≢ Err Unread }
     ensures written { result ≢ Err Unwritten }
 {

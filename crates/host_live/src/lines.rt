@@ -50,6 +50,7 @@ impl Lines {
     pub fn of<I: Input>(input: &I, begun: u64) -> Self
         ensures ended { result.is_ended ≡ false }
         ensures number { result.number ≡ 0 }
+        ensures begun { result.begun ≡ begun }
         ensures stands { Stands (known_of (I.came input.now)) (I.came input.now) result [] }
     {
         Lines {
@@ -72,6 +73,7 @@ impl Lines {
     /// Takes the next line, if it is there. Whether it is.
     pub(crate) fn take_next<I: Input>(&mut self, input: &I) -> bool
         requires room { self.old.number < 2 ^ 64 - 1 }
+        ensures begun { self.new.begun ≡ self.old.begun }
         ensures ended { self.new.is_ended ≡ self.old.is_ended }
         ensures untold { result ≡ false → self.new.is_ended ≡ false → self.new.is_told ≡ false }
         ensures number { result ≡ false → self.new.number ≡ self.old.number }
@@ -138,6 +140,7 @@ impl Lines {
         requires room { self.old.number < 2 ^ 64 - 1 }
         requires untold { self.old.is_ended ≡ false → self.old.is_told ≡ false }
         requires ended { IsTrue self.old.is_ended → IsTrue (I.has_ended input.old) }
+        ensures begun { self.new.begun ≡ self.old.begun }
         ensures failed { result ≡ Failed → IsTrue (I.has_failed input.new) }
         ensures still { result ≢ Failed → I.has_failed input.new ≡ I.has_failed input.old }
         ensures ended { IsTrue self.new.is_ended → IsTrue (I.has_ended input.new) }
@@ -174,6 +177,7 @@ impl Lines {
         requires room { self.old.number < 2 ^ 64 - 1 }
         requires untold { self.old.is_told ≡ false }
         requires going { self.old.is_ended ≡ false }
+        ensures begun { self.new.begun ≡ self.old.begun }
         ensures ended { self.new.is_ended ≡ true }
         ensures read { result ≢ Failed }
         ensures due { (manner : TheManner) → MayCome manner result }
@@ -193,6 +197,7 @@ impl Lines {
         requires room { self.old.number < 2 ^ 64 - 1 }
         requires untold { self.old.is_told ≡ false }
         requires going { self.old.is_ended ≡ false }
+        ensures begun { self.new.begun ≡ self.old.begun }
         ensures ended { self.new.is_ended ≡ false }
         ensures untold { result ≡ false → self.new.is_ended ≡ false → self.new.is_told ≡ false }
         ensures number { result ≡ false → self.new.number ≡ self.old.number }

@@ -1,7 +1,7 @@
 // Who is told of lines that are not carried out, of sums, of CCBs, and of requests, and who decides whether an engine follows another one. It
 // relies on `world_calls` for sums, and on `engine_core` for engines and CCBs.
 
-ghost use Rattle.std.specs.Prelude.{◌≡◌, None, Ok};
+ghost use Rattle.std.specs.Prelude.{◌≡◌, IfOk, IfSome, None, Ok};
 ghost use Rattle.host_live.specs.Successions.{fault_of_unfollowed};
 
 use crate::request::Succession;
@@ -47,12 +47,15 @@ pub(crate) fn fault_of(why: Unfollowed) -> LineFault
 }
 
 /// Is told what is no part of a trace, and decides whether an engine follows another one. What cannot be told is not told. Contracts see what
-/// was decided at last: how an engine is to follow, and which one.
+/// was decided at last: how an engine is to follow, and which one; and why none may follow.
 pub trait Reports {
     ghost use Rattle.engine_core.specs.ByNumber.{NumberedState};
+    ghost use Rattle.host_live.specs.declared.reports.Unfollowed.{Unfollowed};
     ghost use Rattle.host_live.specs.declared.request.Succession.{Succession};
 
     ghost has_decided: { Self → Succession → NumberedState → Type 0 };
+
+    ghost may_refuse: { Succession → NumberedState → Unfollowed → Type 0 };
 
     /// That line is not carried out, the first being 1.
     fn refused(&mut self, fault: LineFault, line: usize);
@@ -72,5 +75,6 @@ pub trait Reports {
         how: Succession,
         engine: &NumberedEngine<'_>,
     ) -> Result<Option<Unfollowed>, AllocError>
-        ensures { result ≡ Ok None → has_decided self.new how engine.now };
+        ensures decided { result ≡ Ok None → has_decided self.new how engine.now }
+        ensures refused { IfOk result (λ it. IfSome it (may_refuse how engine.now)) };
 }

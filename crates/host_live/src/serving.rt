@@ -88,7 +88,9 @@ pub fn serve<I: Input, S: Outlet, N: Reports>(
     ensures told { (records : List TheRecord) → IsBehind records engine.entry → count ≡ length records → Continues engine.entry.setup manner records (S.bytes out.old) result (S.bytes out.new) }
     // It is that of the runs that were out, unless runs stay out, and then of what the lines that came asked for. The answer that was owed was
     // given first, and then each line was answered so.
-    ensures turned { (first : List Answer) × IsOwed manner owed result (S.bytes out.old) first × ((point : Point) (records : List TheRecord) → IsAt point (I.came input.old) lines.old → IsBehind records engine.entry → count ≡ length records → ContinuesTurns engine.entry manner point (I.came input.new) lines.new (N.has_decided reports.new) records (S.bytes out.old) (with_answers (S.answers out.old) first) result (S.bytes out.new) (S.answers out.new)) }
+    ensures turned { (first : List Answer) × IsOwed manner owed result (S.bytes out.old) first × ((point : Point) (records : List TheRecord) → IsAt point (I.came input.old) lines.old → IsBehind records engine.entry → count ≡ length records → ContinuesTurns engine.entry manner N.may_refuse point (I.came input.new) lines.new (N.has_decided reports.new) records (S.bytes out.old) (with_answers (S.answers out.old) first) result (S.bytes out.new) (S.answers out.new)) }
+    // Between the clock of the input and that of the engine stays what was.
+    ensures begun { lines.new.begun ≡ lines.old.begun }
     ensures unread { result ≡ Err Unread → IsTrue (I.has_failed input.new) }
     // The end of the input is no read that failed.
     ensures still { OnOk result (I.has_failed input.new ≡ I.has_failed input.old) }
@@ -149,7 +151,8 @@ fn serve_here<I: Input, S: Outlet, N: Reports>(
     requires begun { IsTrue lines.old.is_ended → IsTrue (I.has_ended input.old) }
     requires stands { IsSomewhere (I.came input.old) lines.old }
     ensures told { (records : List TheRecord) → IsBehind records engine.entry → count ≡ length records → Continues engine.entry.setup manner records (S.bytes out.old) result (S.bytes out.new) }
-    ensures turned { (point : Point) (records : List TheRecord) → IsAt point (I.came input.old) lines.old → IsBehind records engine.entry → count ≡ length records → ContinuesTurns engine.entry manner point (I.came input.new) lines.new (N.has_decided reports.new) records (S.bytes out.old) (S.answers out.old) result (S.bytes out.new) (S.answers out.new) }
+    ensures turned { (point : Point) (records : List TheRecord) → IsAt point (I.came input.old) lines.old → IsBehind records engine.entry → count ≡ length records → ContinuesTurns engine.entry manner N.may_refuse point (I.came input.new) lines.new (N.has_decided reports.new) records (S.bytes out.old) (S.answers out.old) result (S.bytes out.new) (S.answers out.new) }
+    ensures begun { lines.new.begun ≡ lines.old.begun }
     ensures unread { result ≡ Err Unread → IsTrue (I.has_failed input.new) }
     ensures still { OnOk result (I.has_failed input.new ≡ I.has_failed input.old) }
     ensures ended { manner.is_told ≡ false → result ≡ Ok false → IsTrue (I.has_ended input.new) }
@@ -179,13 +182,21 @@ fn close<S: Outlet>(
     ensures failed { IfErr result (λ fault. (fault ≡ Unwritten) × HasFailed (S.failures out.old) (S.failures out.new)) }
     ensures followed { IfOk result (λ it. it ≡ is_followed) }
 {
-    if manner.is_kept && host.engine.has_run() {
+    if is_left_open(&host, manner) {
         return Ok(is_followed);
     }
     match host.into_engine().end(out) {
         Ok(()) => Ok(is_followed),
         Err(failed) => Err(LiveFault::from(failed)),
     }
+}
+
+// Returns whether the trace gets no last line: it is kept, and a run is live.
+fn is_left_open(host: &Host<'_>, manner: Manner) -> bool
+    ensures open { result ≡ true → (manner.is_kept ≡ true) × (host.now.engine.engine.runs.list ≡ [] → ⊥) }
+    ensures shut { result ≡ false → manner.is_kept ≡ true → host.now.engine.engine.runs.list ≡ [] }
+{
+    manner.is_kept && host.engine.has_run()
 }
 
 // Drives the runs that are out, unless runs stay out, and serves the lines. All is handed on then. It returns whether another engine follows.
@@ -198,7 +209,8 @@ fn serve_resumed<I: Input, S: Outlet, N: Reports>(
     reports: &mut N,
 ) -> Result<bool, LiveFault>
     requires begun { IsTrue lines.old.is_ended → IsTrue (I.has_ended input.old) }
-    ensures grown { (point : Point) → IsAt point (I.came input.old) lines.old → GrowsWith (GoesOnOr manner host.old.engine.engine (IsPrintedBehind host.old.engine.printed (S.bytes out.old)) point (I.came input.new) lines.new (N.has_decided reports.new) result) host.old.engine (S.bytes out.old) (S.failures out.old) (S.answers out.old) host.new.engine (S.bytes out.new) (S.failures out.new) (S.answers out.new) }
+    ensures grown { (point : Point) → IsAt point (I.came input.old) lines.old → GrowsWith (GoesOnOr manner N.may_refuse host.old.engine.engine (IsPrintedBehind host.old.engine.printed (S.bytes out.old)) point (I.came input.new) lines.new (N.has_decided reports.new) result) host.old.engine (S.bytes out.old) (S.failures out.old) (S.answers out.old) host.new.engine (S.bytes out.new) (S.failures out.new) (S.answers out.new) }
+    ensures begun { lines.new.begun ≡ lines.old.begun }
     ensures unread { result ≡ Err Unread → IsTrue (I.has_failed input.new) }
     ensures still { OnOk result (I.has_failed input.new ≡ I.has_failed input.old) }
     ensures ended { manner.is_told ≡ false → result ≡ Ok false → IsTrue (I.has_ended input.new) }
@@ -223,7 +235,8 @@ fn serve_behind<I: Input, S: Outlet, N: Reports>(
     reports: &mut N,
 ) -> Result<bool, LiveFault>
     requires begun { IsTrue lines.old.is_ended → IsTrue (I.has_ended input.old) }
-    ensures grown { (point : Point) → IsAt point (I.came input.old) lines.old → GrowsWith (FinishesOr manner host.old.engine.engine (IsPrintedBehind host.old.engine.printed (S.bytes out.old)) point (I.came input.new) lines.new (N.has_decided reports.new) result) host.old.engine (S.bytes out.old) (S.failures out.old) (S.answers out.old) host.new.engine (S.bytes out.new) (S.failures out.new) (S.answers out.new) }
+    ensures grown { (point : Point) → IsAt point (I.came input.old) lines.old → GrowsWith (FinishesOr manner N.may_refuse host.old.engine.engine (IsPrintedBehind host.old.engine.printed (S.bytes out.old)) point (I.came input.new) lines.new (N.has_decided reports.new) result) host.old.engine (S.bytes out.old) (S.failures out.old) (S.answers out.old) host.new.engine (S.bytes out.new) (S.failures out.new) (S.answers out.new) }
+    ensures begun { lines.new.begun ≡ lines.old.begun }
     ensures unread { result ≡ Err Unread → IsTrue (I.has_failed input.new) }
     ensures still { OnOk result (I.has_failed input.new ≡ I.has_failed input.old) }
     ensures ended { manner.is_told ≡ false → result ≡ Ok false → IsTrue (I.has_ended input.new) }
@@ -335,7 +348,8 @@ fn serve_lines<I: Input, S: Outlet, N: Reports>(
     reports: &mut N,
 ) -> Result<bool, LiveFault>
     requires begun { IsTrue lines.old.is_ended → IsTrue (I.has_ended input.old) }
-    ensures grown { (point : Point) → IsAt point (I.came input.old) lines.old → GrowsWith (EndsOr manner host.old.engine.engine (IsPrintedBehind host.old.engine.printed (S.bytes out.old)) point (I.came input.new) lines.new (N.has_decided reports.new) result) host.old.engine (S.bytes out.old) (S.failures out.old) (S.answers out.old) host.new.engine (S.bytes out.new) (S.failures out.new) (S.answers out.new) }
+    ensures grown { (point : Point) → IsAt point (I.came input.old) lines.old → GrowsWith (EndsOr manner N.may_refuse host.old.engine.engine (IsPrintedBehind host.old.engine.printed (S.bytes out.old)) point (I.came input.new) lines.new (N.has_decided reports.new) result) host.old.engine (S.bytes out.old) (S.failures out.old) (S.answers out.old) host.new.engine (S.bytes out.new) (S.failures out.new) (S.answers out.new) }
+    ensures begun { lines.new.begun ≡ lines.old.begun }
     ensures unread { result ≡ Err Unread → IsTrue (I.has_failed input.new) }
     ensures still { OnOk result (I.has_failed input.new ≡ I.has_failed input.old) }
     ensures ended { manner.is_told ≡ false → result ≡ Ok false → IsTrue (I.has_ended input.new) }
@@ -369,7 +383,8 @@ fn serve_next<I: Input, S: Outlet, N: Reports>(
 ) -> Result<After, LiveFault>
     requires begun { IsTrue lines.old.is_ended → IsTrue (I.has_ended input.old) }
     requires room { lines.old.number < 2 ^ 64 - 1 }
-    ensures turned { (base told : List ℕ) → Stands base (I.came input.old) lines.old told → GrowsWith (NextIs manner base told lines.old.number (I.came input.new) lines.new (N.has_decided reports.new) result host.new.engine.engine host.new.engine.printed (S.bytes out.new)) host.old.engine (S.bytes out.old) (S.failures out.old) (S.answers out.old) host.new.engine (S.bytes out.new) (S.failures out.new) (S.answers out.new) }
+    ensures turned { (base told : List ℕ) → Stands base (I.came input.old) lines.old told → GrowsWith (NextIs manner N.may_refuse base told lines.old.number (I.came input.new) lines.new (N.has_decided reports.new) result host.new.engine.engine host.new.engine.printed (S.bytes out.new)) host.old.engine (S.bytes out.old) (S.failures out.old) (S.answers out.old) host.new.engine (S.bytes out.new) (S.failures out.new) (S.answers out.new) }
+    ensures begun { lines.new.begun ≡ lines.old.begun }
     ensures unread { result ≡ Err Unread → IsTrue (I.has_failed input.new) }
     ensures still { OnOk result (I.has_failed input.new ≡ I.has_failed input.old) }
     ensures going { IsTrue lines.new.is_ended → IsTrue (I.has_ended input.new) }
@@ -404,6 +419,7 @@ fn take_next<I: Input, S: Outlet>(
     ensures going { IsTrue lines.new.is_ended → IsTrue (I.has_ended input.new) }
     ensures end { result ≡ Ok End → IsTrue (I.has_ended input.new) }
     ensures due { IfOk result (MayCome manner) }
+    ensures begun { lines.new.begun ≡ lines.old.begun }
     ensures unread { result ≢ Err Unread }
     ensures unwritten { result ≡ Err Unwritten → host.new.engine.printed.has_failed ≡ true }
 {
@@ -426,6 +442,7 @@ fn wait_next<I: Input>(host: &Host<'_>, manner: Manner, input: &mut I, lines: &m
     requires untold { lines.old.is_ended ≡ false → lines.old.is_told ≡ false }
     requires begun { IsTrue lines.old.is_ended → IsTrue (I.has_ended input.old) }
     ensures waits { (base told : List ℕ) → Stands base (I.came input.old) lines.old told → IsTaken (I.came input.old) lines.old → Waits base lines.old told result (I.came input.new) lines.new }
+    ensures begun { lines.new.begun ≡ lines.old.begun }
     ensures failed { result ≡ Failed → IsTrue (I.has_failed input.new) }
     ensures still { result ≢ Failed → I.has_failed input.new ≡ I.has_failed input.old }
     ensures going { IsTrue lines.new.is_ended → IsTrue (I.has_ended input.new) }

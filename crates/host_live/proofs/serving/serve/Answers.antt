@@ -14,15 +14,15 @@ pub returns-in-Ok-clause-turned : goal.returns-in-Ok-clause-turned
 returns-in-Ok-clause-turned g c = (
   c.in-Ok.ensures.answers.0,
   is_owed (Unit {0}) c.args.manner c.args.owed tt c.serve_here.result (g.S.Outlet.bytes c.args.out.now) c.in-Ok.ensures.answers.0 c.in-Ok.ensures.answers.1,
-  λ point records at behind are. behind_owed c.args.engine c.args.manner point (g.I.Input.came c.serve_here.new.input) c.serve_here.new.lines (g.N.Reports.has_decided c.serve_here.new.reports) records _ _ _ _ _ _ c.in-Ok.ensures.answers.0 c.serve_here.result c.answer_owed.ensures.bytes c.in-Ok.ensures.answers.2 (c.serve_here.ensures.turned point records at behind are),
+  λ point records at behind are. behind_owed c.args.engine c.args.manner g.N.Reports.may_refuse point (g.I.Input.came c.serve_here.new.input) c.serve_here.new.lines (g.N.Reports.has_decided c.serve_here.new.reports) records _ _ _ _ _ _ c.in-Ok.ensures.answers.0 c.serve_here.result c.answer_owed.ensures.bytes c.in-Ok.ensures.answers.2 (c.serve_here.ensures.turned point records at behind are),
 )
 
 pub returns-in-Err-clause-told : goal.returns-in-Err-clause-told
-returns-in-Err-clause-told g c = λ records behind are. rw c.answer_owed.ensures.bytes (continues_none c.args.engine records (g.S.Outlet.bytes c.args.out.now) behind)
+returns-in-Err-clause-told g c = λ records behind are. rw c.answer_owed.ensures.bytes (continues_none c.args.engine c.args.manner records (g.S.Outlet.bytes c.args.out.now) behind)
 
 pub returns-in-Err-clause-turned : goal.returns-in-Err-clause-turned
 returns-in-Err-clause-turned g c = (
   [],
   none_owed Bool c.args.manner c.args.owed c.in-Err.fault (g.S.Outlet.bytes c.args.out.now),
-  λ point records at behind are. rw c.answer_owed.ensures.bytes (rw c.in-Err.ensures.answers (rw (← none_given (g.S.Outlet.answers c.args.out.now)) (unturned c.args.engine c.args.manner point (g.I.Input.came c.args.input.now) c.args.lines.now records (g.S.Outlet.bytes c.args.out.now) (g.S.Outlet.answers c.args.out.now) at behind))),
+  λ point records at behind are. rw c.answer_owed.ensures.bytes (rw c.in-Err.ensures.answers (rw (← none_given (g.S.Outlet.answers c.args.out.now)) (unturned c.args.engine c.args.manner g.N.Reports.may_refuse point (g.I.Input.came c.args.input.now) c.args.lines.now (g.N.Reports.has_decided c.args.reports.now) records (g.S.Outlet.bytes c.args.out.now) (g.S.Outlet.answers c.args.out.now) at behind))),
 )

@@ -18,9 +18,9 @@ returns-in-Ok-clause-turned g c = λ point records is behind are.
     let same : c.new-host.result.engine ≡ resumed_printed c.args.count c.args.engine = c.new-host.ensures ∙ c.resumed-engine.ensures in
     let it = c.in-Ok.ensures.grown point is in
     continues_turns_closed c.args.manner c.args.engine c.args.count c.serve_resumed.new.host.engine (g.S.Outlet.bytes c.args.out.now) (g.S.Outlet.bytes c.serve_resumed.new.out) (g.S.Outlet.failures c.args.out.now) (g.S.Outlet.failures c.serve_resumed.new.out) it.more (subst (λ (e : PrintedState). GrowsBy it.more e (g.S.Outlet.bytes c.args.out.now) (g.S.Outlet.failures c.args.out.now) c.serve_resumed.new.host.engine (g.S.Outlet.bytes c.serve_resumed.new.out) (g.S.Outlet.failures c.serve_resumed.new.out)) same it.by) records behind
-    point (g.I.Input.came c.serve_resumed.new.input) c.serve_resumed.new.lines (g.N.Reports.has_decided c.serve_resumed.new.reports) (g.S.Outlet.answers c.args.out.now) (g.S.Outlet.answers c.close.new.out) it.others (c.close.ensures.answers ∙ it.are_answers)
+    g.N.Reports.may_refuse point (g.I.Input.came c.serve_resumed.new.input) c.serve_resumed.new.lines (g.N.Reports.has_decided c.serve_resumed.new.reports) (g.S.Outlet.answers c.args.out.now) (g.S.Outlet.answers c.close.new.out) it.others (c.close.ensures.answers ∙ it.are_answers)
     c.close.result c.in-Ok.is_followed (g.S.Outlet.bytes c.close.new.out) c.close.ensures.followed are c.in-Ok.ensures.all c.in-Ok.ensures.whole c.close.ensures.closed
-    (subst (λ (e : PrintedState). IsGoneOn c.args.manner e.engine (IsPrintedBehind e.printed (g.S.Outlet.bytes c.args.out.now)) point (g.I.Input.came c.serve_resumed.new.input) c.serve_resumed.new.lines (g.N.Reports.has_decided c.serve_resumed.new.reports) c.in-Ok.is_followed it.more it.others) same it.these)
+    (subst (λ (e : PrintedState). IsGoneOn c.args.manner g.N.Reports.may_refuse e.engine (IsPrintedBehind e.printed (g.S.Outlet.bytes c.args.out.now)) point (g.I.Input.came c.serve_resumed.new.input) c.serve_resumed.new.lines (g.N.Reports.has_decided c.serve_resumed.new.reports) c.in-Ok.is_followed it.more it.others) same it.these)
 
 pub returns-in-Ok-clause-unwritten : goal.returns-in-Ok-clause-unwritten
 returns-in-Ok-clause-unwritten g c = λ is.
@@ -32,7 +32,7 @@ pub returns-in-Ok-clause-stands : goal.returns-in-Ok-clause-stands
 returns-in-Ok-clause-stands g c = λ is.
     let it = c.in-Ok.ensures.grown c.requires.stands.0 c.requires.stands.1 in
     let followed : c.in-Ok.is_followed ≡ true = sym (rw is at c.close.ensures.followed) in
-    next_point c.args.manner _ _ c.requires.stands.0 _ _ _ it.more it.others (subst (λ (b : Bool). IsGoneOn c.args.manner c.new-host.result.engine.engine (IsPrintedBehind c.new-host.result.engine.printed (g.S.Outlet.bytes c.args.out.now)) c.requires.stands.0 (g.I.Input.came c.serve_resumed.new.input) c.serve_resumed.new.lines (g.N.Reports.has_decided c.serve_resumed.new.reports) b it.more it.others) followed it.these)
+    next_point c.args.manner g.N.Reports.may_refuse _ _ c.requires.stands.0 _ _ _ it.more it.others (subst (λ (b : Bool). IsGoneOn c.args.manner g.N.Reports.may_refuse c.new-host.result.engine.engine (IsPrintedBehind c.new-host.result.engine.printed (g.S.Outlet.bytes c.args.out.now)) c.requires.stands.0 (g.I.Input.came c.serve_resumed.new.input) c.serve_resumed.new.lines (g.N.Reports.has_decided c.serve_resumed.new.reports) b it.more it.others) followed it.these)
 
 pub returns-in-Err-clause-told : goal.returns-in-Err-clause-told
 returns-in-Err-clause-told g c = λ records behind are.
@@ -45,8 +45,8 @@ returns-in-Err-clause-turned g c = λ point records is behind are.
     let same : c.new-host.result.engine ≡ resumed_printed c.args.count c.args.engine = c.new-host.ensures ∙ c.resumed-engine.ensures in
     let it = c.in-Err.ensures.grown point is in
     continues_turns_part c.args.manner c.args.engine c.args.count c.serve_resumed.new.host.engine (g.S.Outlet.bytes c.args.out.now) (g.S.Outlet.bytes c.serve_resumed.new.out) (g.S.Outlet.failures c.args.out.now) (g.S.Outlet.failures c.serve_resumed.new.out) it.more (subst (λ (e : PrintedState). GrowsBy it.more e (g.S.Outlet.bytes c.args.out.now) (g.S.Outlet.failures c.args.out.now) c.serve_resumed.new.host.engine (g.S.Outlet.bytes c.serve_resumed.new.out) (g.S.Outlet.failures c.serve_resumed.new.out)) same it.by) records behind
-    point (g.I.Input.came c.serve_resumed.new.input) c.serve_resumed.new.lines (g.N.Reports.has_decided c.serve_resumed.new.reports) (g.S.Outlet.answers c.args.out.now) (g.S.Outlet.answers c.serve_resumed.new.out) it.others it.are_answers c.in-Err.fault
-    (subst (λ (e : PrintedState). IsGoneOnInPart c.args.manner e.engine (IsPrintedBehind e.printed (g.S.Outlet.bytes c.args.out.now)) point (g.I.Input.came c.serve_resumed.new.input) it.more it.others) same it.these)
+    g.N.Reports.may_refuse point (g.I.Input.came c.serve_resumed.new.input) c.serve_resumed.new.lines (g.N.Reports.has_decided c.serve_resumed.new.reports) (g.S.Outlet.answers c.args.out.now) (g.S.Outlet.answers c.serve_resumed.new.out) it.others it.are_answers c.in-Err.fault
+    (subst (λ (e : PrintedState). IsGoneOnInPart c.args.manner g.N.Reports.may_refuse e.engine (IsPrintedBehind e.printed (g.S.Outlet.bytes c.args.out.now)) point (g.I.Input.came c.serve_resumed.new.input) it.more it.others) same it.these)
 
 pub returns-in-Err-clause-unwritten : goal.returns-in-Err-clause-unwritten
 returns-in-Err-clause-unwritten g c = λ is.

@@ -70,7 +70,7 @@ reading_fails held number last before old new (Fault fault) unread = absurd unre
 pub printing_fails : (held : Held) (number last : ℕ) (before : NumberedState) (config : Setup) (old new : Option (List Step)) (error : OrMemory JournalFault) → IsConfiguredBy held number config → IsUnprintable before config error
     → FailsInSegment held number last (Some before) old new error
 printing_fails held number last before config old new OutOfMemory configured untold = tt
-printing_fails held number last before config old new (Fault faults.InternalError) configured untold = record { config = config; configured = configured; numbering = untold.0; untold = untold.1 }
+printing_fails held number last before config old new (Fault faults.InternalError) configured untold = record { config = config; configured = configured; may = untold.0; numbering = untold.1.0; untold = untold.1.1 }
 printing_fails held number last before config old new (Fault fault) configured untold = absurd untold
 
 pub fails_on : (held : Held) (number last : ℕ) (before : Option NumberedState) (old mid new : Option (List Step)) (error : OrMemory JournalFault) → WentOn old mid → FailsInSegment held number last before mid new error → FailsInSegment held number last before old new error

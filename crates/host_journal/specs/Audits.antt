@@ -4,6 +4,7 @@ use Rattle.base.specs.declared.or_memory.OrMemory.{OrMemory}
 use Rattle.base.specs.declared.or_memory.OrMemory.TheVariants.{OutOfMemory, Fault}
 use Rattle.engine_carried.specs.declared.numbering.Numbering.{Numbering}
 use Rattle.engine_core.specs.ByNumber.{NumberedState}
+use Rattle.engine_succession.specs.Numbered.{MayBeFollowedBy}
 use Rattle.manifest.specs.Meaning.{HasFault}
 use Rattle.manifest.specs.declared.fault.ManifestFault.{ManifestFault}
 use Rattle.trace.specs.declared.fault.TraceFault.TheVariants.{Line}
@@ -109,10 +110,11 @@ pub record IsNotJoined (held : Held) (number last : ℕ) (before : NumberedState
   pub ended : number < last → recovered.is_ended ≡ true
   pub unlinked : IsUnlinked (held.segments number) config before recovered.carried
 
--- what one leaves has no text in the next one
+-- what one leaves, which may be followed, has no text in the next one
 pub record IsUntold (held : Held) (number : ℕ) (before : NumberedState) : Type 0 where
   pub config : Setup
   pub configured : IsConfiguredBy held number config
+  pub may : MayBeFollowedBy before config
   pub numbering : Numbering
   pub untold : HasHeldByRun (lines_left numbering before config)
 

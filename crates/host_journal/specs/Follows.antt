@@ -46,13 +46,17 @@ pub record IsNext (number : ℕ) (engine : NumberedState) (manifest : NextManife
 abbrev pub IsMisfit : NumberedState → NextManifest → Type 0
 IsMisfit engine manifest = (config : Setup) × IsNextConfig manifest config × (engine.runs.list ≡ []) × (Fits config (left_behind engine) → ⊥)
 
--- why there is no such segment
+-- it is one, and segments cannot be counted any more
+abbrev pub IsUncountable : ℕ → NumberedState → NextManifest → Type 0
+IsUncountable number engine manifest = (config : Setup) × IsNextConfig manifest config × MayBeFollowedBy engine config × (number ≡ 2 ^ 64 - 1)
+
+-- Why there is no such segment: a run is live; or there is none, and the manifest is faulty, or a misfit.
 abbrev pub IsNotNext : ℕ → NumberedState → NextManifest → OrMemory JournalFault → Type 0
 IsNotNext number engine manifest OutOfMemory = ⊤
 IsNotNext number engine manifest (Fault faults.RunLive) = engine.runs.list ≡ [] → ⊥
 IsNotNext number engine manifest (Fault faults.DoesNotFit) = IsMisfit engine manifest
-IsNotNext number engine manifest (Fault faults.InternalError) = number ≡ 2 ^ 64 - 1
-IsNotNext number engine manifest (Fault fault) = IsNextFault number manifest (Fault fault)
+IsNotNext number engine manifest (Fault faults.InternalError) = IsUncountable number engine manifest
+IsNotNext number engine manifest (Fault fault) = (engine.runs.list ≡ []) × IsNextFault number manifest (Fault fault)
 
 -- why the manifest of that number was not read
 abbrev pub IsManifestUnread : ℕ → Option (List Step) → OrMemory JournalFault → Option (List Step) → Type 0

@@ -56,10 +56,10 @@ abbrev pub IsLeft : NumberedState → Setup → Left → Type 0
 IsLeft before config Nothing = MayBeFollowedBy before config → ⊥
 IsLeft before config (Fronts same fresh) = MayBeFollowedBy before config × IsFrontUnder SameNumbers before config same × IsFrontUnder FreshNumbers before config fresh
 
--- why there is no such text: memory, or a line that has none
+-- why there is no such text, if the engine may be followed: memory, or a line that has none
 abbrev pub IsUnprintable : NumberedState → Setup → OrMemory JournalFault → Type 0
 IsUnprintable before config OutOfMemory = ⊤
-IsUnprintable before config (Fault faults.InternalError) = (numbering : Numbering) × HasHeldByRun (lines_left numbering before config)
+IsUnprintable before config (Fault faults.InternalError) = MayBeFollowedBy before config × ((numbering : Numbering) × HasHeldByRun (lines_left numbering before config))
 IsUnprintable before config (Fault fault) = ⊥
 
 -- whether the bytes, if they are known, begin with the text, and there are as many carried lines

@@ -81,7 +81,7 @@ fn front_under(
     config: &Config,
     numbering: Numbering,
 ) -> Result<FrontText, JournalError>
-    requires { engine.now.runs.list ≡ [] }
+    requires { MayBeFollowedBy engine.now config.now }
     ensures front { IfOk result (IsFrontUnder numbering engine.now config.now) }
     ensures refused { IfErr result (IsUnprintable engine.now config.now) }
 {

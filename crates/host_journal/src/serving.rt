@@ -53,7 +53,7 @@ pub fn serve<D: Disk, I: Input, N: Reports>(
     requires stands { IsSomewhere (I.came input.old) lines.old }
     // No byte goes out that is not in the segment, synced if that is asked for, but for answers between lines; at the end all is out. What
     // was appended is that of what the lines that came asked for, one by one, and each was answered so.
-    ensures order { (point : Point) → IsAt point (I.came input.old) lines.old → ServesInOrder engine.entry count manner owed point (I.came input.new) lines.new (N.has_decided reports.new) is_synced (first_line begun.now) (D.steps disk) (D.steps result.0) result.1 }
+    ensures order { (point : Point) → IsAt point (I.came input.old) lines.old → ServesInOrder engine.entry count manner N.may_refuse owed point (I.came input.new) lines.new (N.has_decided reports.new) is_synced (first_line begun.now) (D.steps disk) (D.steps result.0) result.1 }
     // What was appended continues the history behind the engine.
     ensures told { (records : List TheRecord) → IsBehind records engine.entry → count ≡ length records → Continues engine.entry.setup manner records (kept_so_far (D.steps disk)) result.1 (kept_so_far (D.steps result.0)) }
     ensures unread { result.1 ≡ Err (Fault Unread) → IsTrue (I.has_failed input.new) }
@@ -124,7 +124,7 @@ fn serve_ordered<O: Order, D: Disk, I: Input, N: Reports>(
     requires behind { StandsBehind count engine }
     requires begun { IsTrue lines.old.is_ended → IsTrue (I.has_ended input.old) }
     requires stands { IsSomewhere (I.came input.old) lines.old }
-    ensures order { (point : Point) → IsAt point (I.came input.old) lines.old → ServesInOrder engine.entry count manner owed point (I.came input.new) lines.new (N.has_decided reports.new) O.is_synced O.first O.before (D.steps result.0) result.1 }
+    ensures order { (point : Point) → IsAt point (I.came input.old) lines.old → ServesInOrder engine.entry count manner N.may_refuse owed point (I.came input.new) lines.new (N.has_decided reports.new) O.is_synced O.first O.before (D.steps result.0) result.1 }
     ensures told { (records : List TheRecord) → IsBehind records engine.entry → count ≡ length records → Continues engine.entry.setup manner records (kept_so_far (D.steps disk)) result.1 (kept_so_far (D.steps result.0)) }
     ensures unread { result.1 ≡ Err (Fault Unread) → IsTrue (I.has_failed input.new) }
     ensures still { OnOk result.1 (I.has_failed input.new ≡ I.has_failed input.old) }

@@ -7,7 +7,7 @@ use Rattle.host_journal.proofs.Started.{unbegun_stops}
 use Rattle.host_journal.proofs.serving.serve.Goals as goal
 
 pub returns-in-Err-clause-told : goal.returns-in-Err-clause-told
-returns-in-Err-clause-told g c = λ records behind are. continues_none c.args.engine records (kept_so_far (g.D.Disk.steps c.args.disk)) behind
+returns-in-Err-clause-told g c = λ records behind are. continues_none c.args.engine c.args.manner records (kept_so_far (g.D.Disk.steps c.args.disk)) behind
 
 pub returns-in-Err-clause-order : goal.returns-in-Err-clause-order
 returns-in-Err-clause-order g c = λ point at. record {
@@ -15,7 +15,7 @@ returns-in-Err-clause-order g c = λ point at. record {
   in_order = unserved c.args.is_synced (first_line c.args.begun.now) (g.D.Disk.steps c.args.disk) [] _;
   given = [];
   owed_is = none_owed Bool c.args.manner c.args.owed c.in-Err.error (kept_so_far (g.D.Disk.steps c.args.disk));
-  turned = λ records behind are. unturned c.args.engine c.args.manner point (g.I.Input.came c.args.input.now) c.args.lines.now records (kept_so_far (g.D.Disk.steps c.args.disk)) (Some []) at behind;
+  turned = λ records behind are. unturned c.args.engine c.args.manner g.N.Reports.may_refuse point (g.I.Input.came c.args.input.now) c.args.lines.now (g.N.Reports.has_decided c.args.reports.now) records (kept_so_far (g.D.Disk.steps c.args.disk)) (Some []) at behind;
 }
 
 pub returns-in-Err-clause-fault : goal.returns-in-Err-clause-fault

@@ -129,6 +129,10 @@ struct ManifestFile<'a, R: Files + AllocGlobal> {
 }
 
 impl<R: Files + AllocGlobal> GivenManifest for ManifestFile<'_, R> {
+    ghost use Rattle.std.specs.Prelude.{⊤};
+
+    ghost may_read = { λ reading. ⊤ };
+
     fn read_again(&mut self, _alloc: Global) -> Result<Option<Vec<u8>>, ManifestUnread> {
         let Some(path) = self.path else {
             return Ok(None);

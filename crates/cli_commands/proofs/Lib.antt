@@ -6,3 +6,4 @@ pub mod Starting
 pub mod Accepted
 mod Counted
 pub mod Alone
+pub mod Decided

@@ -15,15 +15,16 @@ use Rattle.host_journal.specs.Made.{IsFirst}
 use Rattle.host_journal.specs.declared.beginning.Begun.{Begun}
 use Rattle.host_journal.specs.declared.fault.JournalFault.{JournalFault}
 use Rattle.host_journal.specs.declared.fault.JournalFault.TheVariants as faults
-use Rattle.cli_commands.specs.Journaling.{HasOpened, IfServed, IsOwn, IsServedTo, IsStatus, IsStatusOf, IsUncounted, ServesOn, Starts, at_its_end, made, not_made, status_of_fault, uncounted}
+use Rattle.cli_commands.specs.Journaling.{HasOpened, IfServed, IsOwn, IsServedTo, IsStatus, IsStatusOf, ServesOn, Starts, at_its_end, made, not_made, status_of_fault}
+use Rattle.cli_commands.specs.Readings.{Reading}
 use Rattle.cli_commands.specs.declared.serving.Outcome.{Outcome}
 use Rattle.cli_commands.specs.declared.serving.Outcome.TheVariants.{Ended, Followed}
 
 -- the same, of what the folder holds and the manifest that is given
-pub starts_so : (manner : Manner) (is_synced : Bool) (held others : Held) (given its : Option (List ℕ)) (old new : Option (List Step)) (began came : Option CameState) (status : ℕ) → others ≡ held → its ≡ given
-    → Starts manner is_synced others its old began new came status → Starts manner is_synced held given old began new came status
-starts_so manner is_synced held others given its old new began came status same is starts =
-    subst (λ (h : Held). Starts manner is_synced h given old began new came status) same (subst (λ (o : Option (List ℕ)). Starts manner is_synced others o old began new came status) is starts)
+pub starts_so : {MayRead : Reading → Type 0} (manner : Manner) (is_synced : Bool) (held others : Held) (given its : Option (List ℕ)) (old new : Option (List Step)) (began came : Option CameState) (status : ℕ) → others ≡ held → its ≡ given
+    → Starts MayRead manner is_synced others its old began new came status → Starts MayRead manner is_synced held given old began new came status
+starts_so {MayRead = MayRead} manner is_synced held others given its old new began came status same is starts =
+    subst (λ (h : Held). Starts MayRead manner is_synced h given old began new came status) same (subst (λ (o : Option (List ℕ)). Starts MayRead manner is_synced others o old began new came status) is starts)
 
 fault_some : (fault : JournalFault) → 1 ≤ status_of_fault fault
 fault_some faults.Foreign = omega (arith)
@@ -59,12 +60,11 @@ no_end error status is none = absurd (omega (arith, is_some error status is, non
 -- ---- what is served of an outcome
 
 -- nothing more is served
-pub ended_of : (manner : Manner) (is_synced : Bool) (P : Option (List Step) → Option CameState → ℕ → Type 0) (s : ℕ) (outcome : Outcome) (steps : Option (List Step)) (came : Option CameState) (lines : Lines) (new : Option (List Step)) (last : Option CameState) (status : ℕ) → outcome ≡ Ended s → P steps came s
-    → ServesOn manner is_synced outcome steps came lines new last status → P new last status
+pub ended_of : {MayRead : Reading → Type 0} (manner : Manner) (is_synced : Bool) (P : Option (List Step) → Option CameState → ℕ → Type 0) (s : ℕ) (outcome : Outcome) (steps : Option (List Step)) (came : Option CameState) (lines : Lines) (new : Option (List Step)) (last : Option CameState) (status : ℕ) → outcome ≡ Ended s → P steps came s
+    → ServesOn MayRead manner is_synced outcome steps came lines new last status → P new last status
 ended_of manner is_synced P s outcome steps came lines new last status is p (at_its_end own same it its) = let one : s ≡ own = (let bad = is in cc) in subst (λ (n : ℕ). P same it n) one p
 ended_of manner is_synced P s outcome steps came lines new last status is p (not_made next begun later old opened it its error own by opens prepares told) = absurd (let bad : Followed next ≡ Ended s = is in cc)
 ended_of manner is_synced P s outcome steps came lines new last status is p (made next begun later after old opened mid one began it its from more what own by opens prepares served on) = absurd (let bad : Followed next ≡ Ended s = is in cc)
-ended_of manner is_synced P s outcome steps came lines new last status is p (uncounted next same it its) = absurd (let bad : Followed next ≡ Ended s = is in cc)
 
 -- what holds of one that is no failure
 pub served_if : {A : Type 0} (outcome : Outcome) → A → IfServed outcome A
@@ -86,8 +86,8 @@ at_begun begun point came lines at = record {
 }
 
 -- an engine was served with these lines, from whatever reading the clock began
-pub first_served : (begun : ℕ) (engine : NumberedState) (count : ℕ) (segment : Begun) (own : List ℕ) (manner : Manner) (is_synced : Bool) (owed : Option ℕ) (old : Option (List Step)) (began : Option CameState) (lines then : Lines) (new : Option (List Step)) (came : Option CameState) (later : Lines) (outcome : Outcome)
-    → then ≡ record lines { begun = begun } → IsServedTo engine count segment own manner is_synced owed old began then new came later outcome → IsServedTo engine count segment own manner is_synced owed old began lines new came later outcome
+pub first_served : {MayRead : Reading → Type 0} (begun : ℕ) (engine : NumberedState) (count : ℕ) (segment : Begun) (own : List ℕ) (manner : Manner) (is_synced : Bool) (owed : Option ℕ) (old : Option (List Step)) (began : Option CameState) (lines then : Lines) (new : Option (List Step)) (came : Option CameState) (later : Lines) (outcome : Outcome)
+    → then ≡ record lines { begun = begun } → IsServedTo MayRead engine count segment own manner is_synced owed old began then new came later outcome → IsServedTo MayRead engine count segment own manner is_synced owed old began lines new came later outcome
 first_served begun engine count segment own manner is_synced owed old began lines then new came later outcome same it = record {
   result = it.result;
   next = it.next;
@@ -101,11 +101,11 @@ pub somewhere_begun : (begun : ℕ) (point : Point) (came : Option CameState) (l
 somewhere_begun begun point came lines then same at = (point, subst (IsAt point came) (sym same) (at_begun begun point came lines at))
 
 -- an engine was served with the manifest of these bytes, and owes an answer to this line
-pub owned_served : (engine : NumberedState) (count : ℕ) (segment : Begun) (own its : List ℕ) (manner : Manner) (is_synced : Bool) (n number : ℕ) (old : Option (List Step)) (began : Option CameState) (lines : Lines) (new : Option (List Step)) (came : Option CameState) (later : Lines) (outcome : Outcome)
-    → own ≡ its → n ≡ number → IsServedTo engine count segment own manner is_synced (Some n) old began lines new came later outcome → IsServedTo engine count segment its manner is_synced (Some number) old began lines new came later outcome
-owned_served engine count segment own its manner is_synced n number old began lines new came later outcome same is it =
-    subst (λ (m : ℕ). IsServedTo engine count segment its manner is_synced (Some m) old began lines new came later outcome) is
-    (subst (λ (o : List ℕ). IsServedTo engine count segment o manner is_synced (Some n) old began lines new came later outcome) same it)
+pub owned_served : {MayRead : Reading → Type 0} (engine : NumberedState) (count : ℕ) (segment : Begun) (own its : List ℕ) (manner : Manner) (is_synced : Bool) (n number : ℕ) (old : Option (List Step)) (began : Option CameState) (lines : Lines) (new : Option (List Step)) (came : Option CameState) (later : Lines) (outcome : Outcome)
+    → own ≡ its → n ≡ number → IsServedTo MayRead engine count segment own manner is_synced (Some n) old began lines new came later outcome → IsServedTo MayRead engine count segment its manner is_synced (Some number) old began lines new came later outcome
+owned_served {MayRead = MayRead} engine count segment own its manner is_synced n number old began lines new came later outcome same is it =
+    subst (λ (m : ℕ). IsServedTo MayRead engine count segment its manner is_synced (Some m) old began lines new came later outcome) is
+    (subst (λ (o : List ℕ). IsServedTo MayRead engine count segment o manner is_synced (Some n) old began lines new came later outcome) same it)
 
 -- ---- the manifest of a segment that was shut
 
@@ -115,8 +115,3 @@ own_cases X F (Some bytes) begun recovered own opens ended = absurd (let bad : f
 
 pub own_text : (held : Held) (given : Option (List ℕ)) (old : Option (List Step)) (begun : Begun) (recovered : Recovered) (new : Option (List Step)) (own : List ℕ) → IsOwn held begun own → HasOpened held given old begun recovered new → recovered.is_ended ≡ true → IsText (held.manifests begun.number) own
 own_text held given old begun recovered new own is opened ended = own_cases _ _ begun.manifest begun recovered is opened.opens ended
-
--- nothing more is served
-pub uncounted_on : (manner : Manner) (is_synced : Bool) (outcome : Outcome) (steps : Option (List Step)) (came : Option CameState) (lines : Lines) (status : ℕ) → IsUncounted outcome status → ServesOn manner is_synced outcome steps came lines steps came status
-uncounted_on manner is_synced (Ended s) steps came lines status is = subst (ServesOn manner is_synced (Ended s) steps came lines steps came) (sym is) (at_its_end s steps came lines)
-uncounted_on manner is_synced (Followed next) steps came lines status is = subst (ServesOn manner is_synced (Followed next) steps came lines steps came) (sym is) (uncounted next steps came lines)

@@ -6,3 +6,4 @@ pub mod Told
 pub mod Writing
 pub mod Following
 pub mod Alone
+pub mod Readings

@@ -1,9 +1,11 @@
 // What is told of a live engine beside its trace, and whether another engine follows it. It relies on `host_journal` for the segment that
 // follows.
 
-ghost use Rattle.std.specs.Prelude.{◌≡◌, IfOk, false, true};
+ghost use Rattle.std.specs.Prelude.{◌≡◌, Err, IfErr, IfOk, IfSome, MatchOption, false, true};
 ghost use Rattle.host_journal.specs.Follows.{bytes_of};
-ghost use Rattle.cli_commands.specs.Following.{IsDecidedBy, IsFollowing, IsKept, IsNextOf, numbering_of};
+ghost use Rattle.cli_commands.specs.Following.{IsDecidedBy, IsFollowing, IsKept, IsNextOf, IsNoneBy, IsToldWhy, MayRefuse, numbering_of, unfollowed_of};
+ghost use Rattle.cli_commands.specs.Readings.{held, not_given, unreadable};
+ghost use Rattle.cli_commands.specs.declared.following.ManifestUnread.TheVariants.{Failed};
 
 use crate::fault::Fault;
 use base::OrMemory;
@@ -25,10 +27,16 @@ pub enum ManifestUnread {
     OutOfMemory,
 }
 
-/// The manifest that is given, whose file may have changed since.
+/// The manifest that is given, whose file may have changed since. Contracts see what it may hold whenever it is read.
 pub trait GivenManifest {
+    ghost use Rattle.cli_commands.specs.Readings.{Reading};
+
+    ghost may_read: { Reading → Type 0 };
+
     /// Reads its bytes again; `None` if none is given.
-    fn read_again(&mut self, alloc: Global) -> Result<Option<Vec<u8>>, ManifestUnread>;
+    fn read_again(&mut self, alloc: Global) -> Result<Option<Vec<u8>>, ManifestUnread>
+        ensures read { IfOk result (λ it. MatchOption it (may_read not_given) (λ bytes. may_read (held bytes.items))) }
+        ensures failed { result ≡ Err Failed → may_read unreadable };
 }
 
 /// A segment that is to be made, or a trace that is to be begun: its number, its manifest, what that says, and the lines of what its engine
@@ -75,9 +83,11 @@ pub(crate) struct Desk<'e, 'g, 'p, 'o, M: GivenManifest, E: Write, F: InForce> {
 }
 
 impl<M: GivenManifest, E: Write, F: InForce> Reports for Desk<'_, '_, '_, '_, M, E, F> {
-    ghost use Rattle.cli_commands.specs.Following.{IsFollowing};
+    ghost use Rattle.cli_commands.specs.Following.{IsFollowing, MayRefuse};
 
-    ghost has_decided = { λ desk how engine. IsFollowing F.number F.own how engine desk.next };
+    ghost has_decided = { λ desk how engine. IsFollowing M.may_read F.number F.own how engine desk.next };
+
+    ghost may_refuse = { MayRefuse M.may_read F.number F.own };
 
     fn refused(&mut self, fault: LineFault, line: usize) {
         let _ = match fault {
@@ -156,7 +166,8 @@ impl<M: GivenManifest, E: Write, F: InForce> Desk<'_, '_, '_, '_, M, E, F> {
         engine: &NumberedEngine<'_>,
     ) -> Result<Option<Unfollowed>, AllocError>
         requires { how.is_reloaded ≡ false }
-        ensures { IfOk result (λ why. IsDecidedBy why (IsFollowing F.number F.own how engine.now self.new.next)) }
+        ensures decided { IfOk result (λ why. IsDecidedBy why (IsFollowing M.may_read F.number F.own how engine.now self.new.next)) }
+        ensures refused { IfOk result (λ it. IfSome it (MayRefuse M.may_read F.number F.own how engine.now)) }
     {
         let bytes = copied(self.alloc, self.own)?;
         let next = next_of(self.alloc, self.number, engine, how, bytes);
@@ -170,14 +181,11 @@ impl<M: GivenManifest, E: Write, F: InForce> Desk<'_, '_, '_, '_, M, E, F> {
         engine: &NumberedEngine<'_>,
     ) -> Result<Option<Unfollowed>, AllocError>
         requires { how.is_reloaded ≡ true }
-        ensures { IfOk result (λ why. IsDecidedBy why (IsFollowing F.number F.own how engine.now self.new.next)) }
+        ensures decided { IfOk result (λ why. IsDecidedBy why (IsFollowing M.may_read F.number F.own how engine.now self.new.next)) }
+        ensures refused { IfOk result (λ it. IfSome it (MayRefuse M.may_read F.number F.own how engine.now)) }
     {
         match self.given.read_again(self.alloc) {
-            Ok(Some(bytes)) => {
-                let next = next_of(self.alloc, self.number, engine, how, bytes);
-                self.decide(next)
-            }
-            Ok(None) => Ok(Some(Unfollowed::NoManifest)),
+            Ok(read) => self.follow_read(how, engine, read),
             Err(ManifestUnread::Failed) => {
                 let _ = Fault::File(self.path).report(self.err);
                 Ok(Some(Unfollowed::Manifest))
@@ -186,9 +194,31 @@ impl<M: GivenManifest, E: Write, F: InForce> Desk<'_, '_, '_, '_, M, E, F> {
         }
     }
 
+    // With what was read of the manifest that is given, if one is.
+    fn follow_read(
+        &mut self,
+        how: Succession,
+        engine: &NumberedEngine<'_>,
+        read: Option<Vec<u8>>,
+    ) -> Result<Option<Unfollowed>, AllocError>
+        requires reloaded { how.is_reloaded ≡ true }
+        requires read { MatchOption read (M.may_read not_given) (λ bytes. M.may_read (held bytes.items)) }
+        ensures decided { IfOk result (λ why. IsDecidedBy why (IsFollowing M.may_read F.number F.own how engine.now self.new.next)) }
+        ensures refused { IfOk result (λ it. IfSome it (MayRefuse M.may_read F.number F.own how engine.now)) }
+    {
+        match read {
+            Some(bytes) => {
+                let next = next_of(self.alloc, self.number, engine, how, bytes);
+                self.decide(next)
+            }
+            None => Ok(Some(Unfollowed::NoManifest)),
+        }
+    }
+
     // Keeps what is to follow, or reports why nothing does.
     fn decide(&mut self, next: Result<Next, JournalError>) -> Result<Option<Unfollowed>, AllocError>
-        ensures { IfOk result (λ why. IsDecidedBy why (IsKept next self.new.next)) }
+        ensures decided { IfOk result (λ why. IsDecidedBy why (IsKept next self.new.next)) }
+        ensures refused { IfOk result (λ it. IfSome it (IsToldWhy next)) }
     {
         match next {
             Ok(next) => {
@@ -201,7 +231,9 @@ impl<M: GivenManifest, E: Write, F: InForce> Desk<'_, '_, '_, '_, M, E, F> {
     }
 
     // Reports what is wrong with a manifest.
-    fn unfollowed(&mut self, fault: &JournalFault) -> Unfollowed {
+    fn unfollowed(&mut self, fault: &JournalFault) -> Unfollowed
+        ensures { result ≡ unfollowed_of fault.now }
+    {
         let _ = match fault {
             JournalFault::DoesNotFit => return Unfollowed::DoesNotFit,
             JournalFault::Given(fault) | JournalFault::Manifest(_, fault) => {
@@ -243,6 +275,7 @@ fn next_of(
 ) -> Result<Next, JournalError>
     ensures next { IfOk result (IsNextOf number how engine.now) }
     ensures bytes { IfOk result (λ next. next.bytes.items ≡ bytes.items) }
+    ensures refused { IfErr result (IsNoneBy number engine.now bytes.items) }
 {
     let manifest = manifest_of(how, bytes.as_slice());
     match follow(alloc, number, engine, manifest, numbering_of(how)) {

@@ -7,13 +7,13 @@ ghost use Rattle.host_live.specs.Inputs.{CameState};
 ghost use Rattle.host_live.specs.Turns.{IsSomewhere};
 ghost use Rattle.host_journal.specs.Disks.{Held, Step};
 ghost use Rattle.host_journal.specs.Starts.{Finds, HasEntered};
-ghost use Rattle.cli_commands.specs.Journaling.{HasNext, HasOpened, HasStatus, IfEnded, IfFollowed, IfServed, IsFirstLines, IsNextGiven, IsOfMade, IsOutcome, IsOwn, IsServedTo, ServesOn, Starts};
+ghost use Rattle.cli_commands.specs.Journaling.{HasNext, HasOpened, HasStatus, IfEnded, IfFollowed, IfServed, IsFirstLines, IsNextGiven, IsOfMade, IsOnward, IsOutcome, IsOwn, IsServedTo, ServesOn, Starts};
 ghost use Rattle.cli_commands.specs.declared.serving.Outcome.TheVariants.{Followed};
 
 use crate::fault::Fault;
 use crate::following::{Desk, GivenManifest, InForce, Next};
 use crate::journal_reports::{Place, report, report_carried, report_recovered};
-use crate::serving::{Outcome, followed, uncounted};
+use crate::serving::{Outcome, followed};
 use engine_core::NumberedEngine;
 use engine_succession::Numbering;
 use host_journal::{
@@ -43,7 +43,7 @@ pub fn serve_journal<D: Disk, I: Input, M: GivenManifest, E: Write>(
     ensures status { result.1 ≤ 2 }
     // Why it was refused; or which segment was begun or recovered, what the lines of the input led to, which segments followed, and in which
     // order each segment and standard output were written.
-    ensures starts { Starts manner is_synced (D.held disk) (option_map (λ file. file.1.now) manifest.entry) (D.steps disk) (I.came input.old) (D.steps result.0) (I.came input.new) result.1 }
+    ensures starts { Starts M.may_read manner is_synced (D.held disk) (option_map (λ file. file.1.now) manifest.entry) (D.steps disk) (I.came input.old) (D.steps result.0) (I.came input.new) result.1 }
     // All of the input was read, and no read failed. Only where lines are answered one of them may end it.
     ensures read { result.1 ≡ 0 → I.has_failed input.new ≡ I.has_failed input.old }
     ensures ended { manner.is_told ≡ false → result.1 ≡ 0 → IsTrue (I.has_ended input.new) }
@@ -108,11 +108,11 @@ fn serve_rest<D: Disk, I: Input, M: GivenManifest, E: Write>(
     requires stands { IfFollowed outcome (IsSomewhere (I.came input.old) lines.old) }
     requires status { HasStatus outcome }
     ensures status { result.1 ≤ 2 }
-    ensures rest { ServesOn terms.entry.manner terms.entry.is_synced outcome (D.steps disk) (I.came input.old) lines.old (D.steps result.0) (I.came input.new) result.1 }
+    ensures rest { ServesOn M.may_read terms.entry.manner terms.entry.is_synced outcome (D.steps disk) (I.came input.old) lines.old (D.steps result.0) (I.came input.new) result.1 }
     ensures read { (failed : Bool) → IfServed outcome (I.has_failed input.old ≡ failed) → result.1 ≡ 0 → I.has_failed input.new ≡ failed }
     ensures ended { terms.entry.manner.is_told ≡ false → IfEnded outcome (IsTrue (I.has_ended input.old)) → result.1 ≡ 0 → IsTrue (I.has_ended input.new) }
 {
-    for _ in 0..u64::MAX {
+    loop {
         match outcome {
             Outcome::Ended(status) => return (disk, status),
             Outcome::Followed(next) => {
@@ -120,7 +120,6 @@ fn serve_rest<D: Disk, I: Input, M: GivenManifest, E: Write>(
             }
         }
     }
-    (disk, uncounted(&outcome, err))
 }
 
 // Makes the segment that follows, and serves its engine.
@@ -140,7 +139,8 @@ fn serve_next<D: Disk, I: Input, M: GivenManifest, E: Write>(
     ensures ended { terms.entry.manner.is_told ≡ false → IfEnded result.1 (IsTrue (I.has_ended input.new)) }
     ensures going { IfFollowed result.1 (IsTrue lines.new.is_ended → IsTrue (I.has_ended input.new)) }
     ensures stands { IfFollowed result.1 (IsSomewhere (I.came input.new) lines.new) }
-    ensures rest { (new : Option (List Step)) (last : Option CameState) (status : ℕ) → ServesOn terms.entry.manner terms.entry.is_synced result.1 (D.steps result.0) (I.came input.new) lines.new new last status → ServesOn terms.entry.manner terms.entry.is_synced (Followed next) (D.steps disk) (I.came input.old) lines.old new last status }
+    ensures onward { IsOnward next.number result.1 }
+    ensures rest { (new : Option (List Step)) (last : Option CameState) (status : ℕ) → ServesOn M.may_read terms.entry.manner terms.entry.is_synced result.1 (D.steps result.0) (I.came input.new) lines.new new last status → ServesOn M.may_read terms.entry.manner terms.entry.is_synced (Followed next) (D.steps disk) (I.came input.old) lines.old new last status }
 {
     let Next {
         number,
@@ -183,7 +183,7 @@ fn serve_begun<D: Disk, I: Input, M: GivenManifest, E: Write>(
     ensures ended { terms.entry.manner.is_told ≡ false → IfEnded result.1 (IsTrue (I.has_ended input.new)) }
     ensures going { IfFollowed result.1 (IsTrue lines.new.is_ended → IsTrue (I.has_ended input.new)) }
     ensures stands { IfFollowed result.1 (IsSomewhere (I.came input.new) lines.new) }
-    ensures starts { (held : Held) (old : Option (List Step)) → D.held disk ≡ held → Finds held (option_map (λ bytes. bytes.now) terms.entry.given) begun.now → HasEntered (option_map (λ bytes. bytes.now) terms.entry.given) old (D.steps disk) → (new : Option (List Step)) (last : Option CameState) (status : ℕ) → ServesOn terms.entry.manner terms.entry.is_synced result.1 (D.steps result.0) (I.came input.new) lines.new new last status → Starts terms.entry.manner terms.entry.is_synced held (option_map (λ bytes. bytes.now) terms.entry.given) old (I.came input.old) new last status }
+    ensures starts { (held : Held) (old : Option (List Step)) → D.held disk ≡ held → Finds held (option_map (λ bytes. bytes.now) terms.entry.given) begun.now → HasEntered (option_map (λ bytes. bytes.now) terms.entry.given) old (D.steps disk) → (new : Option (List Step)) (last : Option CameState) (status : ℕ) → ServesOn M.may_read terms.entry.manner terms.entry.is_synced result.1 (D.steps result.0) (I.came input.new) lines.new new last status → Starts M.may_read terms.entry.manner terms.entry.is_synced held (option_map (λ bytes. bytes.now) terms.entry.given) old (I.came input.old) new last status }
 {
     match begun.manifest {
         Some(own) => serve_owned(terms, disk, begun, own, given, input, lines, err),
@@ -209,7 +209,7 @@ fn serve_found<D: Disk, I: Input, M: GivenManifest, E: Write>(
     ensures ended { terms.entry.manner.is_told ≡ false → IfEnded result.1 (IsTrue (I.has_ended input.new)) }
     ensures going { IfFollowed result.1 (IsTrue lines.new.is_ended → IsTrue (I.has_ended input.new)) }
     ensures stands { IfFollowed result.1 (IsSomewhere (I.came input.new) lines.new) }
-    ensures starts { (held : Held) (old : Option (List Step)) → D.held disk ≡ held → Finds held (option_map (λ bytes. bytes.now) terms.entry.given) begun.now → HasEntered (option_map (λ bytes. bytes.now) terms.entry.given) old (D.steps disk) → (new : Option (List Step)) (last : Option CameState) (status : ℕ) → ServesOn terms.entry.manner terms.entry.is_synced result.1 (D.steps result.0) (I.came input.new) lines.new new last status → Starts terms.entry.manner terms.entry.is_synced held (option_map (λ bytes. bytes.now) terms.entry.given) old (I.came input.old) new last status }
+    ensures starts { (held : Held) (old : Option (List Step)) → D.held disk ≡ held → Finds held (option_map (λ bytes. bytes.now) terms.entry.given) begun.now → HasEntered (option_map (λ bytes. bytes.now) terms.entry.given) old (D.steps disk) → (new : Option (List Step)) (last : Option CameState) (status : ℕ) → ServesOn M.may_read terms.entry.manner terms.entry.is_synced result.1 (D.steps result.0) (I.came input.new) lines.new new last status → Starts M.may_read terms.entry.manner terms.entry.is_synced held (option_map (λ bytes. bytes.now) terms.entry.given) old (I.came input.old) new last status }
 {
     match manifest_of(terms.alloc, &mut disk, begun.number) {
         Ok(own) => serve_owned(terms, disk, begun, own.as_slice(), given, input, lines, err),
@@ -235,7 +235,7 @@ fn serve_owned<D: Disk, I: Input, M: GivenManifest, E: Write>(
     ensures ended { terms.entry.manner.is_told ≡ false → IfEnded result.1 (IsTrue (I.has_ended input.new)) }
     ensures going { IfFollowed result.1 (IsTrue lines.new.is_ended → IsTrue (I.has_ended input.new)) }
     ensures stands { IfFollowed result.1 (IsSomewhere (I.came input.new) lines.new) }
-    ensures starts { (held : Held) (old : Option (List Step)) → D.held disk ≡ held → IsOwn held begun.now own.now → Finds held (option_map (λ bytes. bytes.now) terms.entry.given) begun.now → HasEntered (option_map (λ bytes. bytes.now) terms.entry.given) old (D.steps disk) → (new : Option (List Step)) (last : Option CameState) (status : ℕ) → ServesOn terms.entry.manner terms.entry.is_synced result.1 (D.steps result.0) (I.came input.new) lines.new new last status → Starts terms.entry.manner terms.entry.is_synced held (option_map (λ bytes. bytes.now) terms.entry.given) old (I.came input.old) new last status }
+    ensures starts { (held : Held) (old : Option (List Step)) → D.held disk ≡ held → IsOwn held begun.now own.now → Finds held (option_map (λ bytes. bytes.now) terms.entry.given) begun.now → HasEntered (option_map (λ bytes. bytes.now) terms.entry.given) old (D.steps disk) → (new : Option (List Step)) (last : Option CameState) (status : ℕ) → ServesOn M.may_read terms.entry.manner terms.entry.is_synced result.1 (D.steps result.0) (I.came input.new) lines.new new last status → Starts M.may_read terms.entry.manner terms.entry.is_synced held (option_map (λ bytes. bytes.now) terms.entry.given) old (I.came input.old) new last status }
 {
     match open(terms.alloc, &mut disk, begun) {
         Ok(recovered) => serve_opened(terms, disk, begun, own, recovered, given, input, lines, err),
@@ -264,7 +264,7 @@ fn serve_opened<D: Disk, I: Input, M: GivenManifest, E: Write>(
     ensures ended { terms.entry.manner.is_told ≡ false → IfEnded result.1 (IsTrue (I.has_ended input.new)) }
     ensures going { IfFollowed result.1 (IsTrue lines.new.is_ended → IsTrue (I.has_ended input.new)) }
     ensures stands { IfFollowed result.1 (IsSomewhere (I.came input.new) lines.new) }
-    ensures starts { (held : Held) (old : Option (List Step)) → IsOwn held begun.now own.now → HasOpened held (option_map (λ bytes. bytes.now) terms.entry.given) old begun.now recovered.entry (D.steps disk) → (new : Option (List Step)) (last : Option CameState) (status : ℕ) → ServesOn terms.entry.manner terms.entry.is_synced result.1 (D.steps result.0) (I.came input.new) lines.new new last status → Starts terms.entry.manner terms.entry.is_synced held (option_map (λ bytes. bytes.now) terms.entry.given) old (I.came input.old) new last status }
+    ensures starts { (held : Held) (old : Option (List Step)) → IsOwn held begun.now own.now → HasOpened held (option_map (λ bytes. bytes.now) terms.entry.given) old begun.now recovered.entry (D.steps disk) → (new : Option (List Step)) (last : Option CameState) (status : ℕ) → ServesOn M.may_read terms.entry.manner terms.entry.is_synced result.1 (D.steps result.0) (I.came input.new) lines.new new last status → Starts M.may_read terms.entry.manner terms.entry.is_synced held (option_map (λ bytes. bytes.now) terms.entry.given) old (I.came input.old) new last status }
 {
     if recovered.is_ended {
         return serve_after(
@@ -298,7 +298,7 @@ fn serve_first<D: Disk, I: Input, M: GivenManifest, E: Write>(
     ensures ended { terms.entry.manner.is_told ≡ false → IfEnded result.1 (IsTrue (I.has_ended input.new)) }
     ensures going { IfFollowed result.1 (IsTrue lines.new.is_ended → IsTrue (I.has_ended input.new)) }
     ensures stands { IfFollowed result.1 (IsSomewhere (I.came input.new) lines.new) }
-    ensures served { IsServedTo recovered.entry.engine recovered.entry.records begun.now own.now terms.entry.manner terms.entry.is_synced None (D.steps disk) (I.came input.old) lines.old (D.steps result.0) (I.came input.new) lines.new result.1 }
+    ensures served { IsServedTo M.may_read recovered.entry.engine recovered.entry.records begun.now own.now terms.entry.manner terms.entry.is_synced None (D.steps disk) (I.came input.old) lines.old (D.steps result.0) (I.came input.new) lines.new result.1 }
 {
     lines.begin_at(recovered.engine.clock());
     serve_engine(
@@ -328,7 +328,8 @@ fn serve_engine<D: Disk, I: Input, M: GivenManifest, E: Write>(
     ensures ended { terms.entry.manner.is_told ≡ false → IfEnded result.1 (IsTrue (I.has_ended input.new)) }
     ensures going { IfFollowed result.1 (IsTrue lines.new.is_ended → IsTrue (I.has_ended input.new)) }
     ensures stands { IfFollowed result.1 (IsSomewhere (I.came input.new) lines.new) }
-    ensures served { IsServedTo recovered.entry.engine recovered.entry.records begun.now own.now terms.entry.manner terms.entry.is_synced owed (D.steps disk) (I.came input.old) lines.old (D.steps result.0) (I.came input.new) lines.new result.1 }
+    ensures onward { IsOnward begun.now.number result.1 }
+    ensures served { IsServedTo M.may_read recovered.entry.engine recovered.entry.records begun.now own.now terms.entry.manner terms.entry.is_synced owed (D.steps disk) (I.came input.old) lines.old (D.steps result.0) (I.came input.new) lines.new result.1 }
 {
     serve_under::<Brand, D, I, M, E>(
         terms, disk, begun, own, recovered, owed, given, input, lines, err,
@@ -359,7 +360,8 @@ fn serve_under<F: InForce, D: Disk, I: Input, M: GivenManifest, E: Write>(
     ensures ended { terms.entry.manner.is_told ≡ false → IfEnded result.1 (IsTrue (I.has_ended input.new)) }
     ensures going { IfFollowed result.1 (IsTrue lines.new.is_ended → IsTrue (I.has_ended input.new)) }
     ensures stands { IfFollowed result.1 (IsSomewhere (I.came input.new) lines.new) }
-    ensures served { IsServedTo recovered.entry.engine recovered.entry.records begun.now own.now terms.entry.manner terms.entry.is_synced owed (D.steps disk) (I.came input.old) lines.old (D.steps result.0) (I.came input.new) lines.new result.1 }
+    ensures onward { IsOnward begun.now.number result.1 }
+    ensures served { IsServedTo M.may_read recovered.entry.engine recovered.entry.records begun.now own.now terms.entry.manner terms.entry.is_synced owed (D.steps disk) (I.came input.old) lines.old (D.steps result.0) (I.came input.new) lines.new result.1 }
 {
     let mut desk: Desk<M, E, F> = Desk {
         alloc: terms.alloc,
@@ -401,21 +403,23 @@ fn serve_under<F: InForce, D: Disk, I: Input, M: GivenManifest, E: Write>(
         next,
         of: _,
     } = desk;
-    (disk, outcome_of(terms, served, next, err))
+    (disk, outcome_of(terms, begun.number, served, next, err))
 }
 
-// What became of an engine that was served so, which that is to follow, if it was decided so.
+// What became of the engine of that number that was served so, which that is to follow, if it was decided so.
 fn outcome_of<E: Write>(
     terms: Terms<'_>,
+    number: u64,
     served: Result<bool, JournalError>,
     next: Option<Next>,
     err: &mut E,
 ) -> Outcome
-    ensures { IsOutcome served next result }
+    ensures is { IsOutcome number served next result }
+    ensures onward { IsOnward number result }
 {
     match served {
         Ok(false) => Outcome::Ended(0),
-        Ok(true) => followed(next, err),
+        Ok(true) => followed(number, next, err),
         Err(fault) => Outcome::Ended(report(terms.place, fault, err)),
     }
 }
@@ -441,7 +445,7 @@ fn serve_after<D: Disk, I: Input, M: GivenManifest, E: Write>(
     ensures ended { terms.entry.manner.is_told ≡ false → IfEnded result.1 (IsTrue (I.has_ended input.new)) }
     ensures going { IfFollowed result.1 (IsTrue lines.new.is_ended → IsTrue (I.has_ended input.new)) }
     ensures stands { IfFollowed result.1 (IsSomewhere (I.came input.new) lines.new) }
-    ensures starts { (held : Held) (old : Option (List Step)) → IsOwn held begun.now own.now → HasOpened held (option_map (λ bytes. bytes.now) terms.entry.given) old begun.now recovered.now (D.steps disk) → (new : Option (List Step)) (last : Option CameState) (status : ℕ) → ServesOn terms.entry.manner terms.entry.is_synced result.1 (D.steps result.0) (I.came input.new) lines.new new last status → Starts terms.entry.manner terms.entry.is_synced held (option_map (λ bytes. bytes.now) terms.entry.given) old (I.came input.old) new last status }
+    ensures starts { (held : Held) (old : Option (List Step)) → IsOwn held begun.now own.now → HasOpened held (option_map (λ bytes. bytes.now) terms.entry.given) old begun.now recovered.now (D.steps disk) → (new : Option (List Step)) (last : Option CameState) (status : ℕ) → ServesOn M.may_read terms.entry.manner terms.entry.is_synced result.1 (D.steps result.0) (I.came input.new) lines.new new last status → Starts M.may_read terms.entry.manner terms.entry.is_synced held (option_map (λ bytes. bytes.now) terms.entry.given) old (I.came input.old) new last status }
 {
     match terms.given {
         Some(bytes) => {
@@ -479,7 +483,7 @@ fn serve_following<D: Disk, I: Input, M: GivenManifest, E: Write>(
     ensures ended { terms.entry.manner.is_told ≡ false → IfEnded result.1 (IsTrue (I.has_ended input.new)) }
     ensures going { IfFollowed result.1 (IsTrue lines.new.is_ended → IsTrue (I.has_ended input.new)) }
     ensures stands { IfFollowed result.1 (IsSomewhere (I.came input.new) lines.new) }
-    ensures starts { (held : Held) (old : Option (List Step)) → IsNextGiven (option_map (λ bytes. bytes.now) terms.entry.given) (held.manifests begun.now.number) manifest.entry → HasOpened held (option_map (λ bytes. bytes.now) terms.entry.given) old begun.now recovered.now (D.steps disk) → (new : Option (List Step)) (last : Option CameState) (status : ℕ) → ServesOn terms.entry.manner terms.entry.is_synced result.1 (D.steps result.0) (I.came input.new) lines.new new last status → Starts terms.entry.manner terms.entry.is_synced held (option_map (λ bytes. bytes.now) terms.entry.given) old (I.came input.old) new last status }
+    ensures starts { (held : Held) (old : Option (List Step)) → IsNextGiven (option_map (λ bytes. bytes.now) terms.entry.given) (held.manifests begun.now.number) manifest.entry → HasOpened held (option_map (λ bytes. bytes.now) terms.entry.given) old begun.now recovered.now (D.steps disk) → (new : Option (List Step)) (last : Option CameState) (status : ℕ) → ServesOn M.may_read terms.entry.manner terms.entry.is_synced result.1 (D.steps result.0) (I.came input.new) lines.new new last status → Starts M.may_read terms.entry.manner terms.entry.is_synced held (option_map (λ bytes. bytes.now) terms.entry.given) old (I.came input.old) new last status }
 {
     let engine = &recovered.engine;
     match follow(terms.alloc, begun.number, engine, manifest, Numbering::Same) {
@@ -515,7 +519,7 @@ fn serve_made<D: Disk, I: Input, M: GivenManifest, E: Write>(
     ensures ended { terms.entry.manner.is_told ≡ false → IfEnded result.1 (IsTrue (I.has_ended input.new)) }
     ensures going { IfFollowed result.1 (IsTrue lines.new.is_ended → IsTrue (I.has_ended input.new)) }
     ensures stands { IfFollowed result.1 (IsSomewhere (I.came input.new) lines.new) }
-    ensures starts { (held : Held) (old : Option (List Step)) → IsOfMade next.now own.now → HasNext held (option_map (λ bytes. bytes.now) terms.entry.given) old next.now (D.steps disk) → (new : Option (List Step)) (last : Option CameState) (status : ℕ) → ServesOn terms.entry.manner terms.entry.is_synced result.1 (D.steps result.0) (I.came input.new) lines.new new last status → Starts terms.entry.manner terms.entry.is_synced held (option_map (λ bytes. bytes.now) terms.entry.given) old (I.came input.old) new last status }
+    ensures starts { (held : Held) (old : Option (List Step)) → IsOfMade next.now own.now → HasNext held (option_map (λ bytes. bytes.now) terms.entry.given) old next.now (D.steps disk) → (new : Option (List Step)) (last : Option CameState) (status : ℕ) → ServesOn M.may_read terms.entry.manner terms.entry.is_synced result.1 (D.steps result.0) (I.came input.new) lines.new new last status → Starts M.may_read terms.entry.manner terms.entry.is_synced held (option_map (λ bytes. bytes.now) terms.entry.given) old (I.came input.old) new last status }
 {
     match open(terms.alloc, &mut disk, next) {
         Ok(recovered) => {

@@ -13,9 +13,9 @@ ghost use Rattle.host_live.specs.declared.lines.Lines.{Lines as TheLines};
 ghost use Rattle.host_journal.specs.Made.{IsFirstEngine, made_of};
 ghost use Rattle.cli_commands.specs.Alone.{GoesAlone, HasStatusAlone, IsFirstOf, IsOutcomeAlone, IsServedFrom, IsTraceFirst, ServedAlone, owed_of};
 ghost use Rattle.cli_commands.specs.Faults.{status_of};
-ghost use Rattle.cli_commands.specs.Journaling.{HasFollowed, IfEnded, IfFollowed, IfServed, IsFirstLines, IsUncounted};
+ghost use Rattle.cli_commands.specs.Journaling.{HasFollowed, IfEnded, IfFollowed, IfServed, IsFirstLines, IsOnward};
 ghost use Rattle.cli_commands.specs.Told.{IsFaultyManifest, IsManifest, IsServing};
-ghost use Rattle.cli_commands.specs.declared.serving.Outcome.TheVariants.{Followed};
+ghost use Rattle.cli_commands.specs.declared.serving.Outcome.TheVariants.{Ended, Followed};
 
 use crate::fault::Fault;
 use crate::files::text;
@@ -60,7 +60,7 @@ pub fn serve<I: Input, S: Outlet, M: GivenManifest, E: Write>(
     ensures done { result ≡ 0 → IsManifest manifest.entry.1.now }
     // All that went out is the trace of an engine of the manifest, and of each engine that followed, by what the lines that came asked for, one
     // by one; and each was answered so. Where it stopped, it is a front of that.
-    ensures served { ServedAlone manifest.entry.1.now manner (I.came input.old) (I.came input.new) (S.bytes out.old) (S.answers out.old) (S.bytes out.new) (S.answers out.new) result }
+    ensures served { ServedAlone M.may_read manifest.entry.1.now manner (I.came input.old) (I.came input.new) (S.bytes out.old) (S.answers out.old) (S.bytes out.new) (S.answers out.new) result }
     // A replay over the manifest accepts what went out first.
     ensures accepted { result ≡ 0 → IsTraceFirst manifest.entry.1.now (S.bytes out.old) (S.bytes out.new) }
     // It is at its end only if no read failed, and all of the input was read, or where lines are answered one of them ended it.
@@ -120,32 +120,18 @@ fn serve_all<I: Input, S: Outlet, M: GivenManifest, E: Write>(
     err: &mut E,
 ) -> u8
     ensures status { (result ≤ 2) × (result ≢ 1) }
-    ensures served { (lines : TheLines) × IsFirstLines (I.came input.old) lines × GoesAlone manner (Followed first) (I.came input.old) lines (S.bytes out.old) (S.answers out.old) (I.came input.new) (S.bytes out.new) (S.answers out.new) result }
+    ensures served { (lines : TheLines) × IsFirstLines (I.came input.old) lines × GoesAlone M.may_read manner (Followed first) (I.came input.old) lines (S.bytes out.old) (S.answers out.old) (I.came input.new) (S.bytes out.new) (S.answers out.new) result }
     ensures read { result ≡ 0 → I.has_failed input.new ≡ I.has_failed input.old }
     ensures ended { manner.is_told ≡ false → result ≡ 0 → IsTrue (I.has_ended input.new) }
 {
     let mut lines = Lines::of(input, 0);
     let mut outcome = Outcome::Followed(first);
-    for _ in 0..u64::MAX {
+    loop {
         match outcome {
             Outcome::Ended(status) => return status,
             Outcome::Followed(next) => {
                 outcome = serve_next(place, next, manner, given, input, &mut lines, out, err);
             }
-        }
-    }
-    uncounted(&outcome, err)
-}
-
-/// The status where nothing more is served, which is reported if another engine was to follow.
-pub(crate) fn uncounted<E: Write>(outcome: &Outcome, err: &mut E) -> u8
-    ensures { IsUncounted outcome.now result }
-{
-    match outcome {
-        Outcome::Ended(status) => *status,
-        Outcome::Followed(_) => {
-            let _ = Fault::InternalError.report(err);
-            2
         }
     }
 }
@@ -168,7 +154,8 @@ fn serve_next<I: Input, S: Outlet, M: GivenManifest, E: Write>(
     ensures ended { manner.is_told ≡ false → IfEnded result (IsTrue (I.has_ended input.new)) }
     ensures going { IfFollowed result (IsTrue lines.new.is_ended → IsTrue (I.has_ended input.new)) }
     ensures stands { IfFollowed result (IsSomewhere (I.came input.new) lines.new) }
-    ensures rest { (last : Option CameState) (at : Option (List ℕ)) (told : Option (List Answer)) (status : ℕ) → GoesAlone manner result (I.came input.new) lines.new (S.bytes out.new) (S.answers out.new) last at told status → GoesAlone manner (Followed next) (I.came input.old) lines.old (S.bytes out.old) (S.answers out.old) last at told status }
+    ensures onward { IsOnward next.number result }
+    ensures rest { (last : Option CameState) (at : Option (List ℕ)) (told : Option (List Answer)) (status : ℕ) → GoesAlone M.may_read manner result (I.came input.new) lines.new (S.bytes out.new) (S.answers out.new) last at told status → GoesAlone M.may_read manner (Followed next) (I.came input.old) lines.old (S.bytes out.old) (S.answers out.old) last at told status }
 {
     let Next {
         number,
@@ -257,7 +244,8 @@ fn serve_begun<I: Input, S: Outlet, M: GivenManifest, E: Write>(
     ensures ended { manner.is_told ≡ false → IfEnded result (IsTrue (I.has_ended input.new)) }
     ensures going { IfFollowed result (IsTrue lines.new.is_ended → IsTrue (I.has_ended input.new)) }
     ensures stands { IfFollowed result (IsSomewhere (I.came input.new) lines.new) }
-    ensures served { IsServedFrom begun.now.number own.now engine.entry manner (owed_of (items_of begun.now.carried) lines.old.number) (I.came input.old) lines.old (S.bytes out.old) (S.answers out.old) (I.came input.new) lines.new (S.bytes out.new) (S.answers out.new) result }
+    ensures onward { IsOnward begun.now.number result }
+    ensures served { IsServedFrom M.may_read begun.now.number own.now engine.entry manner (owed_of (items_of begun.now.carried) lines.old.number) (I.came input.old) lines.old (S.bytes out.old) (S.answers out.old) (I.came input.new) lines.new (S.bytes out.new) (S.answers out.new) result }
 {
     serve_under::<Brand, I, S, M, E>(
         place, begun, own, engine, manner, given, input, lines, out, err,
@@ -287,7 +275,8 @@ fn serve_under<F: InForce, I: Input, S: Outlet, M: GivenManifest, E: Write>(
     ensures ended { manner.is_told ≡ false → IfEnded result (IsTrue (I.has_ended input.new)) }
     ensures going { IfFollowed result (IsTrue lines.new.is_ended → IsTrue (I.has_ended input.new)) }
     ensures stands { IfFollowed result (IsSomewhere (I.came input.new) lines.new) }
-    ensures served { IsServedFrom begun.now.number own.now engine.entry manner (owed_of (items_of begun.now.carried) lines.old.number) (I.came input.old) lines.old (S.bytes out.old) (S.answers out.old) (I.came input.new) lines.new (S.bytes out.new) (S.answers out.new) result }
+    ensures onward { IsOnward begun.now.number result }
+    ensures served { IsServedFrom M.may_read begun.now.number own.now engine.entry manner (owed_of (items_of begun.now.carried) lines.old.number) (I.came input.old) lines.old (S.bytes out.old) (S.answers out.old) (I.came input.new) lines.new (S.bytes out.new) (S.answers out.new) result }
 {
     let alone = Manner {
         is_stepped: manner.is_stepped,
@@ -327,31 +316,49 @@ fn serve_under<F: InForce, I: Input, S: Outlet, M: GivenManifest, E: Write>(
         next,
         of: _,
     } = desk;
-    outcome_of(served, next, err)
+    outcome_of(begun.number, served, next, err)
 }
 
-// What became of an engine that was served so, which that is to follow, if it was decided so.
-fn outcome_of<E: Write>(served: Result<bool, LiveFault>, next: Option<Next>, err: &mut E) -> Outcome
-    ensures { IsOutcomeAlone served next result }
+// What became of the engine of that number that was served so, which that is to follow, if it was decided so.
+fn outcome_of<E: Write>(
+    number: u64,
+    served: Result<bool, LiveFault>,
+    next: Option<Next>,
+    err: &mut E,
+) -> Outcome
+    ensures is { IsOutcomeAlone number served next result }
+    ensures onward { IsOnward number result }
 {
     match served {
         Ok(false) => Outcome::Ended(0),
-        Ok(true) => followed(next, err),
+        Ok(true) => followed(number, next, err),
         Err(fault) => Outcome::Ended(report(fault, err)),
     }
 }
 
-/// That follows, which was decided.
-pub(crate) fn followed<E: Write>(next: Option<Next>, err: &mut E) -> Outcome
-    ensures { HasFollowed next result }
+/// That follows the engine of that number, which was decided: its number is greater.
+pub(crate) fn followed<E: Write>(number: u64, next: Option<Next>, err: &mut E) -> Outcome
+    ensures is { HasFollowed number next result }
+    ensures onward { IsOnward number result }
 {
     match next {
-        Some(next) => Outcome::Followed(next),
-        None => {
-            let _ = Fault::InternalError.report(err);
-            Outcome::Ended(2)
+        Some(next) => {
+            if number < next.number {
+                Outcome::Followed(next)
+            } else {
+                lost(err)
+            }
         }
+        None => lost(err),
     }
+}
+
+// What is to follow is not there, which cannot be.
+fn lost<E: Write>(err: &mut E) -> Outcome
+    ensures { result ≡ Ended 2 }
+{
+    let _ = Fault::InternalError.report(err);
+    Outcome::Ended(2)
 }
 
 // The line that asked for the engine, if it follows another one: it is owed an answer.

@@ -85,6 +85,10 @@ impl Input for Once {
 struct SameManifest;
 
 impl GivenManifest for SameManifest {
+    ghost use Rattle.std.specs.Prelude.{⊤};
+
+    ghost may_read = { λ reading. ⊤ };
+
     fn read_again(&mut self, alloc: Global) -> Result<Option<Vec<u8>>, ManifestUnread> {
         match MANIFEST.as_bytes().to_vec(alloc) {
             Ok(bytes) => Ok(Some(bytes)),

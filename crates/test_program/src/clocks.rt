@@ -89,6 +89,11 @@ impl Input for Late<'_> {
 struct NoManifest;
 
 impl GivenManifest for NoManifest {
+    ghost use Rattle.std.specs.Prelude.{◌≡◌};
+    ghost use Rattle.cli_commands.specs.Readings.{not_given};
+
+    ghost may_read = { λ reading. reading ≡ not_given };
+
     fn read_again(&mut self, _alloc: Global) -> Result<Option<Vec<u8>>, ManifestUnread> {
         Ok(None)
     }

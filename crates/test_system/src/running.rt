@@ -142,6 +142,10 @@ struct Again<'a> {
 }
 
 impl GivenManifest for Again<'_> {
+    ghost use Rattle.std.specs.Prelude.{⊤};
+
+    ghost may_read = { λ reading. ⊤ };
+
     fn read_again(&mut self, alloc: Global) -> Result<Option<Vec<u8>>, ManifestUnread> {
         match read_input(alloc, "again.toml", self.case) {
             Ok(bytes) => Ok(Some(bytes)),

@@ -13,5 +13,5 @@ returns-in-Ok-clause-starts g c = λ held old own next new last status on.
 
 pub returns-in-Err-clause-starts : goal.returns-in-Err-clause-starts
 returns-in-Err-clause-starts g c = λ held old own next new last status on.
-    ended_of c.args.terms.manner c.args.terms.is_synced (Starts c.args.terms.manner c.args.terms.is_synced held (option_map (λ bytes. bytes.now) c.args.terms.given) old (g.I.Input.came c.args.input.now)) c.report.result (Ended c.report.result) _ _ c.args.lines.now new last status refl
+    ended_of c.args.terms.manner c.args.terms.is_synced (Starts g.M.GivenManifest.may_read c.args.terms.manner c.args.terms.is_synced held (option_map (λ bytes. bytes.now) c.args.terms.given) old (g.I.Input.came c.args.input.now)) c.report.result (Ended c.report.result) _ _ c.args.lines.now new last status refl
     (unmade c.args.next.now (g.D.Disk.held c.args.disk) (g.D.Disk.steps c.args.disk) (g.D.Disk.steps c.open.new.disk) c.in-Err.fault c.report.result next c.in-Err.ensures.opens c.in-Err.ensures.steps c.report.ensures) on

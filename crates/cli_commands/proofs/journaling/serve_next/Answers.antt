@@ -12,5 +12,5 @@ returns-in-Ok-clause-rest g c = λ new last status on.
 
 pub returns-clause-rest : goal.returns-clause-rest
 returns-clause-rest g c = λ new last status on.
-    ended_of c.args.terms.manner c.args.terms.is_synced (ServesOn c.args.terms.manner c.args.terms.is_synced (Followed c.args.next) (g.D.Disk.steps c.args.disk) (g.I.Input.came c.args.input.now) c.args.lines.now) c.report.result (Ended c.report.result) _ _ c.args.lines.now new last status refl
+    ended_of c.args.terms.manner c.args.terms.is_synced (ServesOn g.M.GivenManifest.may_read c.args.terms.manner c.args.terms.is_synced (Followed c.args.next) (g.D.Disk.steps c.args.disk) (g.I.Input.came c.args.input.now) c.args.lines.now) c.report.result (Ended c.report.result) _ _ c.args.lines.now new last status refl
     (not_made c.args.next (record { number = c.args.next.number; config = c.args.next.config; manifest = Some (record { ref_ptr = c.as_slice-own.result.ref_ptr; now = c.as_slice-own.result.now }); carried = c.args.next.carried }) (g.D.Disk.held c.args.disk) (g.D.Disk.steps c.args.disk) (g.D.Disk.steps c.open.new.disk) _ c.args.lines.now c.in-Err.fault c.report.result (record { number = refl; config = refl; manifest = c.as_slice-own.ensures.value; carried = refl }) c.in-Err.ensures.opens c.in-Err.ensures.steps c.report.ensures) on

@@ -1,15 +1,15 @@
 use Rattle.std.proofs.Common.{◌≡◌, ◌∙◌, refl, rules, sym}
 use Rattle.cli_commands.specs.Journaling.{at_its_end}
-use Rattle.cli_commands.proofs.Starting.{served_then, uncounted_on}
+use Rattle.cli_commands.proofs.Starting.{served_then}
 use Rattle.cli_commands.proofs.journaling.serve_rest.Goals as goal
 
-pub loop-init : goal.loop-init
-loop-init g c = record { rest = λ new last status on. on; going = c.requires.going; stands = c.requires.stands; status = c.requires.status; read = λ failed it. it; ended = λ told it. it }
+pub loop-outcome-init : goal.loop-outcome-init
+loop-outcome-init g c = record { rest = λ new last status on. on; going = c.requires.going; stands = c.requires.stands; status = c.requires.status; read = λ failed it. it; ended = λ told it. it }
 
-pub loop-preserved : goal.loop-preserved
-loop-preserved g c =
-    let rest = rw c.in-Followed.is at c.loop.invariant.rest in
-    let read = rw c.in-Followed.is at c.loop.invariant.read in
+pub loop-outcome-preserved : goal.loop-outcome-preserved
+loop-outcome-preserved g c =
+    let rest = rw c.in-Followed.is at c.loop-outcome.invariant.rest in
+    let read = rw c.in-Followed.is at c.loop-outcome.invariant.read in
     record {
       rest = λ new last status on. rest new last status (c.serve_next.ensures.rest new last status on);
       going = c.serve_next.ensures.going;
@@ -20,7 +20,4 @@ loop-preserved g c =
     }
 
 pub returns-in-Ended-clause-rest : goal.returns-in-Ended-clause-rest
-returns-in-Ended-clause-rest g c = (rw c.in-Ended.is at c.loop.invariant.rest) _ _ _ (at_its_end _ _ _ _)
-
-pub returns-clause-rest : goal.returns-clause-rest
-returns-clause-rest g c = c.loop.invariant.rest _ _ _ (uncounted_on c.args.terms.manner c.args.terms.is_synced c.loop.outcome _ _ c.loop.lines c.uncounted.result c.uncounted.ensures)
+returns-in-Ended-clause-rest g c = (rw c.in-Ended.is at c.loop-outcome.invariant.rest) _ _ _ (at_its_end _ _ _ _)

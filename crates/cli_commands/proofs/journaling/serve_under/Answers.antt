@@ -1,7 +1,7 @@
 use Rattle.std.proofs.Common.{ℕ, List, subst}
 use Rattle.host_journal.specs.Journals.{ServesInOrder}
 use Rattle.host_journal.specs.Made.{first_line}
-use Rattle.cli_commands.specs.Following.{IsFollowing}
+use Rattle.cli_commands.specs.Following.{IsFollowing, MayRefuse}
 use Rattle.cli_commands.proofs.journaling.serve_under.Goals as goal
 
 pub returns-clause-served : goal.returns-clause-served
@@ -9,9 +9,9 @@ returns-clause-served g c = record {
   result = c.serve-disk.result.1;
   next = c.serve-disk.new.reports.next;
   order = λ point at.
-      subst (λ (n : ℕ). ServesInOrder c.args.recovered.engine c.args.recovered.records c.args.terms.manner c.args.owed point (g.I.Input.came c.serve-disk.new.input) c.serve-disk.new.lines (λ how now. IsFollowing n c.args.own.now how now c.serve-disk.new.reports.next) c.args.terms.is_synced (first_line c.args.begun.now) (g.D.Disk.steps c.args.disk) (g.D.Disk.steps c.serve-disk.result.0) c.serve-disk.result.1) c.requires.number
-      (subst (λ (o : List ℕ). ServesInOrder c.args.recovered.engine c.args.recovered.records c.args.terms.manner c.args.owed point (g.I.Input.came c.serve-disk.new.input) c.serve-disk.new.lines (λ how now. IsFollowing g.F.InForce.number o how now c.serve-disk.new.reports.next) c.args.terms.is_synced (first_line c.args.begun.now) (g.D.Disk.steps c.args.disk) (g.D.Disk.steps c.serve-disk.result.0) c.serve-disk.result.1) c.requires.own
+      subst (λ (n : ℕ). ServesInOrder c.args.recovered.engine c.args.recovered.records c.args.terms.manner (MayRefuse g.M.GivenManifest.may_read n c.args.own.now) c.args.owed point (g.I.Input.came c.serve-disk.new.input) c.serve-disk.new.lines (λ how now. IsFollowing g.M.GivenManifest.may_read n c.args.own.now how now c.serve-disk.new.reports.next) c.args.terms.is_synced (first_line c.args.begun.now) (g.D.Disk.steps c.args.disk) (g.D.Disk.steps c.serve-disk.result.0) c.serve-disk.result.1) c.requires.number
+      (subst (λ (o : List ℕ). ServesInOrder c.args.recovered.engine c.args.recovered.records c.args.terms.manner (MayRefuse g.M.GivenManifest.may_read g.F.InForce.number o) c.args.owed point (g.I.Input.came c.serve-disk.new.input) c.serve-disk.new.lines (λ how now. IsFollowing g.M.GivenManifest.may_read g.F.InForce.number o how now c.serve-disk.new.reports.next) c.args.terms.is_synced (first_line c.args.begun.now) (g.D.Disk.steps c.args.disk) (g.D.Disk.steps c.serve-disk.result.0) c.serve-disk.result.1) c.requires.own
       (c.serve-disk.ensures.order point at));
   stop = c.serve-disk.ensures.fault;
-  is_outcome = c.outcome_of.ensures;
+  is_outcome = c.outcome_of.ensures.is;
 }

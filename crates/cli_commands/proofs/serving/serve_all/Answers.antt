@@ -1,11 +1,10 @@
 use Rattle.std.proofs.Common.{◌≡◌, ◌∙◌, refl, rules}
 use Rattle.cli_commands.specs.Alone.{at_the_end}
-use Rattle.cli_commands.proofs.Alone.{uncounted_alone}
 use Rattle.cli_commands.proofs.Starting.{served_then}
 use Rattle.cli_commands.proofs.serving.serve_all.Goals as goal
 
-pub loop-init : goal.loop-init
-loop-init g c = record {
+pub loop-outcome-init : goal.loop-outcome-init
+loop-outcome-init g c = record {
   rest = (c.of-lines.result, record { stands = c.of-lines.ensures.stands; number = c.of-lines.ensures.number }, λ last at told status on. on);
   going = search rules;
   stands = (_, record { stands = c.of-lines.ensures.stands; number = c.of-lines.ensures.number });
@@ -14,10 +13,10 @@ loop-init g c = record {
   ended = λ told. tt;
 }
 
-pub loop-preserved : goal.loop-preserved
-loop-preserved g c =
-    let rest = rw c.in-Followed.is at c.loop.invariant.rest in
-    let read = rw c.in-Followed.is at c.loop.invariant.read in
+pub loop-outcome-preserved : goal.loop-outcome-preserved
+loop-outcome-preserved g c =
+    let rest = rw c.in-Followed.is at c.loop-outcome.invariant.rest in
+    let read = rw c.in-Followed.is at c.loop-outcome.invariant.read in
     record {
       rest = (rest.0, rest.1, λ last at told status on. rest.2 last at told status (c.serve_next-outcome.ensures.rest last at told status on));
       going = c.serve_next-outcome.ensures.going;
@@ -28,9 +27,4 @@ loop-preserved g c =
     }
 
 pub returns-in-Ended-clause-served : goal.returns-in-Ended-clause-served
-returns-in-Ended-clause-served g c = let rest = rw c.in-Ended.is at c.loop.invariant.rest in (rest.0, rest.1, rest.2 _ _ _ _ (at_the_end _ _ _ _ _))
-
-pub returns-clause-served : goal.returns-clause-served
-returns-clause-served g c =
-    let rest = c.loop.invariant.rest in
-    (rest.0, rest.1, rest.2 _ _ _ _ (uncounted_alone c.args.manner c.loop.outcome _ c.loop.lines _ _ c.uncounted.result c.uncounted.ensures))
+returns-in-Ended-clause-served g c = let rest = rw c.in-Ended.is at c.loop-outcome.invariant.rest in (rest.0, rest.1, rest.2 _ _ _ _ (at_the_end _ _ _ _ _))

@@ -13,5 +13,5 @@ returns-in-Ok-clause-rest g c = λ last at told status on.
 
 pub returns-clause-rest : goal.returns-clause-rest
 returns-clause-rest g c = λ last at told status on.
-    ended_alone c.args.manner (GoesAlone c.args.manner (Followed c.args.next) (g.I.Input.came c.args.input.now) c.args.lines.now (g.S.Outlet.bytes c.args.out.now) (g.S.Outlet.answers c.args.out.now)) c.report.result (Ended c.report.result) _ c.args.lines.now _ _ last at told status refl
+    ended_alone c.args.manner (GoesAlone g.M.GivenManifest.may_read c.args.manner (Followed c.args.next) (g.I.Input.came c.args.input.now) c.args.lines.now (g.S.Outlet.bytes c.args.out.now) (g.S.Outlet.answers c.args.out.now)) c.report.result (Ended c.report.result) _ c.args.lines.now _ _ last at told status refl
     (rw c.report.ensures (rw c.put_first.ensures.answers (not_begun c.args.next _ c.args.lines.now _ (g.S.Outlet.bytes c.put_first.new.out) _ c.in-Err.ensures.part))) on

@@ -2,7 +2,7 @@ use Rattle.std.proofs.Common.{ℕ, Option, List, [], refl, subst}
 use Rattle.host_live.specs.Answering.{with_answers}
 use Rattle.host_live.specs.Served.{ContinuesTurns, IsOwed}
 use Rattle.cli_commands.specs.Alone.{alone}
-use Rattle.cli_commands.specs.Following.{IsFollowing}
+use Rattle.cli_commands.specs.Following.{IsFollowing, MayRefuse}
 use Rattle.cli_commands.proofs.serving.serve_under.Goals as goal
 
 pub returns-clause-served : goal.returns-clause-served
@@ -13,8 +13,9 @@ returns-clause-served g c = record {
   first = c.serve-served.ensures.turned.0;
   owed_is = subst (λ (o : Option ℕ). IsOwed (alone c.args.manner) o c.serve-served.result (g.S.Outlet.bytes c.args.out.now) c.serve-served.ensures.turned.0) c.owed_by-owed.ensures c.serve-served.ensures.turned.1;
   turned = λ point at.
-      subst (λ (n : ℕ). ContinuesTurns c.args.engine (alone c.args.manner) point (g.I.Input.came c.serve-served.new.input) c.serve-served.new.lines (λ how now. IsFollowing n c.args.own.now how now c.serve-served.new.reports.next) [] (g.S.Outlet.bytes c.args.out.now) (with_answers (g.S.Outlet.answers c.args.out.now) c.serve-served.ensures.turned.0) c.serve-served.result (g.S.Outlet.bytes c.serve-served.new.out) (g.S.Outlet.answers c.serve-served.new.out)) c.requires.number
-      (subst (λ (o : List ℕ). ContinuesTurns c.args.engine (alone c.args.manner) point (g.I.Input.came c.serve-served.new.input) c.serve-served.new.lines (λ how now. IsFollowing g.F.InForce.number o how now c.serve-served.new.reports.next) [] (g.S.Outlet.bytes c.args.out.now) (with_answers (g.S.Outlet.answers c.args.out.now) c.serve-served.ensures.turned.0) c.serve-served.result (g.S.Outlet.bytes c.serve-served.new.out) (g.S.Outlet.answers c.serve-served.new.out)) c.requires.own
+      subst (λ (n : ℕ). ContinuesTurns c.args.engine (alone c.args.manner) (MayRefuse g.M.GivenManifest.may_read n c.args.own.now) point (g.I.Input.came c.serve-served.new.input) c.serve-served.new.lines (λ how now. IsFollowing g.M.GivenManifest.may_read n c.args.own.now how now c.serve-served.new.reports.next) [] (g.S.Outlet.bytes c.args.out.now) (with_answers (g.S.Outlet.answers c.args.out.now) c.serve-served.ensures.turned.0) c.serve-served.result (g.S.Outlet.bytes c.serve-served.new.out) (g.S.Outlet.answers c.serve-served.new.out)) c.requires.number
+      (subst (λ (o : List ℕ). ContinuesTurns c.args.engine (alone c.args.manner) (MayRefuse g.M.GivenManifest.may_read g.F.InForce.number o) point (g.I.Input.came c.serve-served.new.input) c.serve-served.new.lines (λ how now. IsFollowing g.M.GivenManifest.may_read g.F.InForce.number o how now c.serve-served.new.reports.next) [] (g.S.Outlet.bytes c.args.out.now) (with_answers (g.S.Outlet.answers c.args.out.now) c.serve-served.ensures.turned.0) c.serve-served.result (g.S.Outlet.bytes c.serve-served.new.out) (g.S.Outlet.answers c.serve-served.new.out)) c.requires.own
       (c.serve-served.ensures.turned.2 point [] at c.requires.behind refl));
-  is_outcome = c.outcome_of.ensures;
+  same_clock = c.serve-served.ensures.begun;
+  is_outcome = c.outcome_of.ensures.is;
 }

@@ -497,6 +497,98 @@ static void goes_not_on(void)
     WANT(camr_take_run(NULL, NULL) == CAMR_NULL);
 }
 
+/* The text of what an engine counts has each of these lines, which end with a null pointer. */
+static void has_lines(camr_engine *engine, const char *const *lines)
+{
+    static char text[16384], line[128];
+    size_t written;
+    WANT(camr_metrics(engine, text, sizeof text - 1, &written) == CAMR_DONE && text[written - 1] == '\n');
+    text[written] = '\0';
+    for (; *lines != NULL; lines++) {
+        snprintf(line, sizeof line, "\n%s\n", *lines);
+        if (strstr(text, line) == NULL) fprintf(stderr, "c-library.c: the metrics have no line %s\n", *lines);
+        WANT(strstr(text, line) != NULL);
+    }
+}
+
+/* The text finds room in a buffer that is as long as it, and in none that is shorter, which stays as it is. */
+static void finds_room(camr_engine *engine)
+{
+    static char all[16384], place[16384];
+    size_t length, written;
+    WANT(camr_metrics(engine, NULL, 0, &length) == CAMR_NO_ROOM && length > 1000 && length < sizeof all);
+    WANT(camr_metrics(engine, all, length, &written) == CAMR_DONE && written == length);
+    WANT(memcmp(all, "# HELP ", 7) == 0 && all[length - 1] == '\n');
+    memset(place, '#', sizeof place);
+    for (size_t room = 0; room < length; room++) {
+        WANT(camr_metrics(engine, place, room, &written) == CAMR_NO_ROOM && written == length);
+        for (size_t at = room < 8 ? 0 : room - 8; at < room + 8; at++) WANT(place[at] == '#');
+    }
+    WANT(camr_metrics(engine, place, sizeof place, &written) == CAMR_DONE && written == length);
+    WANT(memcmp(place, all, length) == 0 && place[length] == '#' && place[sizeof place - 1] == '#');
+}
+
+/* Where memory is refused nothing is put. */
+static void puts_nothing(camr_engine *engine)
+{
+    static char place[16384];
+    size_t written;
+    camr_result result;
+    long tries = 0;
+    memset(place, '#', sizeof place);
+    do {
+        before_refusal = tries++, written = 9;
+        result = camr_metrics(engine, place, sizeof place, &written);
+        WANT(result == CAMR_DONE || (result == CAMR_OUT_OF_MEMORY && written == 0 && place[0] == '#'));
+    } while (result != CAMR_DONE);
+    before_refusal = -1;
+    WANT(tries > 1);
+}
+
+static void counts(void)
+{
+    camr_engine *engine = held();
+    camr_run *run = NULL;
+    char place[512];
+    size_t written;
+    uint32_t it;
+    uint64_t r0;
+    bool ended;
+    has_lines(engine, (const char *const[]){
+        "camr_records_total 10", "camr_calls_refused_total{refusal=\"C1\"} 0", "camr_ccbs_submitted_total{queue=\"0\"} 3", "camr_ccbs_started_total{queue=\"0\"} 2",
+        "camr_ccbs_completed_total{queue=\"0\",status=\"01\"} 1", "camr_recoveries_total{queue=\"0\"} 0", "camr_queue_frozen_seconds_total{queue=\"0\"} 0.000",
+        "camr_controller_frozen_seconds_total{controller=\"0\"} 0.009", "camr_program_runs_total{program=\"p1\"} 0", "camr_ccbs_active{queue=\"0\"} 1",
+        "camr_ccbs_waiting{queue=\"0\"} 1", "camr_queue_freezes{queue=\"0\"} 0", "camr_queue_openings{queue=\"0\"} 1", "camr_controller_freezes{controller=\"0\"} 1",
+        "camr_freezes 1", "camr_runs_live 0", "camr_clock_seconds 0.009", NULL});
+    finds_room(engine);
+    puts_nothing(engine);
+    /* what was counted stays where lines are taken and where an engine follows, under other numbers too */
+    while (camr_take(engine, place, sizeof place, &written) == CAMR_DONE && written != 0) continue;
+    WANT(camr_succeed(&engine, NULL, 0, true, NULL, 0) == CAMR_DONE && camr_succeed(&engine, manifest, sizeof manifest - 1, false, NULL, 0) == CAMR_DONE);
+    has_lines(engine, (const char *const[]){
+        "camr_records_total 10", "camr_ccbs_submitted_total{queue=\"0\"} 3", "camr_ccbs_active{queue=\"0\"} 1", "camr_freezes 1", "camr_clock_seconds 0.009", NULL});
+    WANT(camr_clock(engine, 20, &it) == CAMR_DONE && camr_guest_release(engine, 1, &it) == CAMR_DONE && camr_dispatch(engine, 7, &it) == CAMR_UNKNOWN);
+    WANT(camr_complete(engine, 1, CAMR_SCSI_STATUS_ERROR, 2, "\x70\0\6", 3, &run) == CAMR_DONE && run != NULL);
+    has_lines(engine, (const char *const[]){
+        "camr_runs_live 1", "camr_queue_freezes{queue=\"0\"} 1", "camr_ccbs_completed_total{queue=\"0\",status=\"0c\"} 1", "camr_recoveries_total{queue=\"0\"} 1",
+        "camr_controller_frozen_seconds_total{controller=\"0\"} 0.020", "camr_calls_refused_total{refusal=\"C1\"} 1", NULL});
+    WANT(camr_clock(engine, 1020, &it) == CAMR_DONE && camr_stretch(run) == CAMR_DONE && camr_advance(engine, run, &r0, &ended) == CAMR_DONE && !ended);
+    WANT(camr_park(engine, run) == CAMR_DONE);
+    camr_run_free(run);
+    WANT(camr_resume(engine, 1, &run) == CAMR_DONE && camr_drive(engine, run, &r0, &ended) == CAMR_DONE && ended);
+    camr_run_free(run);
+    has_lines(engine, (const char *const[]){
+        "camr_records_total 20", "camr_requeues_total{queue=\"0\"} 1", "camr_instructions_total{queue=\"0\"} 7", "camr_program_runs_total{program=\"p1\"} 1",
+        "camr_queue_frozen_seconds_total{queue=\"0\"} 1.000", "camr_ccbs_waiting{queue=\"0\"} 2", "camr_ccbs_active{queue=\"0\"} 0", "camr_clock_seconds 1.020", NULL});
+    camr_close(engine);
+    /* a recovered engine begins to count */
+    engine = recovered(two_runs, sizeof two_runs - 1);
+    has_lines(engine, (const char *const[]){"camr_records_total 0", "camr_ccbs_submitted_total{queue=\"0\"} 0", "camr_runs_live 2", "camr_freezes 2", NULL});
+    takes_run(engine, 2, 2);
+    has_lines(engine, (const char *const[]){"camr_records_total 3", "camr_requeues_total{queue=\"0\"} 1", "camr_runs_live 1", NULL});
+    camr_close(engine);
+}
+
 /* Each block is refused once: what is not recovered leaves nothing, and the next try succeeds. */
 static void recovers_short_of_memory(void)
 {
@@ -539,6 +631,9 @@ static void nulls_and_faults(void)
     WANT(camr_resume(NULL, 1, &run) == CAMR_NULL && run == NULL);
     WANT(camr_stretch(NULL) == CAMR_NULL && camr_advance(engine, NULL, &r0, &ended) == CAMR_NULL);
     WANT(camr_trace(engine, 0, NULL, 9, &written, &r0) == CAMR_NULL);
+    written = 9;
+    WANT(camr_metrics(NULL, fault, sizeof fault, &written) == CAMR_NULL && written == 0 && camr_metrics(engine, fault, sizeof fault, NULL) == CAMR_NULL);
+    WANT(camr_metrics(engine, NULL, 9, &written) == CAMR_NULL && camr_metrics(engine, fault, (size_t)PTRDIFF_MAX + 1, &written) == CAMR_TOO_LONG);
     for (camr_result result = 0; result <= CAMR_DOES_NOT_FIT; result++)
         WANT(camr_result_text(result, fault, sizeof fault, &written) == CAMR_DONE && written >= 4);
     WANT(camr_result_text(25, fault, sizeof fault, &written) == CAMR_UNKNOWN && written == 0);
@@ -559,6 +654,7 @@ int main(void)
     goes_on_after_a_crash();
     goes_not_on();
     recovers_short_of_memory();
+    counts();
     nulls_and_faults();
     streams();
     return 0;

@@ -5,14 +5,15 @@
 _camr_options() {
     case $1 in
     run) echo '--workers --strict --watch --watch=lines --watch=terminal' ;;
-    live) echo '--clock --step --ack --journal --sync' ;;
+    live) echo '--clock --step --ack --journal --sync --metrics' ;;
+    decide) echo '--retries --attempts --clock --word --all-sense' ;;
     show) echo '--ccb --queue --run --freeze --from --to --status --sense --refused --summary --json --svg --perfetto' ;;
     esac
     echo '--help -h'
 }
 
 _camr() {
-    local commands='asm dis check explain migrate run live replay audit show help'
+    local commands='asm dis check explain migrate run live replay audit show decide help'
     local cur=${COMP_WORDS[COMP_CWORD]} prev=${COMP_WORDS[COMP_CWORD - 1]} command=${COMP_WORDS[1]} kind=-f
     # bash takes `=` for a word of its own, and offers what stands after it
     if [[ $cur == = ]]; then
@@ -45,8 +46,9 @@ _camr() {
         ;;
     show/--ccb* | show/--queue* | show/--run* | show/--freeze* | show/--from* | show/--to*) return ;;
     show/--status* | show/--sense*) return ;;
+    decide/--retries* | decide/--attempts* | decide/--clock* | decide/--word*) return ;;
     live/--journal*) kind=-d ;;
-    show/--svg* | show/--perfetto*) ;;
+    live/--metrics* | show/--svg* | show/--perfetto*) ;;
     audit/*) kind=-d ;;
     esac
     if [[ $cur == -* ]]; then

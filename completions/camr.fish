@@ -1,11 +1,12 @@
 # Completion of camr for fish: its commands, their options with the values that these take, and files. `.ci/completions` compares it
 # with what `camr --help` and the help of each command say.
 
-set -l commands asm dis check explain migrate run live replay audit show help
+set -l commands asm dis check explain migrate run live replay audit show decide help
 set -l none "not __fish_seen_subcommand_from $commands"
-set -l files "__fish_seen_subcommand_from asm dis check explain migrate run live replay show; and not __fish_seen_subcommand_from help; and not string match -q -- '--watch=*' (commandline -ct)"
+set -l files "__fish_seen_subcommand_from asm dis check explain migrate run live replay show decide; and not __fish_seen_subcommand_from help; and not string match -q -- '--watch=*' (commandline -ct)"
 set -l run '__fish_seen_subcommand_from run; and not __fish_seen_subcommand_from help'
 set -l live '__fish_seen_subcommand_from live; and not __fish_seen_subcommand_from help'
+set -l decide '__fish_seen_subcommand_from decide; and not __fish_seen_subcommand_from help'
 set -l show '__fish_seen_subcommand_from show; and not __fish_seen_subcommand_from help'
 
 complete -c camr -f
@@ -23,6 +24,7 @@ complete -c camr -n "$none" -a live -d 'Carry out the lines of standard input as
 complete -c camr -n "$none" -a replay -d 'Replay a trace and say whether it is lawful'
 complete -c camr -n "$none" -a audit -d 'Replay a journal and say whether it is lawful'
 complete -c camr -n "$none" -a show -d 'Print what happened in a trace'
+complete -c camr -n "$none" -a decide -d 'Say what a policy does with a failed command'
 complete -c camr -n "$none" -a help -d 'Print the help, or that of a command'
 complete -c camr -n "__fish_seen_subcommand_from help" -a "$commands"
 
@@ -35,6 +37,7 @@ complete -c camr -n "$live" -l step -d 'A run goes on only if a line says so'
 complete -c camr -n "$live" -l ack -d 'Answer each line by a line of its own'
 complete -c camr -n "$live" -l journal -x -a '(__fish_complete_directories)' -d 'Keep the trace in a folder'
 complete -c camr -n "$live" -l sync -d 'What is answered outlasts a stop of the machine'
+complete -c camr -n "$live" -l metrics -r -F -d 'Write what is counted into a file'
 
 complete -c camr -n '__fish_seen_subcommand_from audit' -a '(__fish_complete_directories)'
 
@@ -51,3 +54,9 @@ complete -c camr -n "$show" -l summary -d 'Counts in place of the account'
 complete -c camr -n "$show" -l json -d 'JSON in place of text'
 complete -c camr -n "$show" -l svg -r -F -d 'Draw a picture in place of the account'
 complete -c camr -n "$show" -l perfetto -r -F -d 'Write trace events for Perfetto'
+
+complete -c camr -n "$decide" -l retries -x -d 'Retries that the command has left'
+complete -c camr -n "$decide" -l attempts -x -d 'How often the command was started'
+complete -c camr -n "$decide" -l clock -x -d 'What the clock reads, in milliseconds'
+complete -c camr -n "$decide" -l word -x -d 'A word of a table, as 0:3=5'
+complete -c camr -n "$decide" -l all-sense -d 'Print a table of all sense data'

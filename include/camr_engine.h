@@ -148,6 +148,7 @@ void camr_raw_totals(camr_engine **engine, camr_totals_t *sums);
 uint32_t camr_raw_trace(camr_engine **engine, uint64_t from, uint8_t *place, size_t length, size_t *written, uint64_t *next);
 uint32_t camr_raw_take(camr_engine **engine, uint8_t *place, size_t length, size_t *written);
 uint32_t camr_raw_trace_end(camr_engine **engine, uint8_t *place, size_t length, size_t *written);
+uint32_t camr_raw_metrics(camr_engine **engine, uint8_t *place, size_t length, size_t *written);
 uint32_t camr_raw_succeed(camr_engine **engine, const uint8_t *manifest, size_t length, bool fresh, uint8_t *fault,
                           size_t fault_length, size_t *written);
 uint32_t camr_raw_renew(camr_engine **engine, bool fresh);
@@ -346,6 +347,25 @@ static inline camr_result camr_trace_end(camr_engine *engine, char *buffer, size
     camr_result place = camr_place_(buffer, length);
     if (place != CAMR_DONE) return place;
     return camr_raw_trace_end(&engine, length != 0 ? (uint8_t *)buffer : &none, length, written);
+}
+
+/*
+ * Puts what the engine counts, and what it holds now, into a buffer: the text that `camr live --metrics` writes, in the text format of
+ * Prometheus. camr(1) lists its metrics. All of the text is put, or nothing. *written is the number of its bytes, also with CAMR_NO_ROOM:
+ * a host asks with a length of 0 how long the text is, makes room, and asks again. The buffer is as before from *written on, and with
+ * CAMR_NO_ROOM all of it is. The call is not recorded.
+ *
+ * Counters begin at 0 with camr_open and with camr_recover, which counts none of the records that it reads. They go on over camr_succeed.
+ * The engine counts with each call, whether lines are taken or not. Results: CAMR_NO_ROOM, CAMR_OUT_OF_MEMORY.
+ */
+static inline camr_result camr_metrics(camr_engine *engine, char *buffer, size_t length, size_t *written)
+{
+    uint8_t none = 0;
+    if (written != NULL) *written = 0;
+    if (engine == NULL || written == NULL) return CAMR_NULL;
+    camr_result place = camr_place_(buffer, length);
+    if (place != CAMR_DONE) return place;
+    return camr_raw_metrics(&engine, length != 0 ? (uint8_t *)buffer : &none, length, written);
 }
 
 /* ---- an engine that follows another one -------------------------------------------------------------------------------------- */

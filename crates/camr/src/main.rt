@@ -6,21 +6,23 @@ ghost use Rattle.std.specs.Prelude.{◌≡◌, ◌<◌, ◌^◌, length, IfOk};
 ghost use Rattle.cli_line.specs.Files.{input_paths};
 
 use cli_commands::{
-    AnsweringSink, Fault, GivenManifest, ManifestUnread, WriterSink, audit_journal, carry,
-    report_usage, serve, serve_journal,
+    AnsweringSink, Fault, GivenManifest, ManifestUnread, MetricsFile, MetricsUnwritten, WriterSink,
+    audit_journal, carry, report_usage, serve, serve_journal,
 };
 use cli_io::{
     Clocked, Disk, Feeder, JournalDisk, MOST_MANIFEST, MOST_PROGRAM, MOST_SCENARIO, MOST_TEXT,
-    MOST_TRACE, Patient, Reading, Relay, Relayer, Telling, read_all, read_file, replace, words,
+    MOST_TRACE, Patient, Reading, Relay, Relayer, Stopwatch, Telling, are_same, read_all,
+    read_file, replace, stands_in, words,
 };
 use cli_line::{Manner, Plan, Watch, is_stream, not_utf8, plan};
-use host_live::Input;
-use std::alloc::Global;
+use host_live::{Input, Moment};
+use host_metrics::Metrics;
+use std::alloc::{AllocError, Global};
 use std::fs::File;
 use std::io::{BufWriter, IsTerminal, Stderr, Write};
 use std::process::ExitCode;
 use std::random::RandomSource;
-use std::rt::{Files, Runtime};
+use std::rt::{Clock, Files, Runtime};
 use std::sync::Wait;
 use std::thread::Threads;
 use std::{io, thread};
@@ -72,12 +74,12 @@ fn status<
             Ok(inputs) => match &plan {
                 Plan::Live(manner, manifest) => {
                     let manifest = (manifest.as_str(), inputs[0].as_slice());
-                    serve_line_by_line(rt, *manner, Service::Alone(manifest), err, begin)
+                    serve_line_by_line(rt, manner, Service::Alone(manifest), err, begin)
                 }
                 Plan::Journal(manner, is_synced, folder, _) => {
                     let manifest = first_input(&plan, &inputs);
                     let service = Service::Journal(folder.as_str(), *is_synced, manifest);
-                    serve_line_by_line(rt, *manner, service, err, begin)
+                    serve_line_by_line(rt, manner, service, err, begin)
                 }
                 Plan::Audit(folder) => {
                     let mut disk = JournalDisk::new(rt, folder.as_str(), Silence);
@@ -119,16 +121,114 @@ impl<'a> Service<'a> {
             Service::Journal(_, _, None) => None,
         }
     }
+
+    // The journal's folder, if there is a journal.
+    fn folder(&self) -> Option<&'a str> {
+        match self {
+            Service::Alone(_) => None,
+            Service::Journal(folder, ..) => Some(*folder),
+        }
+    }
 }
 
-/// The file of the manifest that is given, if one is.
+/// The files that are given: that of the manifest, if one is, and that for what is counted, if one is.
 #[derive(Drop)]
-struct ManifestFile<'a, R: Files + AllocGlobal> {
+struct GivenFiles<'a, R: Files<File = File> + AllocGlobal + Clock> {
     rt: &'a R,
     path: Option<&'a str>,
+    metrics: Option<&'a str>,
+    // the counters between an engine and the one that follows it
+    counted: Option<Metrics>,
+    clock: Stopwatch<'a, R>,
+    // when what is counted was written last
+    written: Option<u64>,
+    has_failed: bool,
 }
 
-impl<R: Files + AllocGlobal> GivenManifest for ManifestFile<'_, R> {
+/// How long what is counted stands before it is written anew, in milliseconds, unless a timer was due.
+const PAUSE: u64 = 1000;
+
+impl<'a, R: Files<File = File> + AllocGlobal + Clock> GivenFiles<'a, R> {
+    // Those of a live engine, of which nothing was counted.
+    fn of(rt: &'a R, path: Option<&'a str>, metrics: Option<&'a str>) -> Result<Self, AllocError> {
+        let counted = match metrics {
+            Some(_) => Some(Metrics::new(rt.alloc())?),
+            None => None,
+        };
+        Ok(GivenFiles {
+            rt,
+            path,
+            metrics,
+            counted,
+            clock: Stopwatch::of(rt),
+            written: None,
+            has_failed: false,
+        })
+    }
+
+    // Whether it is time to write what is counted anew. A clock that cannot be read stops nothing.
+    fn is_time(&self) -> bool {
+        match (self.written, self.clock.now()) {
+            (Some(before), Some(now)) => now.saturating_sub(before) >= PAUSE,
+            (_, _) => true,
+        }
+    }
+
+    // Takes note of whether what is counted was written.
+    fn note(&mut self, is_written: bool) -> Result<(), MetricsUnwritten> {
+        self.written = self.clock.now();
+        let had_failed = self.has_failed;
+        self.has_failed = !is_written;
+        if is_written {
+            Ok(())
+        } else if had_failed {
+            Err(MetricsUnwritten::Still)
+        } else {
+            Err(MetricsUnwritten::Now)
+        }
+    }
+}
+
+impl<R: Files<File = File> + RandomSource + AllocGlobal + Clock> MetricsFile for GivenFiles<'_, R> {
+    fn take_metrics(&mut self, alloc: Global) -> Metrics {
+        match self.counted.take() {
+            Some(metrics) => metrics,
+            None => Metrics::none(alloc),
+        }
+    }
+
+    fn keep_metrics(&mut self, metrics: Metrics) {
+        self.counted = Some(metrics);
+    }
+
+    fn is_due(&mut self, when: Moment) -> bool {
+        self.metrics.is_some()
+            && match when {
+                Moment::Waits => self.is_time(),
+                Moment::Timer | Moment::End => true,
+            }
+    }
+
+    fn write_metrics(&mut self, text: Option<&str>) -> Result<(), MetricsUnwritten> {
+        let is_written = match (self.metrics, text) {
+            (Some(path), Some(text)) => {
+                let mut disk = Disk::passing(self.rt);
+                replace(self.rt.alloc(), &mut disk, path, text.as_bytes()).is_ok()
+            }
+            (_, _) => false,
+        };
+        self.note(is_written)
+    }
+
+    fn metrics_path(&self) -> &str {
+        match self.metrics {
+            Some(path) => path,
+            None => "",
+        }
+    }
+}
+
+impl<R: Files<File = File> + AllocGlobal + Clock> GivenManifest for GivenFiles<'_, R> {
     ghost use Rattle.std.specs.Prelude.{⊤};
 
     ghost may_read = { λ reading. ⊤ };
@@ -197,12 +297,15 @@ fn carry_out<
 // Serves what standard input asks of a live engine. What goes out is not kept for a whole buffer.
 // Where there is a clock, another thread reads, and another one tells what is no part of the trace: timers wait for neither.
 fn serve_line_by_line<
-    R: Runtime + Files<File = File> + AllocGlobal + Wait,
+    R: Runtime + Files<File = File> + RandomSource + AllocGlobal + Wait,
     E: Write,
     B: FnOnce(Feeder, Relayer) -> bool,
->(rt: &R, manner: Manner, service: Service<'_>, err: &mut E, begin: B) -> u8
+>(rt: &R, manner: &Manner, service: Service<'_>, err: &mut E, begin: B) -> u8
     requires { (feeder : _) (relayer : _) → B.pre begin feeder relayer }
 {
+    if let Some(path) = refused_metrics(rt, manner, service) {
+        return Fault::File(path).report(err);
+    }
     if !manner.is_clocked {
         return match Reading::of(rt.alloc(), Patient::new(rt, rt.reader())) {
             Ok(mut input) => serve_input(rt, manner, service, &mut input, err),
@@ -223,10 +326,36 @@ fn serve_line_by_line<
     status
 }
 
-// Serves what this input asks.
-fn serve_input<R: Runtime + Files<File = File> + AllocGlobal, I: Input, E: Write>(
+// The path of the file for what is counted, if that is standard output, the manifest's file, or a file in the journal's folder: nothing is
+// written there.
+fn refused_metrics<'a, R: Files<File = File> + AllocGlobal>(
     rt: &R,
-    manner: Manner,
+    manner: &'a Manner,
+    service: Service<'_>,
+) -> Option<&'a str> {
+    let path = match &manner.metrics {
+        Some(path) => path.as_str(),
+        None => return None,
+    };
+    let is_manifest = match service.path() {
+        Some(manifest) => are_same(rt, path, manifest),
+        None => false,
+    };
+    let is_of_journal = match service.folder() {
+        Some(folder) => stands_in(rt, path, folder),
+        None => false,
+    };
+    if is_stream(path) || is_manifest || is_of_journal {
+        Some(path)
+    } else {
+        None
+    }
+}
+
+// Serves what this input asks.
+fn serve_input<R: Runtime + Files<File = File> + RandomSource + AllocGlobal, I: Input, E: Write>(
+    rt: &R,
+    manner: &Manner,
     service: Service<'_>,
     input: &mut I,
     err: &mut E,
@@ -239,9 +368,13 @@ fn serve_input<R: Runtime + Files<File = File> + AllocGlobal, I: Input, E: Write
         is_clocked: manner.is_clocked,
         is_kept: service.is_kept(),
     };
-    let mut given = ManifestFile {
-        rt,
-        path: service.path(),
+    let metrics = match &manner.metrics {
+        Some(path) => Some(path.as_str()),
+        None => None,
+    };
+    let mut given = match GivenFiles::of(rt, service.path(), metrics) {
+        Ok(given) => given,
+        Err(AllocError) => return Fault::OutOfMemory.report(err),
     };
     match service {
         Service::Alone(manifest) if manner.is_told => {
@@ -262,7 +395,7 @@ fn serve_input<R: Runtime + Files<File = File> + AllocGlobal, I: Input, E: Write
 }
 
 // Serves what this input asks, and answers each line. What goes out is kept until nothing more comes.
-fn serve_answering<M: GivenManifest, I: Input, W: Write + Drop, E: Write>(
+fn serve_answering<M: GivenManifest + MetricsFile, I: Input, W: Write + Drop, E: Write>(
     alloc: Global,
     manifest: (&str, &[u8]),
     manner: host_live::Manner,

@@ -22,6 +22,7 @@ use Rattle.host_embedding.specs.declared.hosted_engine.HostedEngine.{HostedEngin
 use Rattle.host_embedding.specs.declared.run_handle.HeldRun.{HeldRun}
 use Rattle.host_embedding.specs.declared.run_handle.RunHandle.{RunHandle}
 use Rattle.host_embedding.specs.Calls.{IsCalled, IsCompleted, IsFrozen, IsReleased, IsResumed}
+use Rattle.host_embedding.specs.Counting.{CountsRecords, is_same_beside}
 use Rattle.host_embedding.specs.Held.{is_same_run}
 use Rattle.host_embedding.specs.Results.{number_of, text_of}
 use Rattle.host_opening.specs.declared.opening.OpenFault.{OpenFault}
@@ -50,9 +51,13 @@ abbrev pub Stays : {X : Type 0} → Option X → Option X → (X → Type 0) →
 Stays None new Told = ⊥
 Stays (Some it) new Told = (new ≡ Some it) × Told it
 
--- there was an engine, there is one, this holds of the two, and the runs that are left to be taken are the same
+-- there was an engine, there is one, this holds of the two, and the runs that are left to be taken and what is counted are the same
 abbrev pub EngineTurns : Option HostedEngine → Option HostedEngine → (EngineState → EngineState → Type 0) → Type 0
-EngineTurns old new Told = Turns old new (λ before after. Told before.engine after.engine × (after.left ≡ before.left))
+EngineTurns old new Told = Turns old new (λ before after. Told before.engine after.engine × is_same_beside before after)
+
+-- the same of a call whose records are counted
+abbrev pub EngineCounts : Option HostedEngine → Option HostedEngine → (EngineState → EngineState → Type 0) → Type 0
+EngineCounts old new Told = Turns old new (λ before after. Told before.engine after.engine × (after.left ≡ before.left) × CountsRecords before after)
 
 -- the front of that result's text was put into a place, as much as finds room, and what stands after it is what stood there before
 abbrev pub FrontOf : CallResult → List ℕ → List ℕ → ℕ → Type 0
@@ -88,17 +93,17 @@ IsRecovered (Err fault) number old new = (number ≡ number_of (unrecovered_resu
 -- a call of the engine
 abbrev pub Called : ℕ → EngineSlot → EngineSlot → CallAnswer → Call → Type 0
 Called number old new answer call =
-    Did number (λ its. EngineTurns old.held new.held (λ before after. IsCalled its before after answer call))
+    Did number (λ its. EngineCounts old.held new.held (λ before after. IsCalled its before after answer call))
 
 -- a guest freezes a place
 abbrev pub Frozen : ℕ → EngineSlot → EngineSlot → ℕ → Place → ℕ → Type 0
 Frozen number old new freeze place guest =
-    Did number (λ its. EngineTurns old.held new.held (λ before after. IsFrozen its before after freeze place guest))
+    Did number (λ its. EngineCounts old.held new.held (λ before after. IsFrozen its before after freeze place guest))
 
 -- a guest's freeze is given back
 abbrev pub Released : ℕ → EngineSlot → EngineSlot → ℕ → ℕ → Type 0
 Released number old new left freeze =
-    Did number (λ its. EngineTurns old.held new.held (λ before after. IsReleased its before after left freeze))
+    Did number (λ its. EngineCounts old.held new.held (λ before after. IsReleased its before after left freeze))
 
 -- whether a timer holds one of these freezes, and when the first is due
 abbrev pub TellsDue : List Freeze → Bool → ℕ → Type 0
@@ -126,7 +131,7 @@ IsNumberOf (Err fault) number = number ≡ number_of Faulty
 abbrev pub CalledWith : ℕ → EngineSlot → EngineSlot → RunSlot → RunSlot
     → (CallResult → EngineState → EngineState → HeldRun → HeldRun → Type 0) → Type 0
 CalledWith number old new run again Told =
-    Did number (λ its. EngineTurns old.held new.held (λ before after. Turns run.held again.held (λ was is.
+    Did number (λ its. EngineCounts old.held new.held (λ before after. Turns run.held again.held (λ was is.
     Told its before after was.held is.held × is_same_run was is)))
 
 -- what a device reports by these numbers: a completion, where the code is a status's and there may be such a one

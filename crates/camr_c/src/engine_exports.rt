@@ -79,11 +79,7 @@ pub extern "C" fn camr_raw_submit(
     ensures few { result < RESULTS }
     ensures kept { result ≢ 0 → ccb.new ≡ ccb.old }
 {
-    engine
-        .held()
-        .engine
-        .submit(queue, priority, retries, ccb)
-        .number()
+    engine.held().submit(queue, priority, retries, ccb).number()
 }
 
 #[unsafe(no_mangle)]
@@ -93,7 +89,7 @@ pub extern "C" fn camr_raw_dispatch(engine: &mut EngineSlot, queue: u32, ccb: &m
     ensures few { result < RESULTS }
     ensures kept { result ≢ 0 → ccb.new ≡ ccb.old }
 {
-    engine.held().engine.dispatch(queue, ccb).number()
+    engine.held().dispatch(queue, ccb).number()
 }
 
 #[unsafe(no_mangle)]
@@ -103,7 +99,7 @@ pub extern "C" fn camr_raw_clock(engine: &mut EngineSlot, reading: u64, removed:
     ensures few { result < RESULTS }
     ensures kept { result ≢ 0 → removed.new ≡ removed.old }
 {
-    engine.held().engine.clock(reading, removed).number()
+    engine.held().clock(reading, removed).number()
 }
 
 /// Whether a timer holds a freeze, and when the first is due.
@@ -135,11 +131,7 @@ pub extern "C" fn camr_raw_guest_freeze(
     ensures kept { result ≢ 0 → freeze.new ≡ freeze.old }
 {
     let place = Place::Device(QueueId(queue));
-    engine
-        .held()
-        .engine
-        .guest_freeze(place, guest, freeze)
-        .number()
+    engine.held().guest_freeze(place, guest, freeze).number()
 }
 
 #[unsafe(no_mangle)]
@@ -155,11 +147,7 @@ pub extern "C" fn camr_raw_guest_freeze_controller(
     ensures kept { result ≢ 0 → freeze.new ≡ freeze.old }
 {
     let place = Place::Controller(controller);
-    engine
-        .held()
-        .engine
-        .guest_freeze(place, guest, freeze)
-        .number()
+    engine.held().guest_freeze(place, guest, freeze).number()
 }
 
 #[unsafe(no_mangle)]
@@ -173,7 +161,7 @@ pub extern "C" fn camr_raw_guest_release(
     ensures few { result < RESULTS }
     ensures kept { result ≢ 0 → left.new ≡ left.old }
 {
-    engine.held().engine.guest_release(freeze, left).number()
+    engine.held().guest_release(freeze, left).number()
 }
 
 #[unsafe(no_mangle)]

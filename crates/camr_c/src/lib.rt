@@ -4,6 +4,7 @@
 
 mod engine_exports;
 mod engine_slot;
+mod metrics_export;
 mod raw_box;
 mod recovery_exports;
 mod result_exports;

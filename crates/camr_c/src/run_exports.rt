@@ -4,7 +4,7 @@ ghost use Rattle.std.specs.Prelude.{◌≡◌, ◌≢◌, ◌<◌, false, IsSome
 ghost use Rattle.ccb.specs.Completion.{Outcome};
 ghost use Rattle.host_embedding.specs.Calls.{IsAdvanced, IsDriven, IsParked};
 ghost use Rattle.host_embedding.specs.Held.{is_same_run, out_of, IsStretched};
-ghost use Rattle.camr_c.specs.Exports.{Did, EngineTurns, Turns, Stays, CalledWith, IsReported, Completed, Resumed};
+ghost use Rattle.camr_c.specs.Exports.{Did, EngineCounts, Turns, Stays, CalledWith, IsReported, Completed, Resumed};
 ghost use Rattle.host_embedding.specs.declared.call_result.TheConstants.{RESULTS};
 
 use crate::engine_slot::EngineSlot;
@@ -23,6 +23,7 @@ fn reported(ccb: u32, status: u8, scsi: u8, sense: &[u8]) -> Option<Completion>
 }
 
 /// Takes a completion. Where a run starts it goes into the run's slot, and `started` tells so.
+#[tactic(auto, using(crate::proofs::Refusing::counts_nothing))]
 #[unsafe(no_mangle)]
 pub extern "C" fn camr_raw_complete(
     alloc: Global,
@@ -36,14 +37,14 @@ pub extern "C" fn camr_raw_complete(
 ) -> u32
     requires { IsSome engine.old.held }
     ensures did { (report : Option Outcome) × IsReported ccb status scsi sense.now report
-        × EngineTurns engine.old.held engine.new.held (λ before after. Completed report before after result started.new run.old.held run.new.held) }
+        × EngineCounts engine.old.held engine.new.held (λ before after. Completed report before after result started.new run.old.held run.new.held) }
     ensures few { result < RESULTS }
 {
     *started = false;
     let Some(completion) = reported(ccb, status, scsi, sense) else {
         return CallResult::NoCompletion.number();
     };
-    match engine.held().engine.complete(alloc, completion) {
+    match engine.held().complete(alloc, completion) {
         Ok(Some(handle)) => {
             run.fill(RawBox::of(handle));
             *started = true;
@@ -79,7 +80,7 @@ pub extern "C" fn camr_raw_advance(
     ensures few { result < RESULTS }
     ensures kept { result ≢ 0 → (r0.new ≡ r0.old) × (ended.new ≡ ended.old) }
 {
-    engine.held().engine.advance(run.held(), r0, ended).number()
+    engine.held().advance(run.held(), r0, ended).number()
 }
 
 #[unsafe(no_mangle)]
@@ -96,7 +97,7 @@ pub extern "C" fn camr_raw_drive(
     ensures few { result < RESULTS }
     ensures unended { result ≢ 0 → ended.new ≡ false }
 {
-    engine.held().engine.drive(run.held(), r0, ended).number()
+    engine.held().drive(run.held(), r0, ended).number()
 }
 
 #[unsafe(no_mangle)]
@@ -107,7 +108,7 @@ pub extern "C" fn camr_raw_park(engine: &mut EngineSlot, run: &mut RunSlot) -> u
         IsParked its (out_of was) is before after) }
     ensures few { result < RESULTS }
 {
-    engine.held().engine.park(run.held()).number()
+    engine.held().park(run.held()).number()
 }
 
 /// Lets the run of that number go on, which goes into the run's slot, and `resumed` tells so.
@@ -120,11 +121,11 @@ pub extern "C" fn camr_raw_resume(
     resumed: &mut bool,
 ) -> u32
     requires { IsSome engine.old.held }
-    ensures did { EngineTurns engine.old.held engine.new.held (λ before after. Resumed number before after result resumed.new run.old.held run.new.held) }
+    ensures did { EngineCounts engine.old.held engine.new.held (λ before after. Resumed number before after result resumed.new run.old.held run.new.held) }
     ensures few { result < RESULTS }
 {
     *resumed = false;
-    match engine.held().engine.resume(alloc, number) {
+    match engine.held().resume(alloc, number) {
         Ok(handle) => {
             run.fill(RawBox::of(handle));
             *resumed = true;

@@ -44,12 +44,7 @@ pub extern "C" fn camr_raw_succeed(
     ensures text { written.new ≤ length fault.new }
 {
     *written = 0;
-    match succeed(
-        alloc,
-        &mut engine.held().engine,
-        manifest,
-        numbering_of(fresh),
-    ) {
+    match succeed(alloc, engine.held(), manifest, numbering_of(fresh)) {
         Ok(result) => result.number(),
         Err(its) => {
             *written = put_fault(alloc, &its, fault);

@@ -1,6 +1,6 @@
-// The program that explains manifests and codes, and shows traces: it reads the words after its name and the files that they name, and
-// carries them out. It relies on `cli_inspect_line` for the words, on `cli_inspection` for what is carried out, and on `cli_io` for the
-// machine.
+// The program that explains manifests and codes, shows traces, and says what policies decide: it reads the words after its name and the
+// files that they name, and carries them out. It relies on `cli_inspect_line` for the words, on `cli_inspection` for what is carried out,
+// and on `cli_io` for the machine.
 #![tactic(auto)]
 
 ghost use Rattle.std.specs.Prelude.{◌≡◌, ◌<◌, ◌^◌, length, IfOk};
@@ -68,7 +68,7 @@ fn tells(plan: &Plan, err: &Stderr) -> bool {
         Plan::ExplainFile(..) | Plan::Show(..) | Plan::Summarise(..) | Plan::Draw(..) => {
             err.is_terminal()
         }
-        Plan::ExplainCode(_) | Plan::Explain(_) => false,
+        Plan::ExplainCode(_) | Plan::Explain(_) | Plan::Decide(..) => false,
     }
 }
 

@@ -7,3 +7,4 @@ pub mod Accepted
 mod Counted
 pub mod Alone
 pub mod Decided
+pub mod Going

@@ -1,5 +1,5 @@
 // What is told of a live engine beside its trace, and whether another engine follows it. It relies on `host_journal` for the segment that
-// follows.
+// follows, and on `metering` for what is counted.
 
 ghost use Rattle.std.specs.Prelude.{◌≡◌, Err, IfErr, IfOk, IfSome, MatchOption, false, true};
 ghost use Rattle.host_journal.specs.Follows.{bytes_of};
@@ -8,12 +8,14 @@ ghost use Rattle.cli_commands.specs.Readings.{held, not_given, unreadable};
 ghost use Rattle.cli_commands.specs.declared.following.ManifestUnread.TheVariants.{Failed};
 
 use crate::fault::Fault;
+use crate::metering::{MetricsFile, write_counted};
 use base::OrMemory;
 use engine_config::Config;
 use engine_core::{CcbState, LiveCcb, NumberedEngine};
 use engine_succession::Numbering;
 use host_journal::{Begun, JournalError, JournalFault, NextManifest, follow};
-use host_live::{LineFault, Reports, Succession, Unfollowed};
+use host_live::{LineFault, Moment, Reports, Succession, Unfollowed};
+use host_metrics::Metrics;
 use std::alloc::{AllocError, Global};
 use std::io::Write;
 use std::marker::{Brand, PhantomData};
@@ -68,7 +70,7 @@ impl InForce for Brand {
 }
 
 /// A writer that is told what is no part of the trace, and what an engine that follows begins with, once it is decided that one does.
-pub(crate) struct Desk<'e, 'g, 'p, 'o, M: GivenManifest, E: Write, F: InForce> {
+pub(crate) struct Desk<'e, 'g, 'p, 'o, M: GivenManifest + MetricsFile, E: Write, F: InForce> {
     pub(crate) alloc: Global,
     pub(crate) err: &'e mut E,
     pub(crate) given: &'g mut M,
@@ -82,12 +84,17 @@ pub(crate) struct Desk<'e, 'g, 'p, 'o, M: GivenManifest, E: Write, F: InForce> {
     ghost own_is: { own.now ≡ F.own },
 }
 
-impl<M: GivenManifest, E: Write, F: InForce> Reports for Desk<'_, '_, '_, '_, M, E, F> {
+impl<M: GivenManifest + MetricsFile, E: Write, F: InForce> Reports
+    for Desk<'_, '_, '_, '_, M, E, F> {
     ghost use Rattle.cli_commands.specs.Following.{IsFollowing, MayRefuse};
 
     ghost has_decided = { λ desk how engine. IsFollowing M.may_read F.number F.own how engine desk.next };
 
     ghost may_refuse = { MayRefuse M.may_read F.number F.own };
+
+    ghost use Rattle.std.specs.Prelude.{⊤};
+
+    ghost may_count = { λ metrics engine. ⊤ };
 
     fn refused(&mut self, fault: LineFault, line: usize) {
         let _ = match fault {
@@ -121,6 +128,10 @@ impl<M: GivenManifest, E: Write, F: InForce> Reports for Desk<'_, '_, '_, '_, M,
         for request in REQUESTS {
             let _ = writeln!(self.err, "camr: {request}");
         }
+    }
+
+    fn counted(&mut self, when: Moment, metrics: &Metrics, engine: &NumberedEngine<'_>) {
+        write_counted(self.alloc, self.given, when, metrics, engine, self.err);
     }
 
     fn follow(
@@ -158,7 +169,7 @@ const REQUESTS: [&str; 18] = [
     "quit",
 ];
 
-impl<M: GivenManifest, E: Write, F: InForce> Desk<'_, '_, '_, '_, M, E, F> {
+impl<M: GivenManifest + MetricsFile, E: Write, F: InForce> Desk<'_, '_, '_, '_, M, E, F> {
     // With the manifest in force.
     fn rotate(
         &mut self,

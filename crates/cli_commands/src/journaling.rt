@@ -13,6 +13,7 @@ ghost use Rattle.cli_commands.specs.declared.serving.Outcome.TheVariants.{Follow
 use crate::fault::Fault;
 use crate::following::{Desk, GivenManifest, InForce, Next};
 use crate::journal_reports::{Place, report, report_carried, report_recovered};
+use crate::metering::{MetricsFile, taken_metrics};
 use crate::serving::{Outcome, followed};
 use engine_core::NumberedEngine;
 use engine_succession::Numbering;
@@ -29,7 +30,7 @@ use std::marker::{Brand, PhantomData};
 /// input ends, and returns the status: 0 at its end; 1 if the journal or the manifest, a path and its bytes, is refused, and then nothing
 /// changed but the lock's file; 2 for want of memory, or if a file, the input or the output fails. What was recovered is reported on `err`.
 /// Each line of a trace stands in the journal's segment before it goes out. The disk comes back.
-pub fn serve_journal<D: Disk, I: Input, M: GivenManifest, E: Write>(
+pub fn serve_journal<D: Disk, I: Input, M: GivenManifest + MetricsFile, E: Write>(
     alloc: Global,
     mut disk: D,
     folder: &str,
@@ -95,7 +96,7 @@ struct Terms<'a> {
 }
 
 // The engine of this segment was served, or none was. The same of each that follows.
-fn serve_rest<D: Disk, I: Input, M: GivenManifest, E: Write>(
+fn serve_rest<D: Disk, I: Input, M: GivenManifest + MetricsFile, E: Write>(
     terms: Terms<'_>,
     mut disk: D,
     mut outcome: Outcome,
@@ -123,7 +124,7 @@ fn serve_rest<D: Disk, I: Input, M: GivenManifest, E: Write>(
 }
 
 // Makes the segment that follows, and serves its engine.
-fn serve_next<D: Disk, I: Input, M: GivenManifest, E: Write>(
+fn serve_next<D: Disk, I: Input, M: GivenManifest + MetricsFile, E: Write>(
     terms: Terms<'_>,
     mut disk: D,
     next: Next,
@@ -167,7 +168,7 @@ fn serve_next<D: Disk, I: Input, M: GivenManifest, E: Write>(
 }
 
 // Serves the engine of this segment; if that was shut, that of the segment that follows, with the manifest that is given.
-fn serve_begun<D: Disk, I: Input, M: GivenManifest, E: Write>(
+fn serve_begun<D: Disk, I: Input, M: GivenManifest + MetricsFile, E: Write>(
     terms: Terms<'_>,
     disk: D,
     begun: &Begun<'_>,
@@ -192,7 +193,7 @@ fn serve_begun<D: Disk, I: Input, M: GivenManifest, E: Write>(
 }
 
 // The same of a segment that is there.
-fn serve_found<D: Disk, I: Input, M: GivenManifest, E: Write>(
+fn serve_found<D: Disk, I: Input, M: GivenManifest + MetricsFile, E: Write>(
     terms: Terms<'_>,
     mut disk: D,
     begun: &Begun<'_>,
@@ -218,7 +219,7 @@ fn serve_found<D: Disk, I: Input, M: GivenManifest, E: Write>(
 }
 
 // The same of a segment whose manifest has these bytes.
-fn serve_owned<D: Disk, I: Input, M: GivenManifest, E: Write>(
+fn serve_owned<D: Disk, I: Input, M: GivenManifest + MetricsFile, E: Write>(
     terms: Terms<'_>,
     mut disk: D,
     begun: &Begun<'_>,
@@ -244,7 +245,7 @@ fn serve_owned<D: Disk, I: Input, M: GivenManifest, E: Write>(
 }
 
 // The same of a segment that was opened.
-fn serve_opened<D: Disk, I: Input, M: GivenManifest, E: Write>(
+fn serve_opened<D: Disk, I: Input, M: GivenManifest + MetricsFile, E: Write>(
     terms: Terms<'_>,
     disk: D,
     begun: &Begun<'_>,
@@ -278,7 +279,7 @@ fn serve_opened<D: Disk, I: Input, M: GivenManifest, E: Write>(
 }
 
 // Serves the engine of this segment, with which the start goes on: the input's clock goes on from what the engine's reads.
-fn serve_first<D: Disk, I: Input, M: GivenManifest, E: Write>(
+fn serve_first<D: Disk, I: Input, M: GivenManifest + MetricsFile, E: Write>(
     terms: Terms<'_>,
     disk: D,
     begun: &Begun<'_>,
@@ -307,7 +308,7 @@ fn serve_first<D: Disk, I: Input, M: GivenManifest, E: Write>(
 }
 
 // Serves the engine of this segment, whose manifest has these bytes, and before it answers the line that is owed an answer.
-fn serve_engine<D: Disk, I: Input, M: GivenManifest, E: Write>(
+fn serve_engine<D: Disk, I: Input, M: GivenManifest + MetricsFile, E: Write>(
     terms: Terms<'_>,
     disk: D,
     begun: &Begun<'_>,
@@ -337,7 +338,7 @@ fn serve_engine<D: Disk, I: Input, M: GivenManifest, E: Write>(
 }
 
 // The same, with these in force.
-fn serve_under<F: InForce, D: Disk, I: Input, M: GivenManifest, E: Write>(
+fn serve_under<F: InForce, D: Disk, I: Input, M: GivenManifest + MetricsFile, E: Write>(
     terms: Terms<'_>,
     disk: D,
     begun: &Begun<'_>,
@@ -363,6 +364,7 @@ fn serve_under<F: InForce, D: Disk, I: Input, M: GivenManifest, E: Write>(
     ensures onward { IsOnward begun.now.number result.1 }
     ensures served { IsServedTo M.may_read recovered.entry.engine recovered.entry.records begun.now own.now terms.entry.manner terms.entry.is_synced owed (D.steps disk) (I.came input.old) lines.old (D.steps result.0) (I.came input.new) lines.new result.1 }
 {
+    let mut metrics = taken_metrics(terms.alloc, given, own, err);
     let mut desk: Desk<M, E, F> = Desk {
         alloc: terms.alloc,
         err: &mut *err,
@@ -389,6 +391,7 @@ fn serve_under<F: InForce, D: Disk, I: Input, M: GivenManifest, E: Write>(
         terms.manner,
         terms.is_synced,
         owed,
+        &mut metrics,
         input,
         lines,
         &mut desk,
@@ -403,6 +406,7 @@ fn serve_under<F: InForce, D: Disk, I: Input, M: GivenManifest, E: Write>(
         next,
         of: _,
     } = desk;
+    given.keep_metrics(metrics);
     (disk, outcome_of(terms, begun.number, served, next, err))
 }
 
@@ -426,7 +430,7 @@ fn outcome_of<E: Write>(
 
 // Serves the engine that follows that of this segment, which was shut, with the manifest that is given, or with these bytes, which are the
 // segment's.
-fn serve_after<D: Disk, I: Input, M: GivenManifest, E: Write>(
+fn serve_after<D: Disk, I: Input, M: GivenManifest + MetricsFile, E: Write>(
     terms: Terms<'_>,
     disk: D,
     begun: &Begun<'_>,
@@ -464,7 +468,7 @@ fn serve_after<D: Disk, I: Input, M: GivenManifest, E: Write>(
 }
 
 // The same with this manifest.
-fn serve_following<D: Disk, I: Input, M: GivenManifest, E: Write>(
+fn serve_following<D: Disk, I: Input, M: GivenManifest + MetricsFile, E: Write>(
     terms: Terms<'_>,
     disk: D,
     begun: &Begun<'_>,
@@ -502,7 +506,7 @@ fn serve_following<D: Disk, I: Input, M: GivenManifest, E: Write>(
 }
 
 // Makes the next segment, whose manifest has these bytes, and serves its engine.
-fn serve_made<D: Disk, I: Input, M: GivenManifest, E: Write>(
+fn serve_made<D: Disk, I: Input, M: GivenManifest + MetricsFile, E: Write>(
     terms: Terms<'_>,
     mut disk: D,
     next: &Begun<'_>,

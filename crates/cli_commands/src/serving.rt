@@ -21,6 +21,7 @@ use crate::fault::Fault;
 use crate::files::text;
 use crate::following::{Desk, GivenManifest, InForce, Next, copied};
 use crate::journal_reports::Place;
+use crate::metering::{MetricsFile, taken_metrics};
 use base::OrMemory;
 use engine_core::NumberedEngine;
 use host_journal::{Begun, JournalError, first_engine, first_text};
@@ -46,7 +47,7 @@ pub(crate) enum Outcome {
 /// ends, and answers the status: 0 at its end; 1 if the manifest is refused, before anything goes out; 2 for want of memory, or if the input
 /// or a sink fails. The traces of the engines go out line by line, one after the other. A line that is not carried out is told on `err`, and
 /// changes nothing.
-pub fn serve<I: Input, S: Outlet, M: GivenManifest, E: Write>(
+pub fn serve<I: Input, S: Outlet, M: GivenManifest + MetricsFile, E: Write>(
     alloc: Global,
     manifest: (&str, &[u8]),
     manner: Manner,
@@ -110,7 +111,7 @@ fn read<'a>(alloc: Global, file: (&'a str, &[u8])) -> Result<Manifest, Fault<'a>
 }
 
 // Serves an engine that begins so, and then each that follows.
-fn serve_all<I: Input, S: Outlet, M: GivenManifest, E: Write>(
+fn serve_all<I: Input, S: Outlet, M: GivenManifest + MetricsFile, E: Write>(
     place: Place<'_>,
     first: Next,
     manner: Manner,
@@ -137,7 +138,7 @@ fn serve_all<I: Input, S: Outlet, M: GivenManifest, E: Write>(
 }
 
 // Serves an engine that begins so.
-fn serve_next<I: Input, S: Outlet, M: GivenManifest, E: Write>(
+fn serve_next<I: Input, S: Outlet, M: GivenManifest + MetricsFile, E: Write>(
     place: Place<'_>,
     next: Next,
     manner: Manner,
@@ -224,7 +225,7 @@ fn live_fault(error: JournalError) -> LiveFault {
 }
 
 // Serves this engine, of which no record was made.
-fn serve_begun<I: Input, S: Outlet, M: GivenManifest, E: Write>(
+fn serve_begun<I: Input, S: Outlet, M: GivenManifest + MetricsFile, E: Write>(
     place: Place<'_>,
     begun: &Begun<'_>,
     own: &[u8],
@@ -253,7 +254,7 @@ fn serve_begun<I: Input, S: Outlet, M: GivenManifest, E: Write>(
 }
 
 // The same, with these in force.
-fn serve_under<F: InForce, I: Input, S: Outlet, M: GivenManifest, E: Write>(
+fn serve_under<F: InForce, I: Input, S: Outlet, M: GivenManifest + MetricsFile, E: Write>(
     place: Place<'_>,
     begun: &Begun<'_>,
     own: &[u8],
@@ -284,6 +285,7 @@ fn serve_under<F: InForce, I: Input, S: Outlet, M: GivenManifest, E: Write>(
         is_clocked: manner.is_clocked,
         is_kept: false,
     };
+    let mut metrics = taken_metrics(place.alloc, given, own, err);
     let mut desk: Desk<M, E, F> = Desk {
         alloc: place.alloc,
         err: &mut *err,
@@ -301,6 +303,7 @@ fn serve_under<F: InForce, I: Input, S: Outlet, M: GivenManifest, E: Write>(
         0,
         alone,
         owed,
+        &mut metrics,
         input,
         lines,
         out,
@@ -316,6 +319,7 @@ fn serve_under<F: InForce, I: Input, S: Outlet, M: GivenManifest, E: Write>(
         next,
         of: _,
     } = desk;
+    given.keep_metrics(metrics);
     outcome_of(begun.number, served, next, err)
 }
 

@@ -169,3 +169,5 @@ module _ (name : Text) (rows : List Row) where
       moved name (codes "show") rows file drawing (Some (d, string_bytes c)) is_counted false is_json is_json (plans.Draw d a b c) found.0 (drawing_found rows d (string_bytes c) found.4)
       (sym (told_as (first_of (codes "summary") rows) false found.3)) refl
       (found_word (codes "MANIFEST") rows _ found.1.0, found_word (codes "TRACE") rows _ found.1.1, refl, refl)
+  found_asked (plans.Decide extent question a) all found =
+      moved name (codes "decide") rows file drawing drawing is_counted is_counted is_json is_json (plans.Decide extent question a) found.0 refl refl refl tt

@@ -2,7 +2,7 @@
 use Rattle.std.specs.Prelude.{ℕ, List, [], ◌∷◌, Option, Some, None, string_bytes}
 use Rattle.cli_line.specs.Files.{stream_count}
 use Rattle.cli_inspect_line.specs.declared.plans.Plan.{Plan}
-use Rattle.cli_inspect_line.specs.declared.plans.Plan.TheVariants.{ExplainCode, Explain, ExplainFile, Show, Summarise, Draw}
+use Rattle.cli_inspect_line.specs.declared.plans.Plan.TheVariants.{ExplainCode, Explain, ExplainFile, Show, Summarise, Draw, Decide}
 
 -- the paths of those that are read, in the order of the line
 abbrev pub input_paths : Plan → List (List ℕ)
@@ -12,6 +12,7 @@ input_paths (ExplainFile manifest file) = string_bytes manifest ∷ string_bytes
 input_paths (Show form filter manifest trace) = string_bytes manifest ∷ string_bytes trace ∷ []
 input_paths (Summarise form manifest trace) = string_bytes manifest ∷ string_bytes trace ∷ []
 input_paths (Draw drawing manifest trace output) = string_bytes manifest ∷ string_bytes trace ∷ []
+input_paths (Decide extent question manifest) = string_bytes manifest ∷ []
 
 -- the path of the one that is written, if there is one
 abbrev pub output_path : Plan → Option (List ℕ)
@@ -21,6 +22,7 @@ output_path (ExplainFile manifest file) = None
 output_path (Show form filter manifest trace) = None
 output_path (Summarise form manifest trace) = None
 output_path (Draw drawing manifest trace output) = Some (string_bytes output)
+output_path (Decide extent question manifest) = None
 
 -- how often the plan reads standard input: for each file that it stands for
 abbrev pub stdin_reads : Plan → ℕ

@@ -8,6 +8,7 @@ use Rattle.cli_line.specs.RunCommand.{camr_command}
 use Rattle.cli_line.specs.UsageFault.{IsValueFault}
 use Rattle.cli_line.specs.RunLine.{Spells}
 use Rattle.base.specs.Hexadecimal.{byte_in}
+use Rattle.cli_inspect_line.specs.Deciding.{HasExtent, HasQuestion}
 use Rattle.cli_inspect_line.specs.Files.{stdin_reads}
 use Rattle.cli_inspect_line.specs.InspectLines.{everything}
 use Rattle.cli_inspect_line.specs.ReportedWords.{refused_in, sense_in}
@@ -16,10 +17,11 @@ use Rattle.cli_inspect_line.specs.declared.plans.Drawing.TheVariants.{Svg, Perfe
 use Rattle.cli_inspect_line.specs.declared.plans.Form.{Form}
 use Rattle.cli_inspect_line.specs.declared.plans.Form.TheVariants.{Words, Json}
 use Rattle.cli_inspect_line.specs.declared.plans.Plan.{Plan}
-use Rattle.cli_inspect_line.specs.declared.plans.Plan.TheVariants.{ExplainCode, Explain, ExplainFile, Show, Summarise, Draw}
+use Rattle.cli_inspect_line.specs.declared.plans.Plan.TheVariants.{ExplainCode, Explain, ExplainFile, Show, Summarise, Draw, Decide}
 use Rattle.cli_inspect_line.specs.declared.showing.TheConstants.{LAST_NUMBER, LAST_QUEUE, LAST_READING}
 use Rattle.explain_codes.specs.Names.{code_named}
 use Rattle.show_events.specs.declared.filter.Filter.{Filter}
+use Rattle.show_question.specs.declared.Question.{Question}
 
 -- the number that `clap` found under that name, in decimal digits alone
 abbrev pub FindsNumber : Text → List Row → Option ℕ → Type 0
@@ -110,6 +112,8 @@ HasFoundBehind name rows (Summarise form manifest trace) =
 HasFoundBehind name rows (Draw drawing manifest trace output) =
     (name ≡ codes "show") × HasBoth rows (string_bytes manifest) (string_bytes trace) × HasFilter rows everything
     × (AsksSummary rows → ⊥) × AsksDrawing rows drawing (string_bytes output) × HasForm rows Words
+HasFoundBehind name rows (Decide extent question manifest) =
+    (name ≡ codes "decide") × (first_of (codes "MANIFEST") rows ≡ Some (string_bytes manifest)) × HasQuestion rows question × HasExtent rows extent
 
 -- the words asked for something, and the plan is that
 abbrev pub HasFound : Option (Text × List Row) → Plan → Type 0
@@ -130,10 +134,15 @@ abbrev pub MakesAccount : List Row → Type 0
 MakesAccount rows = AreFound (codes "MANIFEST" ∷ codes "TRACE" ∷ []) rows
     × ((filter : Filter) × IsWithin filter × HasFilter rows filter × AsksOne rows filter)
 
+-- behind `decide` a manifest is found, and words that are spelled as they have to be
+abbrev pub MakesQuestion : List Row → Type 0
+MakesQuestion rows = AreFound (codes "MANIFEST" ∷ []) rows × ((question : Question) × HasQuestion rows question)
+
 -- those rows are enough for a plan behind that word
 abbrev pub Suffices : Text → List Row → Type 0
 Suffices name rows = MatchBool (bytes_eq name (codes "show")) (MakesAccount rows)
-    (MatchBool (bytes_eq name (codes "explain")) (AreFound (codes "WORD" ∷ []) rows) ⊥)
+    (MatchBool (bytes_eq name (codes "explain")) (AreFound (codes "WORD" ∷ []) rows)
+    (MatchBool (bytes_eq name (codes "decide")) (MakesQuestion rows) ⊥))
 
 -- what those rows ask for behind that word, and none only where they are not enough for a plan
 abbrev pub PlansBehind : Text → List Row → Option Plan → Type 0

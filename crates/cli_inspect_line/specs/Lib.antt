@@ -1,3 +1,4 @@
+pub mod Deciding
 pub mod Files
 pub mod FoundPlan
 pub mod InspectLines

@@ -1,5 +1,5 @@
-// What the program `camr_inspect` can be asked to do. It relies on `explain_codes` and on `show_events` for what may be asked of
-// codes and of traces, and on `cli_line` for what stands for standard input.
+// What the program `camr_inspect` can be asked to do. It relies on `explain_codes`, on `show_events` and on `show_question` for what may be
+// asked of codes, of traces and of policies, and on `cli_line` for what stands for standard input.
 
 ghost use Rattle.std.specs.Prelude.{◌≡◌, ◌<◌, ◌≤◌, [], Some, None, MatchOption, length, slice_index_or};
 ghost use Rattle.cli_inspect_line.specs.Files.{input_paths, output_path, stdin_reads};
@@ -7,6 +7,7 @@ ghost use Rattle.cli_inspect_line.specs.Files.{input_paths, output_path, stdin_r
 use cli_line::reads_of;
 use explain_codes::Code;
 use show_events::Filter;
+use show_question::Question;
 
 /// In which form something is shown of a trace.
 #[derive(Clone, Copy, Debug)]
@@ -26,6 +27,15 @@ pub enum Drawing {
     Perfetto,
 }
 
+/// Of what it is asked what a policy decides.
+#[derive(Clone, Copy, Debug)]
+pub enum Extent {
+    /// Of one failure.
+    One,
+    /// Of each sense key, ASC and ASCQ.
+    AllSense,
+}
+
 /// What is to be done, with the paths of the files in the order of the line.
 #[derive(Debug, Drop)]
 pub enum Plan {
@@ -41,6 +51,8 @@ pub enum Plan {
     Summarise(Form, String, String),
     /// Draws what happened in a trace: as what, the manifest, the trace, and the file that gets it.
     Draw(Drawing, String, String, String),
+    /// Says what a queue's policy does with a failed command: of what that is asked, what is asked, the manifest.
+    Decide(Extent, Question, String),
 }
 
 impl Plan {
@@ -50,7 +62,7 @@ impl Plan {
     {
         match self {
             Plan::ExplainCode(_) => 0,
-            Plan::Explain(_) => 1,
+            Plan::Explain(_) | Plan::Decide(..) => 1,
             Plan::ExplainFile(..) | Plan::Show(..) | Plan::Summarise(..) | Plan::Draw(..) => 2,
         }
     }
@@ -66,7 +78,8 @@ impl Plan {
                 | Plan::ExplainFile(first, _)
                 | Plan::Show(_, _, first, _)
                 | Plan::Summarise(_, first, _)
-                | Plan::Draw(_, first, _, _),
+                | Plan::Draw(_, first, _, _)
+                | Plan::Decide(_, _, first),
                 0,
             ) => { first.as_str() }
             (
@@ -90,7 +103,8 @@ impl Plan {
             | Plan::Explain(_)
             | Plan::ExplainFile(..)
             | Plan::Show(..)
-            | Plan::Summarise(..) => None,
+            | Plan::Summarise(..)
+            | Plan::Decide(..) => None,
         }
     }
 
@@ -100,7 +114,7 @@ impl Plan {
     {
         match self {
             Plan::ExplainCode(_) => 0,
-            Plan::Explain(file) => reads_of(file),
+            Plan::Explain(file) | Plan::Decide(_, _, file) => reads_of(file),
             Plan::ExplainFile(manifest, file) => reads_of(manifest) + reads_of(file),
             Plan::Show(_, _, manifest, trace) => reads_of(manifest) + reads_of(trace),
             Plan::Summarise(_, manifest, trace) => reads_of(manifest) + reads_of(trace),

@@ -1,5 +1,5 @@
-// The words after the program's name, read as a plan. It relies on `cli_line` for what `clap` makes of them, and on `showing` for
-// those after `show`.
+// The words after the program's name, read as a plan. It relies on `cli_line` for what `clap` makes of them, on `showing` for
+// those after `show`, and on `deciding` for those after `decide`.
 
 ghost use Rattle.std.specs.Prelude.{◌≡◌, ◌≤◌, [], IfErr, IfOk, codes, map, string_bytes};
 ghost use Rattle.clap.specs.Words.{fault_of, found_of, kind_of, rows_of, subcommand_of, subcommand_rows_of};
@@ -10,6 +10,7 @@ ghost use Rattle.cli_inspect_line.specs.Files.{stdin_reads};
 ghost use Rattle.cli_inspect_line.specs.FoundPlan.{HasFound, IsOfFiles, IsOfWord, IsRefused, IsUnplanned, PlansBehind, PlansFound};
 ghost use Rattle.cli_inspect_line.specs.InspectLines.{ArePlain, Asked, IsAsked, line_of};
 
+use crate::deciding::{decide_fault, decide_plan};
 use crate::plans::Plan;
 use crate::showing::{show_fault, show_plan};
 use clap::error::ErrorKind;
@@ -89,6 +90,7 @@ fn plan_behind(alloc: Global, name: &str, found: &ArgMatches) -> Result<Option<P
     match name {
         "explain" => explain_plan(alloc, found),
         "show" => show_plan(alloc, found),
+        "decide" => decide_plan(alloc, found),
         _ => Ok(None),
     }
 }
@@ -137,6 +139,7 @@ fn no_plan(alloc: Global, matches: &ArgMatches) -> Error
 {
     let fault = match matches.subcommand() {
         Some(("show", show)) => show_fault(alloc, show),
+        Some(("decide", decide)) => decide_fault(alloc, decide),
         Some((name, _)) => other_program(alloc, name),
         None => other_program(alloc, ""),
     };

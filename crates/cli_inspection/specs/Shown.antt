@@ -1,5 +1,5 @@
 -- What the status of a plan says of the files that it reads.
-use Rattle.std.specs.Prelude.{◌≡◌, ◌≢◌, ◌++◌, ◌∷◌, ◌⊎◌, [], ℕ, Bool, true, false, Contains, List, Option, codes}
+use Rattle.std.specs.Prelude.{◌≡◌, ◌≢◌, ◌++◌, ◌∷◌, ◌⊎◌, [], ℕ, Bool, true, false, Contains, List, Option, None, codes}
 use Rattle.std.specs.Io.{StartsWith}
 use Rattle.std.specs.Io.KnownBytes.{Appends}
 use Rattle.world_calls.specs.declared.trace.Trace.{Trace}
@@ -8,8 +8,16 @@ use Rattle.cli_commands.specs.Told.{IsAcceptedTrace, IsFaultyManifest, IsManifes
 use Rattle.cli_commands.specs.declared.fault.Fault.{Fault}
 use Rattle.cli_commands.specs.declared.fault.Fault.TheVariants as faults
 use Rattle.trace.specs.declared.fault.TraceFault.TheVariants.{Header}
+use Rattle.manifest.specs.Meaning.{Means}
+use Rattle.world.specs.World.{Setup}
+use Rattle.show_question.specs.declared.Question.{Question}
+use Rattle.host_decision.specs.declared.undecided.Undecided.{Undecided}
+use Rattle.show_decision.specs.Table.{IsTabled}
+use Rattle.show_decision.specs.Told.{IsAnswered}
+use Rattle.cli_inspect_line.specs.declared.plans.Extent.{Extent}
+use Rattle.cli_inspect_line.specs.declared.plans.Extent.TheVariants.{One, AllSense}
 use Rattle.cli_inspect_line.specs.declared.plans.Plan.{Plan}
-use Rattle.cli_inspect_line.specs.declared.plans.Plan.TheVariants.{ExplainCode, Explain, ExplainFile, Show, Summarise, Draw}
+use Rattle.cli_inspect_line.specs.declared.plans.Plan.TheVariants.{ExplainCode, Explain, ExplainFile, Show, Summarise, Draw, Decide}
 
 -- a plan's first file is what the plan asks for; for a code nothing is read
 abbrev pub IsAsAsked : Plan → List ℕ → Type 0
@@ -19,6 +27,7 @@ IsAsAsked (ExplainFile manifest file) bytes = IsManifest bytes
 IsAsAsked (Show form filter manifest trace) bytes = IsManifest bytes
 IsAsAsked (Summarise form manifest trace) bytes = IsManifest bytes
 IsAsAsked (Draw drawing manifest trace output) bytes = IsManifest bytes
+IsAsAsked (Decide extent question manifest) bytes = IsManifest bytes
 
 -- it has a fault; where a trace is read too, the fault may be there
 abbrev pub IsFaulty : Plan → List ℕ → Type 0
@@ -28,6 +37,7 @@ IsFaulty (ExplainFile manifest file) bytes = Unit {0}
 IsFaulty (Show form filter manifest trace) bytes = Unit {0}
 IsFaulty (Summarise form manifest trace) bytes = Unit {0}
 IsFaulty (Draw drawing manifest trace output) bytes = Unit {0}
+IsFaulty (Decide extent question manifest) bytes = IsFaultyManifest bytes
 
 -- the plan explains, so that it is on the output that it says why a file is refused
 abbrev pub explains : Plan → Bool
@@ -40,6 +50,23 @@ explains plan = false
 abbrev pub IsOutput : Plan → Option (List ℕ) → Option (List ℕ) → Type 0
 IsOutput (ExplainFile manifest file) old new = PutsOut (λ output. output ≡ codes "accepted" ++ 10 ∷ []) old new
 IsOutput plan old new = Unit {0}
+
+-- the bytes are a manifest of that configuration
+abbrev pub IsConfigured : List ℕ → Setup → Type 0
+IsConfigured bytes config = (programs : _) × Means bytes config programs
+
+-- what was printed of a question: what engines of the configuration decide of the one failure, or of all sense data
+abbrev pub IsPrinted : Extent → Setup → Question → (old new : Option (List ℕ)) → Option Undecided → Type 0
+IsPrinted One config question old new undecided = IsAnswered config question old new undecided
+IsPrinted AllSense config question old new undecided = IsTabled config question old new undecided
+
+abbrev pub IsDecided : Extent → Question → List ℕ → Option (List ℕ) → Option (List ℕ) → Type 0
+IsDecided extent question bytes old new = (config : Setup) × IsConfigured bytes config × IsPrinted extent config question old new None
+
+-- what went out of a plan that asks a policy of a manifest, whose bytes these are
+abbrev pub IsPlanDecided : Plan → List ℕ → Option (List ℕ) → Option (List ℕ) → Type 0
+IsPlanDecided (Decide extent question manifest) bytes old new = IsDecided extent question bytes old new
+IsPlanDecided plan bytes old new = Unit {0}
 
 -- whether nothing is read
 abbrev pub is_of_code : Plan → Bool

@@ -1,11 +1,13 @@
 // A plan, carried out over the bytes of its files. It relies on `tracing` for what a trace shows, on `explaining` for what is said of a
-// manifest, on `judging` for what is said of a scenario or a trace, and on `explain_codes` for what is said of a code.
+// manifest, on `judging` for what is said of a scenario or a trace, on `deciding` for what a policy decides, and on `explain_codes` for what
+// is said of a code.
 
 ghost use Rattle.std.specs.Prelude.{◌≡◌, ◌≢◌, ◌≤◌, Contains, Some, IsUtf8, false, length, slice_get, true};
 ghost use Rattle.std.specs.Io.KnownBytes.{Keeps};
 ghost use Rattle.cli_inspect_line.specs.Files.{input_paths};
-ghost use Rattle.cli_inspection.specs.Shown.{AreReported, IsAccepted, IsAsAsked, IsFaulty, IsOutput, IsRejected, IsReported, explains, is_of_code};
+ghost use Rattle.cli_inspection.specs.Shown.{AreReported, IsAccepted, IsAsAsked, IsFaulty, IsOutput, IsPlanDecided, IsRejected, IsReported, explains, is_of_code};
 
+use crate::deciding::print_decided;
 use crate::explaining::print_explanation;
 use crate::judging::print_judged;
 use crate::tracing::{Told, print_traced};
@@ -18,7 +20,8 @@ use std::thread::Threads;
 use world_calls::Notices;
 
 /// Carries a plan out over the bytes of its input files, in the order of the line, and answers the status: 0 done; 1 refused, or
-/// explained why; 2 for a file that is to be text and is not UTF-8, for want of memory, or if a writer fails. What is to go out is
+/// explained why; 2 for a file that is to be text and is not UTF-8, for a question that no engine of its manifest can take, for want of
+/// memory, or if a writer fails. What is to go out is
 /// written on `out`, also why a file is refused that is to be explained. Of any other fault one line is written on `err`, and a second
 /// one of an open trace that does not follow; nothing goes out. If `out` fails for want of memory that line is written too; some may be
 /// out then. How far a replay or a run is, is reported to `notices`.
@@ -40,6 +43,8 @@ pub fn carry<N: Notices + Sync, R: Threads + Wait + Sync, W: Write, E: Write>(
     ensures done { result ≡ 0 → (input : _) → slice_get inputs.now 0 ≡ Some input → IsAsAsked plan.now input.items }
     // What a trace shows is done only if it is the trace of a history of an engine of the first file, or is open and begins one.
     ensures accepted { result ≡ 0 → (first second : _) → slice_get inputs.now 0 ≡ Some first → slice_get inputs.now 1 ≡ Some second → IsAccepted plan.now first.items second.items }
+    // What is asked of a policy is answered by what a policy of the first file decides.
+    ensures decided { result ≡ 0 → (input : _) → slice_get inputs.now 0 ≡ Some input → IsPlanDecided plan.now input.items (W.contents out.old) (W.contents out.new) }
     // Refused only if it has a fault, or the file after it has one; a manifest that is to be explained is refused too.
     ensures refused { result ≡ 1 → (input : _) → slice_get inputs.now 0 ≡ Some input → IsFaulty plan.now input.items }
     // Of two files, refused only if one has a fault, or a line of the trace does not follow.
@@ -72,6 +77,10 @@ pub fn carry<N: Notices + Sync, R: Threads + Wait + Sync, W: Write, E: Write>(
         Plan::Draw(drawing, ..) => {
             let told = Told::Drawn(*drawing);
             print_traced(alloc, told, plan, inputs, notices, out, err)
+        }
+        Plan::Decide(extent, question, manifest) => {
+            let manifest = (manifest.as_str(), inputs[0].as_slice());
+            print_decided(alloc, *extent, question, manifest, out, err)
         }
     }
 }

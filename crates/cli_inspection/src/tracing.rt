@@ -189,8 +189,11 @@ fn print<W: Write>(
     }
 }
 
-// The programs with their names, as those want them that show a trace.
-fn named(alloc: Global, programs: &[NamedProgram]) -> Result<Vec<NamedAccepted<'_>>, AllocError> {
+/// The programs with their names, as those want them that show records.
+pub(crate) fn named(
+    alloc: Global,
+    programs: &[NamedProgram],
+) -> Result<Vec<NamedAccepted<'_>>, AllocError> {
     let mut named = Vec::with_capacity(alloc, programs.len())?;
     for program in programs {
         named.push(NamedAccepted {

@@ -17,12 +17,28 @@ const LINKS: u32 = 40;
 pub struct Disk<'a, R: Files<File = File>> {
     rt: &'a R,
     file: Option<File>,
+    // what is written does not have to outlast a stop of the machine: nothing waits for that
+    is_passing: bool,
 }
 
 impl<'a, R: Files<File = File>> Disk<'a, R> {
     /// Nothing is open.
     pub fn new(rt: &'a R) -> Self {
-        Disk { rt, file: None }
+        Disk {
+            rt,
+            file: None,
+            is_passing: false,
+        }
+    }
+
+    /// The same for files that are soon written anew: it does not wait until they would outlast a stop of the machine, and of a stop nothing is
+    /// promised.
+    pub fn passing(rt: &'a R) -> Self {
+        Disk {
+            rt,
+            file: None,
+            is_passing: true,
+        }
     }
 }
 
@@ -125,7 +141,11 @@ impl<R: Files<File = File> + RandomSource + AllocGlobal> Folder for Disk<'_, R> 
     }
 
     fn sync(&mut self) -> io::Result<()> {
-        opened(&self.file)?.sync_all()
+        let file = opened(&self.file)?;
+        if self.is_passing {
+            return Ok(());
+        }
+        file.sync_all()
     }
 
     fn rename(&mut self, from: &str, to: &str) -> io::Result<()> {
@@ -142,6 +162,9 @@ impl<R: Files<File = File> + RandomSource + AllocGlobal> Folder for Disk<'_, R> 
     }
 
     fn settle(&mut self, path: &str) {
+        if self.is_passing {
+            return;
+        }
         if let Ok(folder) = File::open(self.rt, folder_of(path)) {
             let _ = folder.sync_all();
         }
@@ -188,6 +211,19 @@ fn is_of_a_process<R: Files + AllocGlobal>(rt: &R, path: &str) -> bool {
             || folder.as_path().starts_with("/dev/fd"),
         Err(_) => false,
     }
+}
+
+/// Whether one file stands under both paths.
+pub fn are_same<R: Files<File = File> + AllocGlobal>(rt: &R, path: &str, other: &str) -> bool {
+    match (fs::metadata(rt, path), fs::metadata(rt, other)) {
+        (Ok(one), Ok(two)) => one.dev() == two.dev() && one.ino() == two.ino(),
+        (_, _) => false,
+    }
+}
+
+/// Whether what a path names stands in that folder, or would.
+pub fn stands_in<R: Files<File = File> + AllocGlobal>(rt: &R, path: &str, folder: &str) -> bool {
+    are_same(rt, folder_of(path).as_str(), folder)
 }
 
 // Whether a link could not be read since there is none.

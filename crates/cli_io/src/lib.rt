@@ -17,7 +17,7 @@ mod stopwatch;
 mod telling;
 
 pub use clocked::Clocked;
-pub use disk::Disk;
+pub use disk::{Disk, are_same, stands_in};
 pub use feed::Feeder;
 pub use folder::{Folder, Look, Rights};
 pub use inputs::{
@@ -29,4 +29,5 @@ pub use patient::Patient;
 pub use reading::Reading;
 pub use relay::{Relay, Relayer};
 pub use replacing::replace;
+pub use stopwatch::Stopwatch;
 pub use telling::Telling;

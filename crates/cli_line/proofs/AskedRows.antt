@@ -4,7 +4,7 @@ use Rattle.std.specs.Prelude.{MatchBool, String, if◌then◌else◌, option_map
 use Rattle.std.specs.Str.{bytes_eq}
 use Rattle.std.proofs.lemmas.Slice.Eq.{bytes_eq-Decides}
 use Rattle.clap.specs.Words.{Row, Text, first_of}
-use Rattle.cli_line.specs.FileLines.{Asked, IsAsked, IsManner}
+use Rattle.cli_line.specs.FileLines.{Asked, IsAsked}
 use Rattle.cli_line.specs.FileLines.Asked.{Asm, Dis, Check, Migrate, Live, Reopen, Journal, Audit, Replay}
 use Rattle.cli_line.specs.FoundPlan.{HasFoundBehind}
 use Rattle.cli_line.specs.declared.plans.Manner.{Manner}
@@ -19,12 +19,13 @@ abbrev pub is_told : Option Text → Bool
 is_told None = false
 is_told (Some word) = bytes_eq word (codes "true")
 
--- what is asked for behind `live`
-abbrev pub live_in : List Row → Option Text → Option Text → Option Asked
-live_in rows None manifest = Some (Live (is_told (first_of (codes "clock") rows)) (is_told (first_of (codes "step") rows)) (is_told (first_of (codes "ack") rows)) (unwrap_or manifest []))
-live_in rows (Some folder) None =
+-- what is asked for behind `live`, if what is counted goes nowhere
+abbrev pub live_in : List Row → (metrics journal manifest : Option Text) → Option Asked
+live_in rows (Some path) journal manifest = None
+live_in rows None None manifest = Some (Live (is_told (first_of (codes "clock") rows)) (is_told (first_of (codes "step") rows)) (is_told (first_of (codes "ack") rows)) (unwrap_or manifest []))
+live_in rows None (Some folder) None =
     Some (Reopen (is_told (first_of (codes "sync") rows)) (is_told (first_of (codes "clock") rows)) (is_told (first_of (codes "step") rows)) (is_told (first_of (codes "ack") rows)) folder)
-live_in rows (Some folder) (Some manifest) =
+live_in rows None (Some folder) (Some manifest) =
     Some (Journal (is_told (first_of (codes "sync") rows)) (is_told (first_of (codes "clock") rows)) (is_told (first_of (codes "step") rows)) (is_told (first_of (codes "ack") rows)) folder manifest)
 
 -- what is asked for
@@ -35,7 +36,7 @@ asked_in name rows =
     else (if bytes_eq name (codes "check") then Some (Check (word_at (codes "MANIFEST") rows))
     else (if bytes_eq name (codes "migrate") then Some (Migrate (word_at (codes "IN") rows) (word_at (codes "OUT") rows))
     else (if bytes_eq name (codes "live")
-    then live_in rows (first_of (codes "journal") rows) (first_of (codes "MANIFEST") rows)
+    then live_in rows (first_of (codes "metrics") rows) (first_of (codes "journal") rows) (first_of (codes "MANIFEST") rows)
     else (if bytes_eq name (codes "audit") then Some (Audit (word_at (codes "DIR") rows))
     else (if bytes_eq name (codes "replay") then Some (Replay (word_at (codes "MANIFEST") rows) (word_at (codes "TRACE") rows))
     else None))))))
@@ -57,17 +58,22 @@ told_as (Some word) false differs = go (bytes_eq word (codes "true")) refl
     go false is = sym is
     go true is = absurd (differs (ap Some ((bytes_eq-Decides word (codes "true")).0 is)))
 
+-- the flags that say how lines are carried out
+abbrev HasFlags : List Row → Manner → Type 0
+HasFlags rows manner = (manner.is_clocked ≡ is_told (first_of (codes "clock") rows)) × (manner.is_stepped ≡ is_told (first_of (codes "step") rows)) × (manner.is_told ≡ is_told (first_of (codes "ack") rows))
+
 -- what was found without a journal is what is asked for
-alone_asked : (rows : List Row) (manner : Manner) (a : String Global) (manifest : Option Text) → manifest ≡ Some (string_bytes a)
-    → IsManner (is_told (first_of (codes "clock") rows)) (is_told (first_of (codes "step") rows)) (is_told (first_of (codes "ack") rows)) manner → MeetsAsked (live_in rows None manifest) (plans.Live manner a)
-alone_asked rows manner a manifest found manners = (manners, ap (λ (o : Option Text). unwrap_or o []) (sym found))
+alone_asked : (rows : List Row) (manner : Manner) (a : String Global) (metrics manifest : Option Text) → metrics ≡ option_map string_bytes manner.metrics → manifest ≡ Some (string_bytes a)
+    → HasFlags rows manner → MeetsAsked (live_in rows metrics None manifest) (plans.Live manner a)
+alone_asked rows manner a None manifest nowhere found flags = ((flags.0, flags.1, flags.2, sym nowhere), ap (λ (o : Option Text). unwrap_or o []) (sym found))
+alone_asked rows manner a (Some path) manifest somewhere found flags = tt
 
 -- so is what was found with one
-kept_asked : (rows : List Row) (manner : Manner) (synced : Bool) (a : String Global) (b : Option (String Global)) (manifest : Option Text) → manifest ≡ option_map string_bytes b
-    → IsManner (is_told (first_of (codes "clock") rows)) (is_told (first_of (codes "step") rows)) (is_told (first_of (codes "ack") rows)) manner → synced ≡ is_told (first_of (codes "sync") rows)
-    → MeetsAsked (live_in rows (Some (string_bytes a)) manifest) (plans.Journal manner synced a b)
-kept_asked rows manner synced a b None found manners sync = (manners, sync, refl, sym found)
-kept_asked rows manner synced a b (Some manifest) found manners sync = (manners, sync, refl, sym found)
+kept_asked : (rows : List Row) (manner : Manner) (synced : Bool) (a : String Global) (b : Option (String Global)) (metrics manifest : Option Text) → metrics ≡ option_map string_bytes manner.metrics → manifest ≡ option_map string_bytes b
+    → HasFlags rows manner → synced ≡ is_told (first_of (codes "sync") rows) → MeetsAsked (live_in rows metrics (Some (string_bytes a)) manifest) (plans.Journal manner synced a b)
+kept_asked rows manner synced a b None None nowhere found flags sync = ((flags.0, flags.1, flags.2, sym nowhere), sync, refl, sym found)
+kept_asked rows manner synced a b None (Some manifest) nowhere found flags sync = ((flags.0, flags.1, flags.2, sym nowhere), sync, refl, sym found)
+kept_asked rows manner synced a b (Some path) manifest somewhere found flags sync = tt
 
 module _ (name : Text) (rows : List Row) where
   -- the plan is behind that word
@@ -83,12 +89,12 @@ module _ (name : Text) (rows : List Row) where
   found_asked (plans.Dis a) found = by_word (codes "dis") (plans.Dis a) found.0 (found_word (codes "FILE") rows _ found.1)
   found_asked (plans.Check a) found = by_word (codes "check") (plans.Check a) found.0 (found_word (codes "MANIFEST") rows _ found.1)
   found_asked (plans.Live manner a) found = by_word (codes "live") (plans.Live manner a) found.0
-      (subst (λ (o : Option Text). MeetsAsked (live_in rows o (first_of (codes "MANIFEST") rows)) (plans.Live manner a)) (sym found.3)
-      (alone_asked rows manner a (first_of (codes "MANIFEST") rows) found.1
+      (subst (λ (o : Option Text). MeetsAsked (live_in rows (first_of (codes "metrics") rows) o (first_of (codes "MANIFEST") rows)) (plans.Live manner a)) (sym found.3)
+      (alone_asked rows manner a (first_of (codes "metrics") rows) (first_of (codes "MANIFEST") rows) found.2.3 found.1
       (told_as (first_of (codes "clock") rows) manner.is_clocked found.2.0, told_as (first_of (codes "step") rows) manner.is_stepped found.2.1, told_as (first_of (codes "ack") rows) manner.is_told found.2.2)))
   found_asked (plans.Journal manner is_synced a b) found = by_word (codes "live") (plans.Journal manner is_synced a b) found.0
-      (subst (λ (o : Option Text). MeetsAsked (live_in rows o (first_of (codes "MANIFEST") rows)) (plans.Journal manner is_synced a b)) (sym found.1)
-      (kept_asked rows manner is_synced a b (first_of (codes "MANIFEST") rows) found.2
+      (subst (λ (o : Option Text). MeetsAsked (live_in rows (first_of (codes "metrics") rows) o (first_of (codes "MANIFEST") rows)) (plans.Journal manner is_synced a b)) (sym found.1)
+      (kept_asked rows manner is_synced a b (first_of (codes "metrics") rows) (first_of (codes "MANIFEST") rows) found.3.3 found.2
       (told_as (first_of (codes "clock") rows) manner.is_clocked found.3.0, told_as (first_of (codes "step") rows) manner.is_stepped found.3.1, told_as (first_of (codes "ack") rows) manner.is_told found.3.2)
       (told_as (first_of (codes "sync") rows) is_synced found.4)))
   found_asked (plans.Audit a) found = by_word (codes "audit") (plans.Audit a) found.0 (found_word (codes "DIR") rows _ found.1)

@@ -52,9 +52,9 @@ ArePlain (Journal is_synced is_clocked is_stepped is_told folder manifest) = IsP
 ArePlain (Audit folder) = IsPlain folder
 ArePlain (Replay manifest trace) = IsPlain manifest × IsPlain trace
 
--- lines are carried out so
+-- lines are carried out so, and what is counted goes nowhere
 abbrev pub IsManner : (is_clocked is_stepped is_told : Bool) → Manner → Type 0
-IsManner is_clocked is_stepped is_told manner = (manner.is_clocked ≡ is_clocked) × (manner.is_stepped ≡ is_stepped) × (manner.is_told ≡ is_told)
+IsManner is_clocked is_stepped is_told manner = (manner.is_clocked ≡ is_clocked) × (manner.is_stepped ≡ is_stepped) × (manner.is_told ≡ is_told) × (option_map string_bytes manner.metrics ≡ None)
 
 -- the plan is that, of the files at these paths
 abbrev pub IsAsked : Asked → Plan → Type 0

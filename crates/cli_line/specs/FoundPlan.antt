@@ -33,9 +33,9 @@ IsGiven name rows = first_of name rows ≡ Some (codes "true")
 abbrev pub Tells : Text → List Row → Bool → Type 0
 Tells name rows told = MatchBool told (IsGiven name rows) (IsGiven name rows → ⊥)
 
--- lines are carried out as the flags say
+-- lines are carried out as the flags say, and what is counted goes into the file that was found, if one was
 abbrev pub HasManner : List Row → Manner → Type 0
-HasManner rows manner = Tells (codes "clock") rows manner.is_clocked × Tells (codes "step") rows manner.is_stepped × Tells (codes "ack") rows manner.is_told
+HasManner rows manner = Tells (codes "clock") rows manner.is_clocked × Tells (codes "step") rows manner.is_stepped × Tells (codes "ack") rows manner.is_told × (first_of (codes "metrics") rows ≡ option_map string_bytes manner.metrics)
 
 -- the plan is what was asked for by that word, with what `clap` found behind it
 abbrev pub HasFoundBehind : Text → List Row → Plan → Type 0

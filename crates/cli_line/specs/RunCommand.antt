@@ -101,13 +101,46 @@ drawn_command = with_rule (with_rule formed_command (option_rule (codes "svg")))
 abbrev pub show_command : App
 show_command = with_rule (with_rule drawn_command (path_rule (codes "MANIFEST"))) (path_rule (codes "TRACE"))
 
+-- an option of one word, which is that word where it is not given
+abbrev pub default_rule : (name word : Text) → Rule
+default_rule name word = record (new_rule name) {
+  long = Some name;
+  value_names = 1;
+  defaults = word ∷ [];
+}
+
+-- an option of one word, which may be given more than once
+abbrev pub repeated_rule : Text → Rule
+repeated_rule name = record (new_rule name) {
+  long = Some name;
+  value_names = 1;
+  action = Some action.Append;
+}
+
+-- `decide` with the options for the command that fails, and for the clock
+abbrev pub standing_command : App
+standing_command = with_rule (with_rule (with_rule (new_app (codes "decide"))
+    (default_rule (codes "retries") (codes "5"))) (default_rule (codes "attempts") (codes "1"))) (default_rule (codes "clock") (codes "0"))
+
+-- with all its options
+abbrev pub wide_command : App
+wide_command = with_rule (with_rule standing_command (repeated_rule (codes "word"))) (flag_rule (codes "all-sense"))
+
+-- with its manifest, its queue and its CAM status
+abbrev pub failing_command : App
+failing_command = with_rule (with_rule (with_rule wide_command (path_rule (codes "MANIFEST"))) (path_rule (codes "QUEUE"))) (path_rule (codes "STATUS"))
+
+-- with its SCSI status and its sense data
+abbrev pub decide_command : App
+decide_command = with_rule (with_rule failing_command (path_rule (codes "SCSI"))) (path_rule (codes "SENSE"))
+
 -- `live` with the flags that say how lines are carried out
 abbrev pub manner_command : App
 manner_command = with_rule (with_rule (with_rule (new_app (codes "live")) (flag_rule (codes "clock"))) (flag_rule (codes "step"))) (flag_rule (codes "ack"))
 
--- with the journal's folder and its flag, and the manifest, which may be left out
+-- with the journal's folder and its flag, the file for what is counted, and the manifest, which may be left out
 abbrev pub live_command : App
-live_command = with_rule (with_rule (with_rule manner_command (option_rule (codes "journal"))) (flag_rule (codes "sync"))) (new_rule (codes "MANIFEST"))
+live_command = with_rule (with_rule (with_rule (with_rule manner_command (option_rule (codes "journal"))) (flag_rule (codes "sync"))) (option_rule (codes "metrics"))) (new_rule (codes "MANIFEST"))
 
 -- `audit` with a journal's folder
 abbrev pub audit_command : App
@@ -144,9 +177,13 @@ runs_command = with_subcommand (with_subcommand manifests_command run_command.to
 abbrev pub traces_command : App
 traces_command = with_subcommand (with_subcommand runs_command replay_command.top) audit_command.top
 
+-- with `show` too
+abbrev pub shows_command : App
+shows_command = with_subcommand traces_command show_command.top
+
 -- the whole command line
 abbrev pub camr_command : App
-camr_command = with_subcommand traces_command show_command.top
+camr_command = with_subcommand shows_command decide_command.top
 
 -- ---- what is made for `clap`
 

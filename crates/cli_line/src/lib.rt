@@ -1,13 +1,15 @@
 // The words after the program's name, and the plan that they ask for. One command line, whose texts of usage and help are those of
-// `clap`, serves two programs: `camr`, whose plans stand here, and `camr_inspect`, which explains and shows.
+// `clap`, serves two programs: `camr`, whose plans stand here, and `camr_inspect`, which explains, shows and decides.
 #![tactic(auto)]
 
+mod decide_usage;
 mod living;
 mod plans;
 mod show_usage;
 mod usage;
 mod words;
 
+pub use decide_usage::decide_command;
 pub use living::is_true;
 pub use plans::{MAX_WORKERS, MIN_WORKERS, Manner, Plan, Watch, is_stream, reads_of};
 pub use show_usage::show_command;

@@ -27,9 +27,16 @@ pub fn live_command<'a>(alloc: Global) -> Result<Command<'a>, AllocError>
         "sync",
         "With a journal: what is answered outlasts a stop of the machine",
     );
+    let metrics = option(
+        alloc,
+        "metrics",
+        "FILE",
+        "Writes what is counted into that file, for Prometheus, once a second at most",
+    );
     manner_command(alloc)?
         .arg(journal)?
         .arg(sync)?
+        .arg(metrics)?
         .arg(given_manifest(alloc))
 }
 
@@ -63,7 +70,7 @@ fn manner_command<'a>(alloc: Global) -> Result<Command<'a>, AllocError>
 pub(crate) fn live_plan(alloc: Global, live: &ArgMatches) -> Result<Option<Plan>, AllocError>
     ensures { IfOk result (PlansBehind (codes "live") (rows_of (found_of live.now))) }
 {
-    let manner = manner_of(live);
+    let manner = manner_of(alloc, live)?;
     let Some(folder) = live.get_str("journal") else {
         return plan_alone(alloc, live, manner);
     };
@@ -72,14 +79,26 @@ pub(crate) fn live_plan(alloc: Global, live: &ArgMatches) -> Result<Option<Plan>
     Ok(Some(Plan::Journal(manner, is_given(live, "sync"), folder, manifest)))
 }
 
-// How lines are carried out.
-fn manner_of(live: &ArgMatches) -> Manner
-    ensures { HasManner (rows_of (found_of live.now)) result }
+// How lines are carried out, and where what is counted goes.
+fn manner_of(alloc: Global, live: &ArgMatches) -> Result<Manner, AllocError>
+    ensures { IfOk result (HasManner (rows_of (found_of live.now))) }
 {
-    Manner {
+    let metrics = metrics_of(alloc, live)?;
+    Ok(Manner {
         is_clocked: is_given(live, "clock"),
         is_stepped: is_given(live, "step"),
         is_told: is_given(live, "ack"),
+        metrics,
+    })
+}
+
+// The file for what is counted, where one is given.
+fn metrics_of(alloc: Global, live: &ArgMatches) -> Result<Option<String>, AllocError>
+    ensures { IfOk result (λ metrics. first_of (codes "metrics") (rows_of (found_of live.now)) ≡ option_map string_bytes metrics) }
+{
+    match live.get_str("metrics") {
+        Some(metrics) => Ok(Some(String::from_str(alloc, metrics)?)),
+        None => Ok(None),
     }
 }
 

@@ -19,8 +19,8 @@ pub enum Watch {
     Lines,
 }
 
-/// How a live engine is asked.
-#[derive(Clone, Copy, Debug, PartialEq, Eq)]
+/// How a live engine is asked, and where what is counted of it goes.
+#[derive(Debug, Drop)]
 pub struct Manner {
     /// Its clock is the machine's.
     pub is_clocked: bool,
@@ -28,6 +28,8 @@ pub struct Manner {
     pub is_stepped: bool,
     /// Each line that asks for something is answered by a line of its own, behind all that it led to.
     pub is_told: bool,
+    /// The path of the file in which what is counted stands, if there is one.
+    pub metrics: Option<String>,
 }
 
 /// What is to be done, with the paths of the files in the order of the line.

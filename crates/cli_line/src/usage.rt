@@ -1,13 +1,14 @@
 // The command line as `clap` is given it: its subcommands with their options and paths, and what help says of
-// them. It relies on `show_usage` for those of `show`.
+// them. It relies on `show_usage` for those of `show`, and on `decide_usage` for those of `decide`.
 
 ghost use Rattle.std.specs.Prelude.{◌≡◌, IfOk, codes};
 ghost use Rattle.clap.specs.Words.{new_rule};
 ghost use Rattle.cli_line.specs.RunCommand.{IsArgument, IsCommand, camr_command};
 ghost use Rattle.cli_line.specs.RunCommand.{asm_command, audit_command, bare_command, check_command, dis_command, explain_command, manifests_command, migrate_command};
-ghost use Rattle.cli_line.specs.RunCommand.{path_rule, programs_command, replay_command, run_command, run_options, runs_command, show_command, texts_command, traces_command};
+ghost use Rattle.cli_line.specs.RunCommand.{path_rule, programs_command, replay_command, run_command, run_options, runs_command, shows_command, texts_command, traces_command};
 ghost use Rattle.cli_line.specs.RunCommand.{watch_rule, workers_rule};
 
+use crate::decide_usage::decide_command;
 use crate::living::live_command;
 use crate::show_usage::{flag, show_command};
 use clap::{Arg, Command, value_parser};
@@ -24,6 +25,14 @@ Example:
 /// The whole command line.
 pub fn camr_command<'a>(alloc: Global) -> Result<Command<'a>, AllocError>
     ensures { IfOk result (IsCommand camr_command) }
+{
+    let decide = decide_command(alloc)?;
+    shows_command(alloc)?.subcommand(decide)
+}
+
+// The command without the one that says what a policy decides.
+fn shows_command<'a>(alloc: Global) -> Result<Command<'a>, AllocError>
+    ensures { IfOk result (IsCommand shows_command) }
 {
     let show = show_command(alloc)?;
     traces_command(alloc)?.subcommand(show)
@@ -43,15 +52,19 @@ fn shown_run_command<'a>(alloc: Global) -> Result<Command<'a>, AllocError> {
     })
 }
 
-// The shown command with those that read a trace too.
+// The shown command with those that read a trace too, and with `decide`.
 fn shown_traces_command<'a>(alloc: Global, runs: Command<'a>) -> Result<Command<'a>, AllocError> {
     let replay = replay_command(alloc)?;
     let audit = audit_command(alloc)?;
     let show = show_command(alloc)?;
-    runs.subcommand(replay)?.subcommand(audit)?.subcommand(show)
+    let decide = decide_command(alloc)?;
+    runs.subcommand(replay)?
+        .subcommand(audit)?
+        .subcommand(show)?
+        .subcommand(decide)
 }
 
-// The command without the one that tells what happened.
+// The command without those that tell what happened and what is decided.
 fn traces_command<'a>(alloc: Global) -> Result<Command<'a>, AllocError>
     ensures { IfOk result (IsCommand traces_command) }
 {
@@ -292,8 +305,8 @@ pub(crate) fn trace<'a>(alloc: Global) -> Arg<'a>
     )
 }
 
-// A path that has to be there.
-fn path<'a>(alloc: Global, name: &'a str, help: &'a str) -> Arg<'a>
+/// A path, or another word, that has to be there.
+pub(crate) fn path<'a>(alloc: Global, name: &'a str, help: &'a str) -> Arg<'a>
     ensures { IsArgument (path_rule name.entry.now) result }
 {
     Arg::new(alloc, name).required(true).help(help)

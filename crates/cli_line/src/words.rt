@@ -421,7 +421,7 @@ fn no_plan(alloc: Global, matches: &ArgMatches) -> Error
     ensures { IsValueFault result }
 {
     let fault = match matches.subcommand() {
-        Some((name @ ("explain" | "show"), _)) => other_program(alloc, name),
+        Some((name @ ("explain" | "show" | "decide"), _)) => other_program(alloc, name),
         Some(("live", live)) => live_fault(alloc, live.get_str("MANIFEST").is_some()),
         Some((_, run)) => option_fault(
             alloc,

@@ -1,5 +1,6 @@
 pub mod Again
 pub mod Beginning
+pub mod Counts
 pub mod Driving
 pub mod Following
 pub mod Going

@@ -7,3 +7,4 @@ pub mod Guests
 pub mod Beginning
 pub mod Succession
 pub mod Ccbs
+pub mod Counting

@@ -38,9 +38,9 @@ abbrev pub TakesFirst : List (Box RunHandle) → Option (Box RunHandle) → List
 TakesFirst [] result later = (result ≡ None) × (later ≡ [])
 TakesFirst (first ∷ rest) result later = (result ≡ Some first) × (later ≡ rest)
 
--- the first run that is left is taken, if there is one, and the engine stays as it is
+-- the first run that is left is taken, if there is one, and the engine and what is counted stay as they are
 abbrev pub TakesRun : HostedEngine → Option (Box RunHandle) → HostedEngine → Type 0
-TakesRun old result new = TakesFirst old.left.items result new.left.items × (new.engine ≡ old.engine)
+TakesRun old result new = TakesFirst old.left.items result new.left.items × (new.engine ≡ old.engine) × (new.metrics ≡ old.metrics)
 
 -- ---- an engine after records
 

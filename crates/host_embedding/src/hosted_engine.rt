@@ -1,29 +1,50 @@
-// An engine as its host holds it, with the runs that a recovery left to be taken. It relies on `engine_handle` and `run_handle`.
+// An engine as its host holds it, with the runs that a recovery left to be taken, and with what is counted. It relies on `engine_handle`,
+// `run_handle`, and `host_metrics` for counters.
 
 ghost use Rattle.std.specs.Prelude.{◌≡◌, []};
 ghost use Rattle.host_embedding.specs.Recovering.{TakesRun};
 
 use crate::engine_handle::EngineHandle;
 use crate::run_handle::RunHandle;
+use host_metrics::Metrics;
 use std::alloc::Global;
 
-/// An engine, and the runs of it that were out when it was recovered and that its host has not taken yet, by rising number. Where it is
-/// dropped these are forfeited.
+/// An engine, the runs of it that were out when it was recovered and that its host has not taken yet, by rising number, and what is counted
+/// of the records that its host's calls make. Where it is dropped these runs are forfeited.
 #[derive(Drop)]
 pub struct HostedEngine {
     pub engine: EngineHandle,
     pub left: Vec<Box<RunHandle>>,
+    pub metrics: Metrics,
 }
 
 impl HostedEngine {
-    /// The engine, without a run to be taken.
-    pub fn new(alloc: Global, engine: EngineHandle) -> Self
+    /// The engine, without a run to be taken, with these counters.
+    pub fn new(alloc: Global, engine: EngineHandle, metrics: Metrics) -> Self
         ensures engine { result.engine ≡ engine }
         ensures left { result.left.items ≡ [] }
+        ensures metrics { result.metrics ≡ metrics }
     {
         HostedEngine {
             engine,
             left: Vec::new(alloc),
+            metrics,
+        }
+    }
+
+    /// The same with these counters in the place of its own.
+    pub fn counted_by(self, metrics: Metrics) -> Self
+        ensures { result ≡ record self { metrics = metrics } }
+    {
+        let HostedEngine {
+            engine,
+            left,
+            metrics: _,
+        } = self;
+        HostedEngine {
+            engine,
+            left,
+            metrics,
         }
     }
 

@@ -1,15 +1,17 @@
 // An engine with its guests' tokens, and a run, as a host holds them that is written in another language: a function for each
 // call, with a result that has a number and a text. It relies on `engine_core` for what each call does, on `engine_carried` and
-// `engine_succession` for an engine that follows another one, and knows no pointers.
+// `engine_succession` for an engine that follows another one, on `host_metrics` for what is counted, and knows no pointers.
 #![tactic(auto)]
 
 mod call_result;
 mod ccbs;
 mod config_again;
 mod continued;
+mod counting;
 mod engine_handle;
 mod hosted_engine;
 mod likeness;
+mod metrics_text;
 mod outstanding;
 mod recovering;
 mod remaking;

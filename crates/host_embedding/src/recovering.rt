@@ -13,12 +13,14 @@ use base_chunked_list::ChunkedList;
 use engine_config::Config;
 use engine_core::Engine;
 use engine_succession::begin;
+use host_metrics::Metrics;
 use std::alloc::{AllocError, Global};
 use world_calls::{Call, CallAnswer, CarriedLine, Record, StoppedAt};
 
 impl HostedEngine {
-    /// An engine of this configuration to which just these records led, all of which are handed on, and the runs that are out then. That
-    /// the records lead there is to be known before, by a replay: if they do not, the answer is as if memory were refused.
+    /// An engine of this configuration to which just these records led, all of which are handed on, and the runs that are out then. None of
+    /// the records is counted. That the records lead there is to be known before, by a replay: if they do not, the answer is as if memory
+    /// were refused.
     pub fn recover(
         alloc: Global,
         config: Config,
@@ -59,7 +61,7 @@ impl HostedEngine {
         requires taken { engine.taken ≡ 0 }
         ensures { IfOk result (λ it. StandsAfter engine.setup records.now.items it) }
     {
-        let mut hosted = HostedEngine::new(alloc, engine);
+        let mut hosted = HostedEngine::new(alloc, engine, Metrics::none(alloc));
         match hosted.follow_all(alloc, records) {
             Ok(()) => hosted.checked(),
             Err(AllocError) => Err(AllocError),

@@ -1,6 +1,6 @@
 // A run as a host holds it: out, at its next stop, or spent. It relies on `engine_core` for runs.
 
-ghost use Rattle.std.specs.Prelude.{◌≡◌, IsTrue};
+ghost use Rattle.std.specs.Prelude.{◌≡◌, IfSome, IsTrue};
 ghost use Rattle.host_embedding.specs.Recovering.{IsOf};
 ghost use Rattle.host_embedding.specs.Held.{is_same_run, out_of, IsStretched};
 
@@ -83,6 +83,17 @@ impl RunHandle {
             HeldRun::Out(its) => its.number() == run,
             HeldRun::Stopped(stopped) => stopped.number() == run,
             HeldRun::Spent => false,
+        }
+    }
+
+    /// The number of the run that is out, or 0 if none is.
+    pub(crate) fn out_number(&self) -> u32
+        ensures { IfSome (out_of self.now.held) (λ run. run.number ≡ result) }
+    {
+        match &self.held {
+            HeldRun::Out(run) => run.number(),
+            HeldRun::Stopped(stopped) => stopped.number(),
+            HeldRun::Spent => 0,
         }
     }
 

@@ -5,11 +5,13 @@ ghost use Rattle.std.specs.Prelude.{◌≡◌, ◌↔◌, [], IfOk, IsTrue};
 ghost use Rattle.engine_carried.specs.TakenOver.{taken_over};
 ghost use Rattle.engine_core.specs.Settings.{begun_with};
 ghost use Rattle.engine_succession.specs.Succession.{MayBeFollowed};
+ghost use Rattle.host_embedding.specs.Counting.{is_same_beside};
 ghost use Rattle.host_embedding.specs.Succession.{IsRenewed, IsSucceeded, configuration};
 
 use crate::call_result::CallResult;
 use crate::config_again::config_again;
 use crate::engine_handle::EngineHandle;
+use crate::hosted_engine::HostedEngine;
 use engine_carried::{Numbering, carried_lines, fits};
 use engine_config::Config;
 use engine_core::Engine;
@@ -24,10 +26,10 @@ impl EngineHandle {
         self.engine.runs().len() == 0
     }
 
-    /// Ends the engine, and begins another one of this configuration that takes over its live CCBs, freezes, openings, words and clock.
-    /// The handle has the tokens of the guests' freezes, under the numbers that they have now. Records that were not taken, and the sums
-    /// of the old engine, are gone. A refusal leaves the engine as it was.
-    pub fn succeed(&mut self, alloc: Global, config: Config, numbering: Numbering) -> CallResult
+    // Ends the engine, and begins another one of this configuration that takes over its live CCBs, freezes, openings, words and clock.
+    // The handle has the tokens of the guests' freezes, under the numbers that they have now. Records that were not taken, and the sums
+    // of the old engine, are gone. A refusal leaves the engine as it was.
+    fn succeed(&mut self, alloc: Global, config: Config, numbering: Numbering) -> CallResult
         ensures { IsSucceeded result numbering self.old config self.new }
     {
         if !self.has_no_run() {
@@ -45,7 +47,9 @@ impl EngineHandle {
         }
     }
 
-    /// The same with the configuration in force.
+    /// Ends the engine, and begins another one of the configuration in force that takes over its live CCBs, freezes, openings, words and
+    /// clock. The handle has the tokens of the guests' freezes, under the numbers that they have now. Records that were not taken, and the
+    /// sums of the old engine, are gone. A refusal leaves the engine as it was.
     pub fn renew(&mut self, alloc: Global, numbering: Numbering) -> CallResult
         ensures { IsRenewed result numbering self.old self.new }
     {
@@ -57,6 +61,38 @@ impl EngineHandle {
         let _ = config.queues();
         match config_again(alloc, config) {
             Ok(config) => self.succeed(alloc, config, numbering),
+            Err(AllocError) => CallResult::OutOfMemory,
+        }
+    }
+}
+
+impl HostedEngine {
+    /// Ends the engine, and begins another one of this configuration, which that text of a manifest means, as `EngineHandle::renew`. What
+    /// was counted stays, and programs have the names of the text from then on.
+    pub fn succeed(
+        &mut self,
+        alloc: Global,
+        config: Config,
+        text: &[u8],
+        numbering: Numbering,
+    ) -> CallResult
+        ensures followed { IsSucceeded result numbering self.old.engine config self.new.engine }
+        ensures beside { is_same_beside self.old self.new }
+    {
+        if !self.engine.has_no_run() {
+            return CallResult::RunsLive;
+        }
+        if !fits(&self.engine.engine, &config) {
+            return CallResult::DoesNotFit;
+        }
+        let Ok(next) = successor(alloc, &self.engine.engine, config, numbering) else {
+            return CallResult::OutOfMemory;
+        };
+        match self.metrics.name_programs(alloc, text) {
+            Ok(()) => {
+                self.engine = next;
+                CallResult::Done
+            }
             Err(AllocError) => CallResult::OutOfMemory,
         }
     }

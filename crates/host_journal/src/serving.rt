@@ -6,6 +6,7 @@ ghost use Rattle.base.specs.declared.or_memory.OrMemory.TheVariants.{Fault};
 ghost use Rattle.world_calls.specs.declared.record.Record.{Record as TheRecord};
 ghost use Rattle.engine_core.specs.ByNumber.{IsBehind};
 ghost use Rattle.host_live.specs.Growth.{StandsBehind};
+ghost use Rattle.host_live.specs.Metering.{MayCount};
 ghost use Rattle.host_live.specs.Telling.{Continues};
 ghost use Rattle.host_live.specs.Turns.{IsAt, IsSomewhere, Point};
 ghost use Rattle.host_live.specs.declared.serving.LiveFault.TheVariants.{Unread as InputUnread};
@@ -25,6 +26,7 @@ use crate::order::Order;
 use base::OrMemory;
 use engine_core::NumberedEngine;
 use host_live::{Input, Lines, LiveFault, Manner, Reports};
+use host_metrics::Metrics;
 use std::alloc::Global;
 use std::marker::Brand;
 use trace::WriteFailed;
@@ -32,8 +34,9 @@ use trace::WriteFailed;
 /// Serves an engine of this journal that stands behind a history of so many records, whose segment is open, until the input ends or another
 /// engine is to follow this one; it returns whether one is. The lines of what a line of the input leads to are appended to the segment before
 /// they go out, and with `is_synced` they are synced before. If the segment was just made, its text goes out first, and then the answer that is
-/// owed. At the end the last line of the trace is made; but a trace that is kept gets none while a run is live: then the next start recovers
-/// the engine. Once the segment or standard output cannot be written, nothing goes out any more, and the fault says which it was.
+/// owed. Each record is counted. At the end the last line of the trace is made; but a trace that is kept gets none while a run is live: then
+/// the next start recovers the engine. Once the segment or standard output cannot be written, nothing goes out any more, and the fault says
+/// which it was.
 pub fn serve<D: Disk, I: Input, N: Reports>(
     alloc: Global,
     disk: D,
@@ -43,6 +46,7 @@ pub fn serve<D: Disk, I: Input, N: Reports>(
     manner: Manner,
     is_synced: bool,
     owed: Option<usize>,
+    metrics: &mut Metrics,
     input: &mut I,
     lines: &mut Lines,
     reports: &mut N,
@@ -51,6 +55,7 @@ pub fn serve<D: Disk, I: Input, N: Reports>(
     requires segment { D.segment disk ≡ begun.now.number }
     requires begun { IsTrue lines.old.is_ended → IsTrue (I.has_ended input.old) }
     requires stands { IsSomewhere (I.came input.old) lines.old }
+    requires counts { MayCount N.may_count engine metrics.old }
     // No byte goes out that is not in the segment, synced if that is asked for, but for answers between lines; at the end all is out. What
     // was appended is that of what the lines that came asked for, one by one, and each was answered so.
     ensures order { (point : Point) → IsAt point (I.came input.old) lines.old → ServesInOrder engine.entry count manner N.may_refuse owed point (I.came input.new) lines.new (N.has_decided reports.new) is_synced (first_line begun.now) (D.steps disk) (D.steps result.0) result.1 }
@@ -66,8 +71,8 @@ pub fn serve<D: Disk, I: Input, N: Reports>(
 {
     match first_waiting(alloc, begun) {
         Ok(pending) => serve_ordered::<Brand, D, I, N>(
-            alloc, disk, pending, begun, engine, count, manner, is_synced, owed, input, lines,
-            reports,
+            alloc, disk, pending, begun, engine, count, manner, is_synced, owed, metrics, input,
+            lines, reports,
         ),
         Err(error) => (disk, Err(error)),
     }
@@ -111,6 +116,7 @@ fn serve_ordered<O: Order, D: Disk, I: Input, N: Reports>(
     manner: Manner,
     is_synced: bool,
     owed: Option<usize>,
+    metrics: &mut Metrics,
     input: &mut I,
     lines: &mut Lines,
     reports: &mut N,
@@ -124,6 +130,7 @@ fn serve_ordered<O: Order, D: Disk, I: Input, N: Reports>(
     requires behind { StandsBehind count engine }
     requires begun { IsTrue lines.old.is_ended → IsTrue (I.has_ended input.old) }
     requires stands { IsSomewhere (I.came input.old) lines.old }
+    requires counts { MayCount N.may_count engine metrics.old }
     ensures order { (point : Point) → IsAt point (I.came input.old) lines.old → ServesInOrder engine.entry count manner N.may_refuse owed point (I.came input.new) lines.new (N.has_decided reports.new) O.is_synced O.first O.before (D.steps result.0) result.1 }
     ensures told { (records : List TheRecord) → IsBehind records engine.entry → count ≡ length records → Continues engine.entry.setup manner records (kept_so_far (D.steps disk)) result.1 (kept_so_far (D.steps result.0)) }
     ensures unread { result.1 ≡ Err (Fault Unread) → IsTrue (I.has_failed input.new) }
@@ -135,7 +142,7 @@ fn serve_ordered<O: Order, D: Disk, I: Input, N: Reports>(
 {
     let mut out: Journaled<D, O> = Journaled::of(disk, pending, is_synced);
     let served = host_live::serve(
-        alloc, engine, count, manner, owed, input, lines, &mut out, reports,
+        alloc, engine, count, manner, owed, metrics, input, lines, &mut out, reports,
     );
     let flushed = out.flush();
     let (disk, lost) = out.into_parts();

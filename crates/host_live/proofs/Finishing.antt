@@ -336,3 +336,28 @@ no_turns manner Refuses start Placed point came lines at true is =
 
 pub none_gone_on : (manner : Manner) (Refuses : Succession → NumberedState → Unfollowed → Type 0) (start : NumberedState) (Placed : List Record → ℕ → Type 0) (point : Point) (came : Option CameState) (lines : Lines) → IsAt point came lines → IsGoneOnInPart manner Refuses start Placed point came [] []
 none_gone_on manner Refuses start Placed point came lines at = no_turns manner Refuses start Placed point came lines at manner.is_stepped refl
+
+-- what was decided may be more by now
+pub ends_with : (manner : Manner) (Refuses : Succession → NumberedState → Unfollowed → Type 0) (start : NumberedState) (Placed : List Record → ℕ → Type 0) (point : Point) (came : Option CameState) (lines : Lines) (Decided More : Succession → NumberedState → Type 0) (is_followed : Bool) (records : List Record) (answers : List Answer)
+    → ((how : Succession) (state : NumberedState) → Decided how state → More how state) → EndsOr {E = LiveFault} manner Refuses start Placed point came lines Decided (Ok is_followed) records answers → EndsOr {E = LiveFault} manner Refuses start Placed point came lines More (Ok is_followed) records answers
+ends_with manner Refuses start Placed point came lines Decided More false records answers more it = it
+ends_with manner Refuses start Placed point came lines Decided More true records answers more it = record {
+  told = it.told;
+  number = it.number;
+  turned = it.turned;
+  turns = it.turns;
+  more = it.more;
+  now = it.now;
+  asks = record {
+    line = it.asks.line;
+    begins = it.asks.begins;
+    one_line = it.asks.one_line;
+    how = it.asks.how;
+    turn = it.asks.turn;
+    is_decided = more it.asks.how it.now it.asks.is_decided;
+    number_is = it.asks.number_is;
+    stands = it.asks.stands;
+  };
+  all = it.all;
+  follows = it.follows;
+}

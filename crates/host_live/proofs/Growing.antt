@@ -16,7 +16,10 @@ use Rattle.trace.proofs.Printing.{no_records, nothing_append, records_both, reco
 use Rattle.host_live.specs.declared.printed.Printed.{Printed}
 use Rattle.host_live.specs.Answering.{IsLong}
 use Rattle.host_live.specs.Served.{IsNow, IsPrintedBehind}
+use Rattle.host_metrics.specs.Counted.{CountsOn, MetricsState}
 use Rattle.host_live.specs.Growth.{GrowsAs, GrowsBy, PrintedState, Prints, PrintsAll, went, stopped, stayed}
+use Rattle.host_live.specs.Metering.{HasCounted, IsCounted, note_at}
+use Rattle.host_live.proofs.Metering.{counted_both, counted_none, counted_one}
 
 -- ---- what is printed
 
@@ -130,28 +133,30 @@ by_none old at failed = record {
   setup = refl;
   follows = λ records behind. subst (λ (rs : List Record). IsBehind rs old.engine) (sym (append-nil records)) behind;
   printed = all_none old.printed at failed;
+  counted = counted_none old.engine old.metrics;
 }
 
 -- the trace went on, and the engine stayed
-pub by_printed : (engine : NumberedState) (old new : Printed) (at to : Option (List ℕ)) (failed fails : ℕ) → PrintsAll old at failed [] new to fails
-    → GrowsBy [] (record { engine = engine; printed = old }) at failed (record { engine = engine; printed = new }) to fails
-by_printed engine old new at to failed fails all = record {
+pub by_printed : (engine : NumberedState) (metrics : MetricsState) (old new : Printed) (at to : Option (List ℕ)) (failed fails : ℕ) → PrintsAll old at failed [] new to fails
+    → GrowsBy [] (record { engine = engine; printed = old; metrics = metrics }) at failed (record { engine = engine; printed = new; metrics = metrics }) to fails
+by_printed engine metrics old new at to failed fails all = record {
   setup = refl;
   follows = λ records behind. subst (λ (rs : List Record). IsBehind rs engine) (sym (append-nil records)) behind;
   printed = all;
+  counted = counted_none engine metrics;
 }
 
 -- nothing was made
-pub by_still : (engine after : NumberedState) (printed : Printed) (at : Option (List ℕ)) (failed : ℕ) → after ≡ engine
-    → GrowsBy [] (record { engine = engine; printed = printed }) at failed (record { engine = after; printed = printed }) at failed
-by_still engine after printed at failed same =
-    subst (λ (e : NumberedState). GrowsBy [] (record { engine = engine; printed = printed }) at failed (record { engine = e; printed = printed }) at failed) (sym same)
-    (by_none (record { engine = engine; printed = printed }) at failed)
+pub by_still : (engine after : NumberedState) (metrics : MetricsState) (printed : Printed) (at : Option (List ℕ)) (failed : ℕ) → after ≡ engine
+    → GrowsBy [] (record { engine = engine; printed = printed; metrics = metrics }) at failed (record { engine = after; printed = printed; metrics = metrics }) at failed
+by_still engine after metrics printed at failed same =
+    subst (λ (e : NumberedState). GrowsBy [] (record { engine = engine; printed = printed; metrics = metrics }) at failed (record { engine = e; printed = printed; metrics = metrics }) at failed) (sym same)
+    (by_none (record { engine = engine; printed = printed; metrics = metrics }) at failed)
 
--- one record was made, and printed
-pub by_one : (engine after : NumberedState) (old new : Printed) (at to : Option (List ℕ)) (failed fails : ℕ) (told : Record) → RecordFollows engine told after → after.setup ≡ engine.setup → PrintsAll old at failed (told ∷ []) new to fails
-    → GrowsBy (told ∷ []) (record { engine = engine; printed = old }) at failed (record { engine = after; printed = new }) to fails
-by_one engine after old new at to failed fails told follows setup all = record { setup = setup; follows = follows; printed = all }
+-- one record was made, printed and counted
+pub by_one : (engine after : NumberedState) (metrics counts : MetricsState) (old new : Printed) (at to : Option (List ℕ)) (failed fails : ℕ) (told : Record) → RecordFollows engine told after → after.setup ≡ engine.setup → PrintsAll old at failed (told ∷ []) new to fails → CountsOn (note_at engine told ∷ []) metrics counts
+    → GrowsBy (told ∷ []) (record { engine = engine; printed = old; metrics = metrics }) at failed (record { engine = after; printed = new; metrics = counts }) to fails
+by_one engine after metrics counts old new at to failed fails told follows setup all counted = record { setup = setup; follows = follows; printed = all; counted = counted_one engine after metrics counts told follows counted }
 
 pub both_by : (old mid new : PrintedState) (at between to : Option (List ℕ)) (failed some fails : ℕ) (more others : List Record)
     → GrowsBy more old at failed mid between some → GrowsBy others mid between some new to fails → GrowsBy (more ++ others) old at failed new to fails
@@ -159,12 +164,21 @@ both_by old mid new at between to failed some fails more others first second = r
   setup = second.setup ∙ first.setup;
   follows = λ records behind. subst (λ (rs : List Record). IsBehind rs new.engine) (append_assoc records more others) (second.follows (records ++ more) (first.follows records behind));
   printed = all_both old.printed mid.printed new.printed at between to failed some fails more others first.printed second.printed;
+  counted = counted_both old.engine mid.engine new.engine old.metrics mid.metrics new.metrics more others first.counted second.counted;
 }
 
 -- nothing more was made
 pub by_then : (more : List Record) (old mid new : PrintedState) (at between to : Option (List ℕ)) (failed some fails : ℕ) → GrowsBy more old at failed mid between some → GrowsBy [] mid between some new to fails → GrowsBy more old at failed new to fails
 by_then more old mid new at between to failed some fails first second =
     subst (λ (rs : List Record). GrowsBy rs old at failed new to fails) (append-nil more) (both_by old mid new at between to failed some fails more [] first second)
+
+-- ---- what is counted of them
+
+pub has_by : (more : List Record) (old new : PrintedState) (at to : Option (List ℕ)) (failed fails : ℕ) → GrowsBy more old at failed new to fails → HasCounted old.engine old.metrics new.engine new.metrics
+has_by more old new at to failed fails by = (more, by.counted)
+
+pub has_as : {P : List Record → Type 0} (old new : PrintedState) (at to : Option (List ℕ)) (failed fails : ℕ) → GrowsAs P old at failed new to fails → HasCounted old.engine old.metrics new.engine new.metrics
+has_as old new at to failed fails grows = (grows.more, grows.by.counted)
 
 -- ---- what is said of the records that it makes
 

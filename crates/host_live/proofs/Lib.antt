@@ -1,5 +1,6 @@
 pub mod Come
 pub mod Growing
+pub mod Metering
 pub mod Told
 pub mod Turning
 pub mod Outcomes

@@ -1,6 +1,6 @@
 -- What is out of the trace of an engine that stood behind a history and went on.
 use Rattle.std.proofs.Common.{◌≡◌, ◌∙◌, ℕ, Bool, true, false, Option, Some, None, Result, Ok, Err, List, [], ◌++◌, length, length-append, refl, sym, ap, subst, append_assoc, append-nil, inl, inr, ◌⊎◌, arith}
-use Rattle.std.specs.Prelude.{IfOk, IfSome, MatchBool}
+use Rattle.std.specs.Prelude.{IfOk, IfSome, MatchBool, OnOk}
 use Rattle.std.specs.Fmt.{option_append}
 use Rattle.std.specs.Io.KnownBytes.{Appends}
 use Rattle.std.proofs.lemmas.List.Concat.{flat_map-append}
@@ -28,7 +28,9 @@ use Rattle.host_live.specs.declared.lines.Lines.{Lines}
 use Rattle.host_live.specs.declared.manner.Manner.{Manner}
 use Rattle.host_live.proofs.Finishing.{gone_on_in_part_placed, gone_on_placed, gone_on_wholly, none_gone_on}
 use Rattle.host_live.proofs.Outcomes.{err_of, none_given}
+use Rattle.host_metrics.specs.Counted.{MetricsState}
 use Rattle.host_live.specs.Growth.{GrowsBy, PrintedState, resumed_printed, went, stopped, stayed}
+use Rattle.host_live.specs.declared.printed.Printed.{Printed}
 use Rattle.host_live.specs.Telling.{Closes, Continues, IsContinued, IsContinuedInPart, IsOutBehind, IsStillLive}
 
 clash : {A : Type 0} (b : Bool) → b ≡ false → b ≡ true → A
@@ -47,7 +49,7 @@ shorter setup xs ys history =
     let parts = leads_split setup (beginning setup) (flat xs) (flat ys) history.0 (subst (λ (es : List (Event × Reply)). WorldRun setup es history.0) (flat_map-append events_of xs ys) history.1).1 in
     (parts.0, (history.1.0, parts.1))
 
-module _ (manner : Manner) (start : NumberedState) (count : ℕ) (engine : PrintedState) (base at : Option (List ℕ)) (failed fails : ℕ) (made : List Record) (grows : GrowsBy made (resumed_printed count start) base failed engine at fails) (records : List Record) (behind_start : IsBehind records start) where
+module _ (manner : Manner) (start : NumberedState) (count : ℕ) (metrics : MetricsState) (engine : PrintedState) (base at : Option (List ℕ)) (failed fails : ℕ) (made : List Record) (grows : GrowsBy made (resumed_printed count start metrics) base failed engine at fails) (records : List Record) (behind_start : IsBehind records start) where
   abbrev its : Version
   its = version_of start.setup
 
@@ -151,7 +153,7 @@ module _ (manner : Manner) (start : NumberedState) (count : ℕ) (engine : Print
   ]
 
   abbrev Printed_on : List Record → ℕ → Type 0
-  Printed_on = IsPrintedBehind (resumed_printed count start).printed base
+  Printed_on = IsPrintedBehind (resumed_printed count start metrics).printed base
 
   abbrev Out_on : List Record → ℕ → Type 0
   Out_on = IsOutBehind its [] base
@@ -284,3 +286,18 @@ is_owed E manner (Some line) done result base first it = owed_so E manner line d
 pub none_owed : {E : Type 0} (T : Type 0) (manner : Manner) (owed : Option ℕ) (fault : E) (base : Option (List ℕ)) → IsOwed {T = T} manner owed (Err fault) base []
 none_owed T manner None fault base = refl
 none_owed T manner (Some line) fault base = inl refl
+
+-- ---- at the end
+
+-- of what is counted nothing is said
+pub closes_same : {T E : Type 0} (manner : Manner) (first second : PrintedState) (at : Option (List ℕ)) (r : Result T E) (to : Option (List ℕ)) → second.engine ≡ first.engine → second.printed ≡ first.printed → Closes manner second at r to → Closes manner first at r to
+closes_same {T = T} {E = E} manner first second at (Ok done) to same printed it =
+    subst (λ (p : Printed). Closes {T = T} {E = E} manner (record { engine = first.engine; printed = p; metrics = second.metrics }) at (Ok done) to) printed
+    (subst (λ (e : NumberedState). Closes {T = T} {E = E} manner (record { engine = e; printed = second.printed; metrics = second.metrics }) at (Ok done) to) same it)
+closes_same {T = T} {E = E} manner first second at (Err fault) to same printed it =
+    subst (λ (p : Printed). Closes {T = T} {E = E} manner (record { engine = first.engine; printed = p; metrics = second.metrics }) at (Err fault) to) printed
+    (subst (λ (e : NumberedState). Closes {T = T} {E = E} manner (record { engine = e; printed = second.printed; metrics = second.metrics }) at (Err fault) to) same it)
+
+pub on_ok : {T E : Type 0} (r : Result T E) (P : Type 0) → P → OnOk r P
+on_ok (Ok done) P it = it
+on_ok (Err fault) P it = tt

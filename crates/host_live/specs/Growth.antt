@@ -12,22 +12,25 @@ use Rattle.engine_core.specs.ByNumber.{NumberedState, IsAdvanceOf, IsBehind}
 use Rattle.trace.specs.Growing.{Goes, StopsIn}
 use Rattle.trace.specs.Sinks.{HasFailed}
 use Rattle.trace.specs.TraceText.{records_text}
+use Rattle.host_metrics.specs.Counted.{MetricsState}
+use Rattle.host_live.specs.Metering.{IsCounted}
 use Rattle.host_live.specs.declared.printed.Printed.{Printed}
 use Rattle.host_live.specs.declared.printed_engine.Advanced.{Advanced}
 use Rattle.host_live.specs.declared.printed_engine.Advanced.TheVariants as advanced
 
--- the engine, and its trace as far as it went out
+-- the engine, its trace as far as it went out, and what is counted
 pub record PrintedState : Type 0 where
   pub engine : NumberedState
   pub printed : Printed
+  pub metrics : MetricsState
 
 -- the lines of so many records went out before
 abbrev pub resumed : Version → ℕ → Printed
 resumed version count = record { lines = record { version = version; waiting = [] }; count = count; has_failed = false }
 
--- nothing was asked since these many records
-abbrev pub resumed_printed : ℕ → NumberedState → PrintedState
-resumed_printed count engine = record { engine = engine; printed = resumed (version_of engine.setup) count }
+-- nothing was asked since these many records, and that was counted before
+abbrev pub resumed_printed : ℕ → NumberedState → MetricsState → PrintedState
+resumed_printed count engine metrics = record { engine = engine; printed = resumed (version_of engine.setup) count; metrics = metrics }
 
 -- a history of so many records is behind the engine
 pub record StandsBehind (count : ℕ) (engine : NumberedState) : Type 0 where
@@ -55,11 +58,12 @@ pub record PrintsAll (before : Printed) (at : Option (List ℕ)) (failed : ℕ) 
   pub count : after.count ≡ before.count + length more
   pub prints : Prints before at failed more after to fails
 
--- These records more are behind the engine, whatever history was, and they were printed.
+-- These records more are behind the engine, whatever history was, they were printed, and they were counted.
 pub record GrowsBy (more : List Record) (old : PrintedState) (at : Option (List ℕ)) (failed : ℕ) (new : PrintedState) (to : Option (List ℕ)) (fails : ℕ) : Type 0 where
   pub setup : new.engine.setup ≡ old.engine.setup
   pub follows : (records : List Record) → IsBehind records old.engine → IsBehind (records ++ more) new.engine
   pub printed : PrintsAll old.printed at failed more new.printed to fails
+  pub counted : IsCounted old.engine old.metrics more new.engine new.metrics
 
 -- some records more, of which that holds
 pub record GrowsAs (These : List Record → Type 0) (old : PrintedState) (at : Option (List ℕ)) (failed : ℕ) (new : PrintedState) (to : Option (List ℕ)) (fails : ℕ) : Type 0 where

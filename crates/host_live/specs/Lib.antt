@@ -1,6 +1,7 @@
 pub mod Answering
 pub mod Drafts
 pub mod Growth
+pub mod Metering
 pub mod Inputs
 pub mod LinesCome
 pub mod Telling

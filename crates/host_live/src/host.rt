@@ -2,19 +2,22 @@
 
 ghost use Rattle.std.specs.Prelude.{◌≡◌, ◌≢◌, ℕ, List, [], Option, Some, IsErr, MatchOption, true, false};
 ghost use Rattle.host_live.specs.Growth.{GrowsAs, GrowsBy};
-ghost use Rattle.engine_core.specs.ByNumber.{is_of_parking};
+ghost use Rattle.engine_core.specs.ByNumber.{NumberedState, is_of_parking};
 ghost use Rattle.host_live.specs.LinesCome.{IsText};
+ghost use Rattle.host_live.specs.Metering.{HasCounted};
 ghost use Rattle.host_live.specs.Successions.{asked_of};
 ghost use Rattle.host_live.specs.Turns.{Acts, ActsHere, ActsOn, IsNotHeld, IsOfClock, IsReading, MakesOne, ReadThen, ReadsDue, Drives, DrivesAll, DrivesStarted, DrivesTo, Tells, Turned, fault_of, is_of_steps, record_of_answer, run_to_drive, stepped_of};
 ghost use Rattle.host_live.specs.declared.manner.Manner.{Manner as TheManner};
 ghost use Rattle.host_live.specs.declared.host.Served.TheVariants.{Quit, Skipped};
 ghost use Rattle.host_live.specs.declared.request.Request.TheVariants as asks;
+ghost use Rattle.host_live.specs.declared.request.Succession.{Succession as TheSuccession};
 
 use crate::manner::Manner;
 use crate::outlet::Outlet;
 use crate::printed_engine::{Advanced, PrintedEngine};
-use crate::reports::{LineFault, Reports};
+use crate::reports::{LineFault, Moment, Reports};
 use crate::request::{Request, Succession, request_of};
+use host_metrics::Metrics;
 use scenario::is_skipped;
 use std::alloc::{AllocError, Global};
 use world_calls::{Call, CallAnswer};
@@ -90,6 +93,8 @@ pub(crate) struct Host<'a> {
     pub(crate) engine: PrintedEngine<'a>,
     // The clock read more than an engine takes: it was told so once, and time stands still.
     is_over: bool,
+    // A timer was due since it was told last what was counted.
+    has_timer_gone: bool,
 }
 
 // What is told on request, and is no part of a trace.
@@ -159,6 +164,7 @@ impl<'a> Host<'a> {
             alloc,
             engine,
             is_over: false,
+            has_timer_gone: false,
         }
     }
 
@@ -176,6 +182,7 @@ impl<'a> Host<'a> {
     ) -> Result<Served, HostFault>
         requires clocked { IsOfClock manner now }
         ensures grown { (came : List ℕ) → MatchOption line.entry (IsText came → ⊥) (λ text. (text.now ≡ came) × IsText came) → GrowsAs (Turned manner came result self.new.engine.engine) self.old.engine (S.bytes out.old) (S.failures out.old) self.new.engine (S.bytes out.new) (S.failures out.new) }
+        ensures counted { HasCounted self.old.engine.engine self.old.engine.metrics self.new.engine.engine self.new.engine.metrics }
         ensures answers { S.answers out.new ≡ S.answers out.old }
     {
         match line {
@@ -196,6 +203,7 @@ impl<'a> Host<'a> {
     ) -> Result<Served, HostFault>
         requires clocked { IsOfClock manner now }
         ensures grown { IsText line.now → GrowsAs (Turned manner line.now result self.new.engine.engine) self.old.engine (S.bytes out.old) (S.failures out.old) self.new.engine (S.bytes out.new) (S.failures out.new) }
+        ensures counted { HasCounted self.old.engine.engine self.old.engine.metrics self.new.engine.engine self.new.engine.metrics }
         ensures answers { S.answers out.new ≡ S.answers out.old }
     {
         if is_skipped(line) {
@@ -637,6 +645,50 @@ impl<'a> Host<'a> {
         }
     }
 
+    /// Takes a clock reading, in milliseconds, since a timer is due.
+    pub(crate) fn read_due_timer<S: Outlet>(
+        &mut self,
+        reading: u64,
+        out: &mut S,
+    ) -> Result<(), HostFault>
+        ensures grown { GrowsAs (IsReading (Some reading)) self.old.engine (S.bytes out.old) (S.failures out.old) self.new.engine (S.bytes out.new) (S.failures out.new) }
+        ensures answers { S.answers out.new ≡ S.answers out.old }
+    {
+        self.has_timer_gone = true;
+        self.read_clock(reading, out)
+    }
+
+    /// Reports what was counted, since the engine is about to wait.
+    pub(crate) fn report_waiting<N: Reports>(&mut self, reports: &mut N)
+        requires { N.may_count self.old.engine.metrics self.old.engine.engine }
+        ensures { self.new.engine ≡ self.old.engine }
+    {
+        let when = if self.has_timer_gone {
+            Moment::Timer
+        } else {
+            Moment::Waits
+        };
+        self.has_timer_gone = false;
+        self.report_counted(when, reports);
+    }
+
+    /// Reports what was counted.
+    pub(crate) fn report_counted<N: Reports>(&self, when: Moment, reports: &mut N)
+        requires { N.may_count self.now.engine.metrics self.now.engine.engine }
+        ensures { (how : TheSuccession) (state : NumberedState) → N.has_decided reports.old how state → N.has_decided reports.new how state }
+    {
+        reports.counted(when, self.engine.metrics(), self.engine.engine());
+    }
+
+    /// Hands over what was counted. Nothing more is counted here.
+    pub(crate) fn hand_over(&mut self, metrics: &mut Metrics)
+        ensures handed { metrics.new ≡ self.old.engine.metrics }
+        ensures engine { self.new.engine.engine ≡ self.old.engine.engine }
+        ensures printed { self.new.engine.printed ≡ self.old.engine.printed }
+    {
+        self.engine.hand_over(self.alloc, metrics);
+    }
+
     /// The engine, of which nobody asks anything any more.
     pub(crate) fn into_engine(self) -> PrintedEngine<'a>
         ensures { result ≡ self.entry.engine }
@@ -645,6 +697,7 @@ impl<'a> Host<'a> {
             alloc: _,
             engine,
             is_over: _,
+            has_timer_gone: _,
         } = self;
         engine
     }

@@ -1,5 +1,5 @@
-// An engine whose records are printed as they come, and forgotten. It relies on `engine_core` for the engine, and on `printed` for what
-// goes out.
+// An engine whose records are printed and counted as they come, and forgotten. It relies on `engine_core` for the engine, on `printed` for
+// what goes out, and on `host_metrics` for what is counted.
 
 ghost use Rattle.std.specs.Prelude.{◌≡◌, ◌<◌, ◌↔◌, ◌⊎◌, [], ℕ, List, length, slice_index_or, None, Option, Some, true, false, IfErr, IfOk, IfSome, IsNone, IsSome, IsTrue, OnErr, OnOk};
 ghost use Rattle.freeze_ledger.specs.Deadlines.{some_timer};
@@ -18,8 +18,10 @@ use crate::outlet::Outlet;
 use crate::printed::Printed;
 use crate::reports::LineFault;
 use engine_core::{LiveCcb, NumberedEngine};
-use std::alloc::AllocError;
+use host_metrics::{Before, Metrics};
+use std::alloc::{AllocError, Global};
 use std::marker::Model;
+use std::mem::replace;
 use trace::WriteFailed;
 use world_calls::{Call, CallAnswer, Record, StoppedAt, Totals, Version};
 
@@ -34,11 +36,12 @@ pub(crate) enum Advanced {
     Ended,
 }
 
-/// An engine, and its trace as far as it went out.
+/// An engine, its trace as far as it went out, and what is counted.
 #[derive(Drop)]
 pub(crate) struct PrintedEngine<'a> {
     engine: NumberedEngine<'a>,
     printed: Printed,
+    metrics: Metrics,
 }
 
 impl<'a> Model for PrintedEngine<'a> {
@@ -46,7 +49,7 @@ impl<'a> Model for PrintedEngine<'a> {
 
     ghost Value = { PrintedState };
 
-    ghost view = { λ e. record { engine = e.engine; printed = e.printed } };
+    ghost view = { λ e. record { engine = e.engine; printed = e.printed; metrics = e.metrics } };
 
     ghost invariant = { λ e. IsUnderway e.engine e.printed };
 }
@@ -62,18 +65,23 @@ fn is_exit(entry: &Record) -> bool
 }
 
 impl<'a> PrintedEngine<'a> {
-    /// An engine that stands after a history of so many records, of which the trace went out before. Nothing waits.
-    pub(crate) fn resumed(engine: NumberedEngine<'a>, count: u64) -> Self
+    /// An engine that stands after a history of so many records, of which the trace went out before, and what was counted before. Nothing
+    /// waits.
+    pub(crate) fn resumed(engine: NumberedEngine<'a>, count: u64, metrics: Metrics) -> Self
         requires behind { StandsBehind count engine }
-        ensures { result ≡ resumed_printed count engine.entry }
+        ensures { result ≡ resumed_printed count engine.entry metrics }
     {
         // It is called for what it says of the history.
         let _ = engine.transport();
         let printed = Printed::resumed(Version::of(engine.config().helpers()), count);
-        PrintedEngine { engine, printed }
+        PrintedEngine {
+            engine,
+            printed,
+            metrics,
+        }
     }
 
-    /// Carries a call out, or refuses it, and prints its record: the answer. `None`, which changes nothing, if the call is no event here.
+    /// Carries a call out, or refuses it, and counts and prints its record: the answer. `None`, which changes nothing, if the call is no event here.
     /// If memory is refused, or records cannot be counted any more, nothing changes.
     pub(crate) fn call<S: Outlet>(
         &mut self,
@@ -86,9 +94,11 @@ impl<'a> PrintedEngine<'a> {
         if self.printed.count >= u64::MAX {
             return Err(AllocError);
         }
+        let before = Before::of_call(self.engine.transport(), &call);
         match self.engine.call(&call) {
             Ok(Some(answer)) => {
                 let entry = Record::Called { answer, call };
+                self.metrics.count(&before, &entry);
                 self.printed.print(&entry, out);
                 Ok(Some(answer))
             }
@@ -97,7 +107,7 @@ impl<'a> PrintedEngine<'a> {
         }
     }
 
-    /// Lets a run go on to its next stop, and prints the record of that. If memory is refused, or records cannot be counted any more, nothing
+    /// Lets a run go on to its next stop, and counts and prints the record of that. If memory is refused, or records cannot be counted any more, nothing
     /// changes.
     pub(crate) fn advance<S: Outlet>(
         &mut self,
@@ -111,8 +121,10 @@ impl<'a> PrintedEngine<'a> {
         if self.printed.count >= u64::MAX {
             return Err(AllocError);
         }
+        let before = Before::of_run(self.engine.runs(), run);
         match self.engine.advance(run) {
             Ok(Some(entry)) => {
+                self.metrics.count(&before, &entry);
                 self.printed.print(&entry, out);
                 if is_exit(&entry) {
                     Ok(Advanced::Ended)
@@ -188,6 +200,22 @@ impl<'a> PrintedEngine<'a> {
         &self.engine
     }
 
+    /// What is counted.
+    pub(crate) fn metrics(&self) -> &Metrics
+        ensures { result.now ≡ self.now.metrics }
+    {
+        &self.metrics
+    }
+
+    /// Hands over what is counted, in the place of what is there. Nothing more is counted here.
+    pub(crate) fn hand_over(&mut self, alloc: Global, metrics: &mut Metrics)
+        ensures handed { metrics.new ≡ self.old.metrics }
+        ensures engine { self.new.engine ≡ self.old.engine }
+        ensures printed { self.new.printed ≡ self.old.printed }
+    {
+        *metrics = replace(&mut self.metrics, Metrics::none(alloc));
+    }
+
     /// Whether a run is live.
     pub(crate) fn has_run(&self) -> bool
         ensures live { result ≡ true → self.now.engine.runs.list ≡ [] → ⊥ }
@@ -240,7 +268,11 @@ impl<'a> PrintedEngine<'a> {
         ensures answers { S.answers out.new ≡ S.answers out.old }
     {
         let totals = self.totals();
-        let PrintedEngine { engine: _, printed } = self;
+        let PrintedEngine {
+            engine: _,
+            printed,
+            metrics: _,
+        } = self;
         let Printed {
             lines,
             count: _,

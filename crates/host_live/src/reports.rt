@@ -1,11 +1,12 @@
-// Who is told of lines that are not carried out, of sums, of CCBs, and of requests, and who decides whether an engine follows another one. It
-// relies on `world_calls` for sums, and on `engine_core` for engines and CCBs.
+// Who is told of lines that are not carried out, of sums, of CCBs, of requests, and of what was counted, and who decides whether an engine
+// follows another one. It relies on `world_calls` for sums, on `engine_core` for engines and CCBs, and on `host_metrics` for counters.
 
 ghost use Rattle.std.specs.Prelude.{◌≡◌, IfOk, IfSome, None, Ok};
 ghost use Rattle.host_live.specs.Successions.{fault_of_unfollowed};
 
 use crate::request::Succession;
 use engine_core::{LiveCcb, NumberedEngine};
+use host_metrics::Metrics;
 use std::alloc::AllocError;
 use world_calls::Totals;
 
@@ -46,16 +47,30 @@ pub(crate) fn fault_of(why: Unfollowed) -> LineFault
     }
 }
 
+/// When it is told what was counted.
+#[derive(Clone, Copy, Debug, PartialEq, Eq)]
+pub enum Moment {
+    /// The engine is about to wait for its input.
+    Waits,
+    /// The same, after a timer was due.
+    Timer,
+    /// Nothing more is served here.
+    End,
+}
+
 /// Is told what is no part of a trace, and decides whether an engine follows another one. What cannot be told is not told. Contracts see what
-/// was decided at last: how an engine is to follow, and which one; and why none may follow.
+/// was decided at last: how an engine is to follow, and which one; why none may follow; and what may have been counted of an engine.
 pub trait Reports {
     ghost use Rattle.engine_core.specs.ByNumber.{NumberedState};
+    ghost use Rattle.host_metrics.specs.Counted.{MetricsState};
     ghost use Rattle.host_live.specs.declared.reports.Unfollowed.{Unfollowed};
     ghost use Rattle.host_live.specs.declared.request.Succession.{Succession};
 
     ghost has_decided: { Self → Succession → NumberedState → Type 0 };
 
     ghost may_refuse: { Succession → NumberedState → Unfollowed → Type 0 };
+
+    ghost may_count: { MetricsState → NumberedState → Type 0 };
 
     /// That line is not carried out, the first being 1.
     fn refused(&mut self, fault: LineFault, line: usize);
@@ -68,6 +83,11 @@ pub trait Reports {
 
     /// The list of the requests is asked for.
     fn help(&mut self);
+
+    /// What was counted so far, and the engine as it stands.
+    fn counted(&mut self, when: Moment, metrics: &Metrics, engine: &NumberedEngine<'_>)
+        requires { may_count metrics.now engine.now }
+        ensures { (how : Succession) (state : NumberedState) → has_decided self.old how state → has_decided self.new how state };
 
     /// A line asks for another engine to follow this one, which has no live run: `None` if one is to, or why not.
     fn follow(

@@ -2,7 +2,7 @@
 // `lines` for lines, and on `printed_engine` for what goes out.
 
 ghost use Rattle.std.specs.Prelude.{◌≡◌, ◌≢◌, ◌<◌, ◌^◌, ◌-◌, ℕ, [], List, Ok, Err, IfErr, IfOk, IsTrue, OnErr, OnOk, Some, false, length, true};
-ghost use Rattle.engine_core.specs.ByNumber.{IsBehind};
+ghost use Rattle.engine_core.specs.ByNumber.{IsBehind, NumberedState};
 ghost use Rattle.trace.specs.Growing.{FailsBySink};
 ghost use Rattle.trace.specs.Sinks.{HasFailed};
 ghost use Rattle.world_calls.specs.declared.record.Record.{Record as TheRecord};
@@ -10,6 +10,7 @@ ghost use Rattle.host_live.specs.Answering.{Answer, with_answers};
 ghost use Rattle.host_live.specs.Drafts.{IsDraftOf};
 ghost use Rattle.host_live.specs.Growth.{GrowsAs, GrowsBy, StandsBehind};
 ghost use Rattle.host_live.specs.LinesCome.{IsTaken, Stands, Waits};
+ghost use Rattle.host_live.specs.Metering.{HasCounted, MayCount};
 ghost use Rattle.host_live.specs.Served.{AnswersOwed, Carries, CarriesCut, CarriesLine, CarriesReading, ContinuesTurns, DrivesFirst, DrivesLast, EndsOr, FinishesOr, GoesOnOr, GrowsWith, IsLineNow, IsOwed, IsPrintedBehind, MayCome, NextIs};
 ghost use Rattle.host_live.specs.Telling.{Closes, Continues};
 ghost use Rattle.host_live.specs.Turns.{DrivesAll, IsAt, IsSomewhere, Point};
@@ -25,9 +26,11 @@ use crate::lines::{Lines, Next};
 use crate::manner::Manner;
 use crate::outlet::Outlet;
 use crate::printed_engine::PrintedEngine;
-use crate::reports::Reports;
+use crate::reports::{Moment, Reports};
 use engine_core::NumberedEngine;
+use host_metrics::Metrics;
 use std::alloc::Global;
+use std::mem::replace;
 use trace::WriteFailed;
 
 /// Why a live engine stopped before the end of its input.
@@ -69,13 +72,15 @@ impl From<HostFault> for LiveFault {
 /// they are parked, and the last line is printed. Where the engine's clock goes by the input's, that is read before each line that is carried
 /// out, and whenever a timer is due. Where it reads more than an engine takes, that is recorded once, and time stands still. Where lines are
 /// answered, each is once the outlet took what it led to, and `quit` ends the input. The line that asks for the engine that follows is not
-/// answered here: whoever makes that engine serves it with the same lines, and says that this answer is owed.
+/// answered here: whoever makes that engine serves it with the same lines, and says that this answer is owed. Each record is counted, and what
+/// was counted is reported whenever the engine is about to wait, and when nothing more is served.
 pub fn serve<I: Input, S: Outlet, N: Reports>(
     alloc: Global,
     engine: NumberedEngine<'_>,
     count: u64,
     manner: Manner,
     owed: Option<usize>,
+    metrics: &mut Metrics,
     input: &mut I,
     lines: &mut Lines,
     out: &mut S,
@@ -84,6 +89,8 @@ pub fn serve<I: Input, S: Outlet, N: Reports>(
     requires behind { StandsBehind count engine }
     requires begun { IsTrue lines.old.is_ended → IsTrue (I.has_ended input.old) }
     requires stands { IsSomewhere (I.came input.old) lines.old }
+    // Whatever is counted of the records that follow may be reported, and nothing else is.
+    requires counts { MayCount N.may_count engine metrics.old }
     // All that went out continues the trace of each history that the engine stood behind; where it stopped, it is a front of what does.
     ensures told { (records : List TheRecord) → IsBehind records engine.entry → count ≡ length records → Continues engine.entry.setup manner records (S.bytes out.old) result (S.bytes out.new) }
     // It is that of the runs that were out, unless runs stay out, and then of what the lines that came asked for. The answer that was owed was
@@ -99,10 +106,14 @@ pub fn serve<I: Input, S: Outlet, N: Reports>(
     ensures going { IsTrue lines.new.is_ended → IsTrue (I.has_ended input.new) }
     // The engine that follows goes on with the same lines.
     ensures stands { result ≡ Ok true → IsSomewhere (I.came input.new) lines.new }
+    // Each record that was made was counted, once.
+    ensures counted { OnOk result ((now : NumberedState) × HasCounted engine.entry metrics.old now metrics.new) }
     ensures unwritten { result ≡ Err Unwritten → HasFailed (S.failures out.old) (S.failures out.new) }
 {
     match answer_owed(manner, owed, out) {
-        Ok(()) => serve_here(alloc, engine, count, manner, input, lines, out, reports),
+        Ok(()) => serve_here(
+            alloc, engine, count, manner, metrics, input, lines, out, reports,
+        ),
         Err(fault) => Err(fault),
     }
 }
@@ -142,6 +153,7 @@ fn serve_here<I: Input, S: Outlet, N: Reports>(
     engine: NumberedEngine<'_>,
     count: u64,
     manner: Manner,
+    metrics: &mut Metrics,
     input: &mut I,
     lines: &mut Lines,
     out: &mut S,
@@ -150,6 +162,7 @@ fn serve_here<I: Input, S: Outlet, N: Reports>(
     requires behind { StandsBehind count engine }
     requires begun { IsTrue lines.old.is_ended → IsTrue (I.has_ended input.old) }
     requires stands { IsSomewhere (I.came input.old) lines.old }
+    requires counts { MayCount N.may_count engine metrics.old }
     ensures told { (records : List TheRecord) → IsBehind records engine.entry → count ≡ length records → Continues engine.entry.setup manner records (S.bytes out.old) result (S.bytes out.new) }
     ensures turned { (point : Point) (records : List TheRecord) → IsAt point (I.came input.old) lines.old → IsBehind records engine.entry → count ≡ length records → ContinuesTurns engine.entry manner N.may_refuse point (I.came input.new) lines.new (N.has_decided reports.new) records (S.bytes out.old) (S.answers out.old) result (S.bytes out.new) (S.answers out.new) }
     ensures begun { lines.new.begun ≡ lines.old.begun }
@@ -158,12 +171,17 @@ fn serve_here<I: Input, S: Outlet, N: Reports>(
     ensures ended { manner.is_told ≡ false → result ≡ Ok false → IsTrue (I.has_ended input.new) }
     ensures going { IsTrue lines.new.is_ended → IsTrue (I.has_ended input.new) }
     ensures stands { result ≡ Ok true → IsSomewhere (I.came input.new) lines.new }
+    ensures counted { OnOk result ((now : NumberedState) × HasCounted engine.entry metrics.old now metrics.new) }
     ensures unwritten { result ≡ Err Unwritten → HasFailed (S.failures out.old) (S.failures out.new) }
 {
-    let engine = PrintedEngine::resumed(engine, count);
+    let counted = replace(metrics, Metrics::none(alloc));
+    let engine = PrintedEngine::resumed(engine, count, counted);
     let mut host = Host::new(alloc, engine);
     match serve_resumed(&mut host, manner, input, lines, out, reports) {
-        Ok(is_followed) => close(host, manner, is_followed, out),
+        Ok(is_followed) => {
+            host.hand_over(metrics);
+            close(host, manner, is_followed, out)
+        }
         Err(fault) => Err(fault),
     }
 }
@@ -209,7 +227,9 @@ fn serve_resumed<I: Input, S: Outlet, N: Reports>(
     reports: &mut N,
 ) -> Result<bool, LiveFault>
     requires begun { IsTrue lines.old.is_ended → IsTrue (I.has_ended input.old) }
+    requires counts { MayCount N.may_count host.old.engine.engine host.old.engine.metrics }
     ensures grown { (point : Point) → IsAt point (I.came input.old) lines.old → GrowsWith (GoesOnOr manner N.may_refuse host.old.engine.engine (IsPrintedBehind host.old.engine.printed (S.bytes out.old)) point (I.came input.new) lines.new (N.has_decided reports.new) result) host.old.engine (S.bytes out.old) (S.failures out.old) (S.answers out.old) host.new.engine (S.bytes out.new) (S.failures out.new) (S.answers out.new) }
+    ensures counted { HasCounted host.old.engine.engine host.old.engine.metrics host.new.engine.engine host.new.engine.metrics }
     ensures begun { lines.new.begun ≡ lines.old.begun }
     ensures unread { result ≡ Err Unread → IsTrue (I.has_failed input.new) }
     ensures still { OnOk result (I.has_failed input.new ≡ I.has_failed input.old) }
@@ -225,7 +245,8 @@ fn serve_resumed<I: Input, S: Outlet, N: Reports>(
     }
 }
 
-// Serves the lines, and drives the runs that are out at the end of the input, unless the trace is kept. All is handed on then.
+// Serves the lines, and drives the runs that are out at the end of the input, unless the trace is kept. All is handed on then, and what was
+// counted is reported.
 fn serve_behind<I: Input, S: Outlet, N: Reports>(
     host: &mut Host<'_>,
     manner: Manner,
@@ -235,7 +256,9 @@ fn serve_behind<I: Input, S: Outlet, N: Reports>(
     reports: &mut N,
 ) -> Result<bool, LiveFault>
     requires begun { IsTrue lines.old.is_ended → IsTrue (I.has_ended input.old) }
+    requires counts { MayCount N.may_count host.old.engine.engine host.old.engine.metrics }
     ensures grown { (point : Point) → IsAt point (I.came input.old) lines.old → GrowsWith (FinishesOr manner N.may_refuse host.old.engine.engine (IsPrintedBehind host.old.engine.printed (S.bytes out.old)) point (I.came input.new) lines.new (N.has_decided reports.new) result) host.old.engine (S.bytes out.old) (S.failures out.old) (S.answers out.old) host.new.engine (S.bytes out.new) (S.failures out.new) (S.answers out.new) }
+    ensures counted { HasCounted host.old.engine.engine host.old.engine.metrics host.new.engine.engine host.new.engine.metrics }
     ensures begun { lines.new.begun ≡ lines.old.begun }
     ensures unread { result ≡ Err Unread → IsTrue (I.has_failed input.new) }
     ensures still { OnOk result (I.has_failed input.new ≡ I.has_failed input.old) }
@@ -246,8 +269,15 @@ fn serve_behind<I: Input, S: Outlet, N: Reports>(
     ensures whole { OnOk result (host.new.engine.printed.has_failed ≡ false) }
 {
     match serve_lines(host, manner, input, lines, out, reports) {
-        Ok(is_followed) => finish(host, manner, is_followed, out),
-        Err(fault) => Err(fault),
+        Ok(is_followed) => {
+            let finished = finish(host, manner, is_followed, out);
+            host.report_counted(Moment::End, reports);
+            finished
+        }
+        Err(fault) => {
+            host.report_counted(Moment::End, reports);
+            Err(fault)
+        }
     }
 }
 
@@ -348,7 +378,9 @@ fn serve_lines<I: Input, S: Outlet, N: Reports>(
     reports: &mut N,
 ) -> Result<bool, LiveFault>
     requires begun { IsTrue lines.old.is_ended → IsTrue (I.has_ended input.old) }
+    requires counts { MayCount N.may_count host.old.engine.engine host.old.engine.metrics }
     ensures grown { (point : Point) → IsAt point (I.came input.old) lines.old → GrowsWith (EndsOr manner N.may_refuse host.old.engine.engine (IsPrintedBehind host.old.engine.printed (S.bytes out.old)) point (I.came input.new) lines.new (N.has_decided reports.new) result) host.old.engine (S.bytes out.old) (S.failures out.old) (S.answers out.old) host.new.engine (S.bytes out.new) (S.failures out.new) (S.answers out.new) }
+    ensures counted { HasCounted host.old.engine.engine host.old.engine.metrics host.new.engine.engine host.new.engine.metrics }
     ensures begun { lines.new.begun ≡ lines.old.begun }
     ensures unread { result ≡ Err Unread → IsTrue (I.has_failed input.new) }
     ensures still { OnOk result (I.has_failed input.new ≡ I.has_failed input.old) }
@@ -383,7 +415,9 @@ fn serve_next<I: Input, S: Outlet, N: Reports>(
 ) -> Result<After, LiveFault>
     requires begun { IsTrue lines.old.is_ended → IsTrue (I.has_ended input.old) }
     requires room { lines.old.number < 2 ^ 64 - 1 }
+    requires counts { MayCount N.may_count host.old.engine.engine host.old.engine.metrics }
     ensures turned { (base told : List ℕ) → Stands base (I.came input.old) lines.old told → GrowsWith (NextIs manner N.may_refuse base told lines.old.number (I.came input.new) lines.new (N.has_decided reports.new) result host.new.engine.engine host.new.engine.printed (S.bytes out.new)) host.old.engine (S.bytes out.old) (S.failures out.old) (S.answers out.old) host.new.engine (S.bytes out.new) (S.failures out.new) (S.answers out.new) }
+    ensures counted { HasCounted host.old.engine.engine host.old.engine.metrics host.new.engine.engine host.new.engine.metrics }
     ensures begun { lines.new.begun ≡ lines.old.begun }
     ensures unread { result ≡ Err Unread → IsTrue (I.has_failed input.new) }
     ensures still { OnOk result (I.has_failed input.new ≡ I.has_failed input.old) }
@@ -391,7 +425,7 @@ fn serve_next<I: Input, S: Outlet, N: Reports>(
     ensures ended { manner.is_told ≡ false → result ≡ Ok AfterAll → IsTrue (I.has_ended input.new) }
     ensures unwritten { result ≡ Err Unwritten → host.new.engine.printed.has_failed ≡ true }
 {
-    match take_next(host, manner, input, lines, out) {
+    match take_next(host, manner, input, lines, out, reports) {
         Ok(next) => match carry_out(host, manner, next, input, lines, out, reports) {
             Ok(turn) => answer_decided(host, manner, lines.number(), turn, out, reports),
             Err(fault) => Err(stop(host, out, fault)),
@@ -400,16 +434,18 @@ fn serve_next<I: Input, S: Outlet, N: Reports>(
     }
 }
 
-// Takes the next line, if it is there. Otherwise all goes out, and it waits for that line, or for the next timer.
-fn take_next<I: Input, S: Outlet>(
+// Takes the next line, if it is there. Otherwise all goes out, what was counted is reported, and it waits for that line, or for the next timer.
+fn take_next<I: Input, S: Outlet, N: Reports>(
     host: &mut Host<'_>,
     manner: Manner,
     input: &mut I,
     lines: &mut Lines,
     out: &mut S,
+    reports: &mut N,
 ) -> Result<Next, LiveFault>
     requires begun { IsTrue lines.old.is_ended → IsTrue (I.has_ended input.old) }
     requires room { lines.old.number < 2 ^ 64 - 1 }
+    requires counts { MayCount N.may_count host.old.engine.engine host.old.engine.metrics }
     ensures grown { GrowsBy [] host.old.engine (S.bytes out.old) (S.failures out.old) host.new.engine (S.bytes out.new) (S.failures out.new) }
     ensures answers { S.answers out.new ≡ S.answers out.old }
     ensures taken { (base told : List ℕ) → Stands base (I.came input.old) lines.old told → IfOk result (λ next. Waits base lines.old told next (I.came input.new) lines.new) }
@@ -430,7 +466,10 @@ fn take_next<I: Input, S: Outlet>(
         };
     }
     match host.engine.settle(out) {
-        Ok(()) => Ok(wait_next(host, manner, input, lines)),
+        Ok(()) => {
+            host.report_waiting(reports);
+            Ok(wait_next(host, manner, input, lines))
+        }
         Err(failed) => Err(LiveFault::from(failed)),
     }
 }
@@ -464,6 +503,7 @@ fn carry_out<I: Input, S: Outlet, N: Reports>(
 ) -> Result<Turn, LiveFault>
     requires due { MayCome manner next }
     ensures carried { (line : List ℕ) → IsLineNow next lines.now line → GrowsAs (Carries manner next line result host.new.engine.engine) host.old.engine (S.bytes out.old) (S.failures out.old) host.new.engine (S.bytes out.new) (S.failures out.new) }
+    ensures counted { HasCounted host.old.engine.engine host.old.engine.metrics host.new.engine.engine host.new.engine.metrics }
     ensures answers { S.answers out.new ≡ S.answers out.old }
     ensures unread { result ≡ Err Unread → next ≡ Failed }
     ensures read { OnOk result (next ≢ Failed) }
@@ -490,6 +530,7 @@ fn carry_line<I: Input, S: Outlet, N: Reports>(
     reports: &mut N,
 ) -> Result<Turn, LiveFault>
     ensures carried { (line : List ℕ) → IsDraftOf line lines.now.draft → lines.now.is_ended ≡ false → GrowsAs (CarriesLine manner line result host.new.engine.engine) host.old.engine (S.bytes out.old) (S.failures out.old) host.new.engine (S.bytes out.new) (S.failures out.new) }
+    ensures counted { HasCounted host.old.engine.engine host.old.engine.metrics host.new.engine.engine host.new.engine.metrics }
     ensures answers { S.answers out.new ≡ S.answers out.old }
     ensures unread { result ≢ Err Unread }
     ensures ended { result ≢ Ok AtEnd }
@@ -548,7 +589,7 @@ fn carry_reading<S: Outlet>(
     ensures ended { result ≢ Ok AtEnd }
     ensures written { result ≢ Err Unwritten }
 {
-    match host.read_clock(reading, out) {
+    match host.read_due_timer(reading, out) {
         Ok(()) => Ok(Turn::Timer),
         Err(fault) => Err(LiveFault::from(fault)),
     }

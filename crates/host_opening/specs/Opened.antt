@@ -6,6 +6,7 @@ use Rattle.engine_carried.specs.declared.numbering.Numbering.{Numbering}
 use Rattle.engine_core.specs.EngineState.{EngineState, opened}
 use Rattle.manifest.specs.Meaning.{Named, Means, HasFault}
 use Rattle.manifest.specs.declared.fault.ManifestFault.{ManifestFault}
+use Rattle.host_metrics.specs.Counted.{MetricsState, zero_metrics}
 use Rattle.host_embedding.specs.Succession.{IsSucceeded}
 use Rattle.host_embedding.specs.declared.hosted_engine.HostedEngine.{HostedEngine}
 use Rattle.host_embedding.specs.declared.call_result.CallResult.{CallResult}
@@ -28,9 +29,13 @@ abbrev pub IsRead : List ℕ → Result Setup OpenFault → Type 0
 IsRead text (Ok setup) = (programs : List Named) × Means text setup programs
 IsRead text (Err fault) = IsUnread text fault
 
--- such an engine, of which no run is to be taken, or why there is none
+-- nothing is counted: each counter is 0
+unfoldable pub none_counted : MetricsState
+none_counted = zero_metrics
+
+-- such an engine, of which no run is to be taken and nothing is counted, or why there is none
 abbrev pub Opens : List ℕ → Result (Box HostedEngine) OpenFault → Type 0
-Opens text (Ok handle) = IsEngineOf text handle.value.engine × (handle.value.left.items ≡ [])
+Opens text (Ok handle) = IsEngineOf text handle.value.engine × (handle.value.left.items ≡ []) × (handle.value.metrics ≡ none_counted)
 Opens text (Err fault) = IsUnread text fault
 
 -- no run is live, and nothing changed

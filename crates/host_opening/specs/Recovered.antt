@@ -17,6 +17,7 @@ use Rattle.replay.specs.declared.fault.ReplayFault.{ReplayFault}
 use Rattle.replay.specs.declared.fault.ReplayFault.TheVariants.{Header, Carried, Behind}
 use Rattle.host_embedding.specs.Recovering.{StandsAfter, StandsOver}
 use Rattle.host_embedding.specs.declared.hosted_engine.HostedEngine.{HostedEngine}
+use Rattle.host_opening.specs.Opened.{none_counted}
 use Rattle.host_opening.specs.declared.recovering.RecoverFault.{RecoverFault}
 use Rattle.host_opening.specs.declared.recovering.RecoverFault.TheVariants.{OutOfMemory, NotUtf8, Manifest, Form, Replay}
 
@@ -56,12 +57,13 @@ abbrev pub StandsSo : Setup → Option (List CarriedLine) → List Record → Ho
 StandsSo config None records hosted = StandsAfter config records hosted
 StandsSo config (Some lines) records hosted = StandsOver config lines records hosted
 
--- The text is that of a trace, as far as it was written, whose lines follow, and the engine stands where they lead.
+-- The text is that of a trace, as far as it was written, whose lines follow, and the engine stands where they lead. Nothing is counted.
 pub record IsRecoveredBy (config : Setup) (text : List ℕ) (hosted : HostedEngine) : Type 0 where
   pub front : TraceFront
   pub read : SaysFront text (Ok front)
   pub followed : IsFollowed config front
   pub stands : StandsSo config (items_of front.whole.carried) front.whole.trace.records.items hosted
+  pub metrics : hosted.metrics ≡ none_counted
 
 -- such an engine, or why there is none; want of memory says nothing
 abbrev pub RecoversBy : Setup → List ℕ → Result (Box HostedEngine) RecoverFault → Type 0
@@ -113,8 +115,8 @@ IsJudgedSo front fault (Ok done) = (front.is_ended ≡ false) × ((lines : ℕ) 
 IsJudgedSo front fault (Err memory.OutOfMemory) = ⊥
 IsJudgedSo front fault (Err (memory.Fault other)) = (other ≡ fault) × IsThere front.is_ended (length front.whole.trace.records.items) fault
 
--- the engine that stands so, or want of memory
+-- the engine that stands so and of which nothing is counted, or want of memory
 abbrev pub StandsBy : Setup → TraceFront → Result (Box HostedEngine) RecoverFault → Type 0
-StandsBy config front (Ok handle) = StandsSo config (items_of front.whole.carried) front.whole.trace.records.items handle.value
+StandsBy config front (Ok handle) = StandsSo config (items_of front.whole.carried) front.whole.trace.records.items handle.value × (handle.value.metrics ≡ none_counted)
 StandsBy config front (Err OutOfMemory) = ⊤
 StandsBy config front (Err fault) = ⊥

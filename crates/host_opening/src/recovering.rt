@@ -3,12 +3,14 @@
 
 ghost use Rattle.std.specs.Prelude.{◌≡◌, ◌≤◌, ◌<◌, IfOk, IsTrue, length};
 ghost use Rattle.whole_trace.specs.Continued.{items_of};
+ghost use Rattle.host_opening.specs.Opened.{none_counted};
 ghost use Rattle.host_opening.specs.Recovered.{Follows, IsAtEnd, IsJudgedSo, IsReadFront, Judges, Recovers, RecoversBy, StandsBy, StandsSo};
 
-use crate::opening::{OpenFault, config_of, put_fault};
+use crate::opening::{OpenFault, config_of, metrics_of, put_fault};
 use base::OrMemory;
 use engine_config::Config;
 use host_embedding::{HostedEngine, put_front};
+use host_metrics::Metrics;
 use manifest::ManifestFault;
 use replay::{ReplayError, ReplayFault, replay, replay_continued};
 use std::alloc::{AllocError, Global};
@@ -31,7 +33,7 @@ pub enum RecoverFault {
 }
 
 /// Opens an engine of a manifest's text, and leads it to where the text of a trace leads: what that recorded is the engine's history, all
-/// of which is handed on, and the runs that are out then can be taken. The last line of the trace may be missing, and what stands after
+/// of which is handed on, and the runs that are out then can be taken. None of that is counted. The last line of the trace may be missing, and what stands after
 /// the last line feed is ignored then. A fault of the manifest comes before any of the trace, and of the trace's faults the first is
 /// returned, in the order of a replay: X1, X2, X3 with the first line, X4, X3.
 #[tactic(auto, using(crate::proofs::Recoveries::means, crate::proofs::Recoveries::no_manifest))]
@@ -43,21 +45,42 @@ pub fn recover(
     ensures { Recovers manifest.now text.now result }
 {
     match config_of(alloc, manifest) {
-        Ok(config) => recover_by(alloc, config, text),
+        Ok(config) => recover_counted(alloc, config, manifest, text),
         Err(OpenFault::OutOfMemory) => Err(RecoverFault::OutOfMemory),
         Err(OpenFault::NotUtf8) => Err(RecoverFault::NotUtf8),
         Err(OpenFault::Manifest(fault)) => Err(RecoverFault::Manifest(fault)),
     }
 }
 
-// The same of a configuration.
+// The same of a configuration, which that manifest means.
+fn recover_counted(
+    alloc: Global,
+    config: Config,
+    manifest: &[u8],
+    text: &[u8],
+) -> Result<Box<HostedEngine>, RecoverFault>
+    ensures { RecoversBy config text.now result }
+{
+    match metrics_of(alloc, manifest) {
+        Ok(metrics) => recover_by(alloc, config, metrics, text),
+        Err(AllocError) => Err(RecoverFault::OutOfMemory),
+    }
+}
+
+// The same with these counters.
 #[tactic(auto, using(crate::proofs::Recoveries::stands, crate::proofs::Recoveries::unfollowed, crate::proofs::Recoveries::unread))]
-fn recover_by(alloc: Global, config: Config, text: &[u8]) -> Result<Box<HostedEngine>, RecoverFault>
+fn recover_by(
+    alloc: Global,
+    config: Config,
+    metrics: Metrics,
+    text: &[u8],
+) -> Result<Box<HostedEngine>, RecoverFault>
+    requires { metrics ≡ none_counted }
     ensures { RecoversBy config text.now result }
 {
     match read_text(alloc, text) {
         Ok(front) => match judge(alloc, &config, &front) {
-            Ok(()) => stand(alloc, config, front),
+            Ok(()) => stand(alloc, config, metrics, front),
             Err(OrMemory::OutOfMemory) => Err(RecoverFault::OutOfMemory),
             Err(OrMemory::Fault(fault)) => Err(RecoverFault::Replay(fault)),
         },
@@ -124,17 +147,20 @@ fn follow(alloc: Global, config: &Config, whole: &WholeTrace) -> Result<(), Repl
     }
 }
 
-// The engine that stands where the records lead, on the heap.
+// The engine that stands where the records lead, with these counters, on the heap.
+#[tactic(auto, using(crate::proofs::Recoveries::counted_by))]
 fn stand(
     alloc: Global,
     config: Config,
+    metrics: Metrics,
     front: TraceFront,
 ) -> Result<Box<HostedEngine>, RecoverFault>
+    requires { metrics ≡ none_counted }
     ensures { StandsBy config front result }
 {
     let TraceFront { whole, is_ended: _ } = front;
     match led(alloc, config, whole) {
-        Ok(hosted) => match Box::new(alloc, hosted) {
+        Ok(hosted) => match Box::new(alloc, hosted.counted_by(metrics)) {
             Ok(handle) => Ok(handle),
             Err(_) => Err(RecoverFault::OutOfMemory),
         },

@@ -1,6 +1,10 @@
 // The line of an event: when, where, and what. It relies on `show_events` for its words, on `names` for names, and on `show_sense` for SCSI
 // statuses and sense data.
 
+ghost use Rattle.std.specs.Prelude.{ℕ, List};
+ghost use Rattle.cli_text_page.specs.Page.{Puts};
+ghost use Rattle.show_account.specs.Names.{IsCodeText, named_text, unnamed_text};
+
 use crate::names::{failure_of, name_of_code, status_name};
 use ccb::{CallRefusal, CamStatus, Place};
 use cli_text_page::Page;
@@ -208,17 +212,33 @@ fn put_sense_data(bytes: &[u8], page: &mut Page) {
 }
 
 /// Puts a final code: the name of the status that it is, and its two digits.
-pub fn put_code(code: u8, page: &mut Page) {
+pub fn put_code(code: u8, page: &mut Page)
+    ensures { (text : List ℕ) × IsCodeText code text × Puts page.old text page.new }
+{
     let name = name_of_code(code);
-    let (before, after) = if name.is_empty() {
-        ("code ", "")
+    if name.is_empty() {
+        put_unnamed(code, page)
     } else {
-        (" (", ")")
-    };
-    page.text(name);
-    page.text(before);
+        put_named(name, code, page)
+    }
+}
+
+// Puts a final code that is no status.
+fn put_unnamed(code: u8, page: &mut Page)
+    ensures { Puts page.old (unnamed_text code) page.new }
+{
+    page.text("code ");
     page.byte(code);
-    page.text(after);
+}
+
+// Puts a final code under its name.
+fn put_named(name: &str, code: u8, page: &mut Page)
+    ensures { Puts page.old (named_text name.now code) page.new }
+{
+    page.text(name);
+    page.text(" (");
+    page.byte(code);
+    page.text(")");
 }
 
 // What there was before a freeze: a failure, or a guest that took it.

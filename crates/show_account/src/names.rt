@@ -1,9 +1,14 @@
 // The names of statuses and final codes in words. It relies on `ccb` for these.
 
+ghost use Rattle.std.specs.Prelude.{◌≡◌};
+ghost use Rattle.show_account.specs.Names.{IsNameOf, status_name};
+
 use ccb::CamStatus;
 
 /// The name of a status, in words.
-pub fn status_name(status: CamStatus) -> &'static str {
+pub fn status_name(status: CamStatus) -> &'static str
+    ensures { result.now ≡ status_name status }
+{
     match status {
         CamStatus::RequestInProgress => "request in progress",
         CamStatus::RequestCompleted => "request completed",
@@ -35,7 +40,9 @@ pub(crate) fn failure_of(status: CamStatus) -> &'static str {
 }
 
 /// The name of the status that a final code is; nothing if it is none.
-pub fn name_of_code(code: u8) -> &'static str {
+pub fn name_of_code(code: u8) -> &'static str
+    ensures { IsNameOf code result.now }
+{
     match CamStatus::from_code(code) {
         Some(status) => status_name(status),
         None => "",

@@ -4,8 +4,11 @@
 ghost use Rattle.std.specs.Prelude.{[], Some, false, if◌then◌else◌};
 
 use crate::memory::Memory;
-use cli_commands::{GivenManifest, ManifestUnread, audit_journal, serve_journal};
-use host_live::{Came, Input, Manner};
+use cli_commands::{
+    GivenManifest, ManifestUnread, MetricsFile, MetricsUnwritten, audit_journal, serve_journal,
+};
+use host_live::{Came, Input, Manner, Moment};
+use host_metrics::Metrics;
 use std::alloc::{AllocError, Global};
 
 const MANIFEST: &str = "version = 1\n[[queue]]\nopenings = 1\nprogram = \"p1\"\n\
@@ -94,6 +97,26 @@ impl GivenManifest for SameManifest {
             Ok(bytes) => Ok(Some(bytes)),
             Err(AllocError) => Err(ManifestUnread::OutOfMemory),
         }
+    }
+}
+
+impl MetricsFile for SameManifest {
+    fn take_metrics(&mut self, alloc: Global) -> Metrics {
+        Metrics::none(alloc)
+    }
+
+    fn keep_metrics(&mut self, _metrics: Metrics) {}
+
+    fn is_due(&mut self, _when: Moment) -> bool {
+        false
+    }
+
+    fn write_metrics(&mut self, _text: Option<&str>) -> Result<(), MetricsUnwritten> {
+        Ok(())
+    }
+
+    fn metrics_path(&self) -> &str {
+        ""
     }
 }
 

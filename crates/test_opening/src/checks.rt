@@ -5,7 +5,7 @@ use crate::calling::{
     live_runs, opened, park, release, resume, stretch, submit, take,
 };
 use ccb::CamStatus;
-use host_embedding::{CallResult, EngineHandle, HostedEngine, PutLines, RunHandle};
+use host_embedding::{CallResult, HostedEngine, PutLines, RunHandle};
 use host_opening::{OpenFault, put_fault};
 use std::alloc::Global;
 use world_calls::CallRefusal;
@@ -49,24 +49,12 @@ pub const END: &str = "end 6 0 0 0
 /// How many results there are.
 const RESULTS: u32 = 25;
 
-pub fn engine_of(alloc: Global) -> Option<Box<EngineHandle>> {
-    match opened(alloc, MANIFEST.as_bytes()) {
-        Ok(hosted) => alone(alloc, Box::into_inner(hosted)),
-        Err(_) => None,
-    }
-}
-
-// The engine without what was left to be taken.
-fn alone(alloc: Global, hosted: HostedEngine) -> Option<Box<EngineHandle>> {
-    let HostedEngine { engine, left: _ } = hosted;
-    match Box::new(alloc, engine) {
-        Ok(engine) => Some(engine),
-        Err(_) => None,
-    }
+pub fn engine_of(alloc: Global) -> Option<Box<HostedEngine>> {
+    opened(alloc, MANIFEST.as_bytes()).ok()
 }
 
 // The CCB that is started, which was submitted before.
-fn start(engine: &mut EngineHandle) -> Option<u32> {
+fn start(engine: &mut HostedEngine) -> Option<u32> {
     let (submitted, _) = submit(engine, 0, 1);
     let (dispatched, ccb) = dispatch(engine, 0);
     if submitted == CallResult::Done && dispatched == CallResult::Done {
@@ -77,7 +65,7 @@ fn start(engine: &mut EngineHandle) -> Option<u32> {
 }
 
 // A run of a CCB that timed out.
-pub fn failed(alloc: Global, engine: &mut EngineHandle) -> Option<Box<RunHandle>> {
+pub fn failed(alloc: Global, engine: &mut HostedEngine) -> Option<Box<RunHandle>> {
     let ccb = start(engine)?;
     match complete(alloc, engine, ccb, CamStatus::CommandTimeout) {
         Ok(run) => run,
@@ -112,7 +100,7 @@ pub fn handles_go_from_thread_to_thread(alloc: Global) -> Option<bool> {
 }
 
 // The run is taken to its next stop before the engine takes it over, and then driven to its end.
-fn is_driven(engine: &mut EngineHandle, run: &mut RunHandle) -> bool {
+fn is_driven(engine: &mut HostedEngine, run: &mut RunHandle) -> bool {
     advance(engine, run) == (CallResult::NotStretched, None)
         && stretch(run) == CallResult::Done
         && advance(engine, run) == (CallResult::Done, None)
@@ -120,14 +108,14 @@ fn is_driven(engine: &mut EngineHandle, run: &mut RunHandle) -> bool {
 }
 
 // Nothing more comes of it.
-fn is_spent(engine: &mut EngineHandle, run: &mut RunHandle) -> bool {
+fn is_spent(engine: &mut HostedEngine, run: &mut RunHandle) -> bool {
     stretch(run) == CallResult::Spent
         && drive(engine, run) == (CallResult::Spent, None)
         && park(engine, run) == CallResult::Spent
 }
 
 // The trace is that of the recovery.
-fn is_told(engine: &EngineHandle) -> bool {
+fn is_told(engine: &HostedEngine) -> bool {
     let mut place = [0; 300];
     let (result, put) = lines(engine, 0, &mut place);
     if result != CallResult::Done || put.next != 6 || !has_text(&place, put.written, TRACE) {
@@ -150,7 +138,7 @@ pub fn recovers(alloc: Global) -> Option<bool> {
 }
 
 // Whether so many bytes are put from that record on, and where to go on.
-fn puts(engine: &EngineHandle, place: &mut [u8], from: u64, written: usize, next: u64) -> bool {
+fn puts(engine: &HostedEngine, place: &mut [u8], from: u64, written: usize, next: u64) -> bool {
     lines(engine, from, place) == (CallResult::Done, PutLines { written, next })
 }
 
@@ -172,7 +160,7 @@ pub fn lines_go_on(alloc: Global) -> Option<bool> {
 }
 
 // Whether so many bytes are taken, up to that record.
-fn takes(engine: &mut EngineHandle, place: &mut [u8], written: usize, next: u64) -> bool {
+fn takes(engine: &mut HostedEngine, place: &mut [u8], written: usize, next: u64) -> bool {
     take(engine, place) == (CallResult::Done, PutLines { written, next })
 }
 
@@ -189,12 +177,12 @@ pub fn lines_are_taken_once(alloc: Global) -> Option<bool> {
             && puts(&engine, &mut place, 2, 36, 3)
             && takes(&mut engine, &mut place, 36, 3)
             && takes(&mut engine, &mut place, 0, 3)
-            && engine.totals().history == 3,
+            && engine.engine.totals().history == 3,
     )
 }
 
 // What is refused of an engine of which nothing was asked.
-fn refuses_first(engine: &mut EngineHandle) -> bool {
+fn refuses_first(engine: &mut HostedEngine) -> bool {
     is_refused(submit(engine, 1, 0).0, CallRefusal::Unknown)
         && is_refused(dispatch(engine, 0).0, CallRefusal::NothingWaits)
         && is_refused(clock(engine, 1 << 63), CallRefusal::Limit)
@@ -203,7 +191,7 @@ fn refuses_first(engine: &mut EngineHandle) -> bool {
 }
 
 // The result of a completion without an error, of which no run starts.
-pub fn finished(alloc: Global, engine: &mut EngineHandle, ccb: u32) -> CallResult {
+pub fn finished(alloc: Global, engine: &mut HostedEngine, ccb: u32) -> CallResult {
     match complete(alloc, engine, ccb, CamStatus::RequestCompleted) {
         Ok(None) => CallResult::Done,
         Ok(Some(_)) => CallResult::NoCompletion,
@@ -242,7 +230,7 @@ pub fn freezes_by_number(alloc: Global) -> Option<bool> {
 }
 
 // Another engine has not given the run out; the one that has parks it.
-fn is_parked(engine: &mut EngineHandle, other: &mut EngineHandle, run: &mut RunHandle) -> bool {
+fn is_parked(engine: &mut HostedEngine, other: &mut HostedEngine, run: &mut RunHandle) -> bool {
     stretch(run) == CallResult::Done
         && advance(other, run) == (CallResult::NotOut, None)
         && park(other, run) == CallResult::NotOut
@@ -252,7 +240,7 @@ fn is_parked(engine: &mut EngineHandle, other: &mut EngineHandle, run: &mut RunH
 }
 
 // Whether no run of that number is parked.
-fn is_unknown(alloc: Global, engine: &mut EngineHandle, run: u32) -> bool {
+fn is_unknown(alloc: Global, engine: &mut HostedEngine, run: u32) -> bool {
     match resume(alloc, engine, run) {
         Ok(_) => false,
         Err(result) => is_refused(result, CallRefusal::Unknown),

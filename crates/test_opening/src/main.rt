@@ -5,6 +5,7 @@
 
 mod calling;
 mod checks;
+mod metrics;
 mod recoveries;
 mod successions;
 
@@ -44,10 +45,12 @@ enum Check {
     Faults,
     CarriedFaults,
     First,
+    Counted,
+    CountedOn,
 }
 
 /// All checks, with their names.
-const CHECKS: [(&str, Check); 28] = [
+const CHECKS: [(&str, Check); 30] = [
     ("handles_go_from_thread_to_thread", Check::Handles),
     ("recovers", Check::Recovery),
     ("lines_go_on", Check::Lines),
@@ -76,6 +79,8 @@ const CHECKS: [(&str, Check); 28] = [
     ("faulty_traces", Check::Faults),
     ("faulty_carried_lines", Check::CarriedFaults),
     ("faulty_manifests_come_first", Check::First),
+    ("what_is_counted_is_put", Check::Counted),
+    ("counts_go_on_where_an_engine_follows", Check::CountedOn),
 ];
 
 impl Check {
@@ -110,6 +115,8 @@ impl Check {
             Check::Faults => recoveries::faulty_traces(alloc),
             Check::CarriedFaults => recoveries::faulty_carried_lines(alloc),
             Check::First => recoveries::faulty_manifests_come_first(alloc),
+            Check::Counted => metrics::what_is_counted_is_put(alloc),
+            Check::CountedOn => metrics::counts_go_on_where_an_engine_follows(alloc),
         }
     }
 }

@@ -5,7 +5,7 @@ use crate::calling::{
     totals,
 };
 use crate::checks::{END, MANIFEST, TRACE, finished, has_text};
-use host_embedding::{CallResult, EngineHandle, HostedEngine, Numbering, RunHandle};
+use host_embedding::{CallResult, HostedEngine, Numbering, RunHandle};
 use host_opening::RecoverFault;
 use std::alloc::Global;
 
@@ -85,7 +85,7 @@ fn engine_after(alloc: Global, front: &str, rest: &str) -> Option<Box<HostedEngi
 }
 
 // Whether the lines that are taken are these.
-fn takes(engine: &mut EngineHandle, text: &str) -> bool {
+fn takes(engine: &mut HostedEngine, text: &str) -> bool {
     let mut place = [0; 800];
     let (result, put) = take(engine, &mut place);
     result == CallResult::Done && has_text(&place, put.written, text)
@@ -97,7 +97,7 @@ fn none_is_left(engine: &mut HostedEngine) -> bool {
 }
 
 // Whether it is the run of that number, started with that freeze, and ends with R0 7.
-fn ends(engine: &mut EngineHandle, run: &mut RunHandle, number: u32, freeze: u32) -> bool {
+fn ends(engine: &mut HostedEngine, run: &mut RunHandle, number: u32, freeze: u32) -> bool {
     run.number == number
         && run.freeze == freeze
         && drive(engine, run) == (CallResult::Done, Some(7))
@@ -106,8 +106,8 @@ fn ends(engine: &mut EngineHandle, run: &mut RunHandle, number: u32, freeze: u32
 /// A trace without records. The header is taken with the first record.
 pub fn recovers_an_empty_trace(alloc: Global) -> Option<bool> {
     let mut engine = engine_at(alloc, "camr-trace 2\n")?;
-    let is_empty = totals(&engine.engine) == (0, 0, 0, 0) && none_is_left(&mut engine);
-    let it = &mut engine.engine;
+    let is_empty = totals(&engine) == (0, 0, 0, 0) && none_is_left(&mut engine);
+    let it: &mut HostedEngine = &mut engine;
     Some(
         is_empty
             && carried(it, 0, &mut [0; 800]).0 == CallResult::Taken
@@ -121,12 +121,12 @@ pub fn recovers_a_run_that_is_out(alloc: Global) -> Option<bool> {
     let mut engine = engine_at(alloc, RUN_OUT)?;
     let mut run = take_run(&mut engine)?;
     Some(
-        totals(&engine.engine) == (4, 0, 0, 1)
+        totals(&engine) == (4, 0, 0, 1)
             && none_is_left(&mut engine)
-            && lines(&engine.engine, 3, &mut [0; 800]).0 == CallResult::Taken
-            && takes(&mut engine.engine, "")
-            && ends(&mut engine.engine, &mut run, 1, 1)
-            && takes(&mut engine.engine, GOES_ON),
+            && lines(&engine, 3, &mut [0; 800]).0 == CallResult::Taken
+            && takes(&mut engine, "")
+            && ends(&mut engine, &mut run, 1, 1)
+            && takes(&mut engine, GOES_ON),
     )
 }
 
@@ -135,7 +135,7 @@ pub fn recovers_a_parked_run(alloc: Global) -> Option<bool> {
     let mut engine = engine_at(alloc, TWO_RUNS)?;
     let mut second = take_run(&mut engine)?;
     let is_alone = none_is_left(&mut engine);
-    let it = &mut engine.engine;
+    let it: &mut HostedEngine = &mut engine;
     let is_ended = ends(it, &mut second, 2, 2);
     match resume(alloc, it, 1) {
         Ok(mut first) => Some(is_alone && is_ended && ends(it, &mut first, 1, 0)),
@@ -150,15 +150,15 @@ pub fn takes_runs_in_order(alloc: Global) -> Option<bool> {
     let mut second = take_run(&mut engine)?;
     Some(
         none_is_left(&mut engine)
-            && ends(&mut engine.engine, &mut second, 2, 2)
-            && ends(&mut engine.engine, &mut first, 1, 0),
+            && ends(&mut engine, &mut second, 2, 2)
+            && ends(&mut engine, &mut first, 1, 0),
     )
 }
 
 /// Guests hold their freezes under their numbers.
 pub fn recovers_guests_freezes(alloc: Global) -> Option<bool> {
     let mut engine = engine_at(alloc, FROZEN)?;
-    let it = &mut engine.engine;
+    let it: &mut HostedEngine = &mut engine;
     Some(
         totals(it) == (3, 1, 0, 0)
             && release(it, 1).0 == CallResult::NoToken
@@ -170,11 +170,11 @@ pub fn recovers_guests_freezes(alloc: Global) -> Option<bool> {
 /// A trace with its last line. Another engine may follow.
 pub fn recovers_an_ended_trace(alloc: Global) -> Option<bool> {
     let mut engine = engine_after(alloc, TRACE, END)?;
-    let is_whole = totals(&engine.engine) == (6, 0, 0, 0) && none_is_left(&mut engine);
+    let is_whole = totals(&engine) == (6, 0, 0, 0) && none_is_left(&mut engine);
     Some(
         is_whole
-            && renew(alloc, &mut engine.engine, Numbering::Same) == CallResult::Done
-            && totals(&engine.engine) == (0, 0, 0, 0),
+            && renew(alloc, &mut engine, Numbering::Same) == CallResult::Done
+            && totals(&engine) == (0, 0, 0, 0),
     )
 }
 
@@ -182,13 +182,13 @@ pub fn recovers_an_ended_trace(alloc: Global) -> Option<bool> {
 pub fn recovers_a_continued_trace(alloc: Global) -> Option<bool> {
     let mut place = [0; 800];
     let fresh = engine_at(alloc, CONTINUED)?;
-    let (result, put) = carried(&fresh.engine, 0, &mut place);
+    let (result, put) = carried(&fresh, 0, &mut place);
     let has_lines = result == CallResult::Done && has_text(&place, put.written, CONTINUED);
     let mut engine = engine_after(alloc, CONTINUED, CLOCK)?;
-    let it = &mut engine.engine;
+    let it: &mut HostedEngine = &mut engine;
     Some(
         has_lines
-            && totals(&fresh.engine) == (0, 1, 1, 0)
+            && totals(&fresh) == (0, 1, 1, 0)
             && totals(it) == (1, 1, 1, 0)
             && carried(it, 0, &mut place).0 == CallResult::Taken
             && finished(alloc, it, 2) == CallResult::Done

@@ -5,7 +5,7 @@ use crate::calling::{
     lines, release, renew, submit, succeed, take,
 };
 use crate::checks::{MANIFEST, engine_of, failed, finished, has_text, is_refused};
-use host_embedding::{CallResult, EngineHandle, Numbering, PutLines, RunHandle};
+use host_embedding::{CallResult, HostedEngine, Numbering, PutLines, RunHandle};
 use std::alloc::Global;
 use world_calls::CallRefusal;
 
@@ -89,7 +89,7 @@ freeze 2 controller 0 guest 6
 ";
 
 // An engine that ended CCB 1, with CCB 2 active and CCB 3 waiting, whose controller a guest has frozen.
-fn held(alloc: Global) -> Option<Box<EngineHandle>> {
+fn held(alloc: Global) -> Option<Box<HostedEngine>> {
     let mut engine = engine_of(alloc)?;
     let it = &mut engine;
     let is_so = submit(it, 0, 1) == (CallResult::Done, 1)
@@ -106,14 +106,14 @@ fn held(alloc: Global) -> Option<Box<EngineHandle>> {
 }
 
 // Whether the lines of what was taken over are these.
-fn has_carried(engine: &EngineHandle, text: &str) -> bool {
+fn has_carried(engine: &HostedEngine, text: &str) -> bool {
     let mut place = [0; 300];
     let (result, put) = carried(engine, 0, &mut place);
     result == CallResult::Done && has_text(&place, put.written, text)
 }
 
 // Whether the active CCB of that number ends, and the one that waits starts once the guest's freeze of that number is given back.
-fn goes_on(alloc: Global, engine: &mut EngineHandle, active: u32, waits: u32, freeze: u32) -> bool {
+fn goes_on(alloc: Global, engine: &mut HostedEngine, active: u32, waits: u32, freeze: u32) -> bool {
     is_refused(dispatch(engine, 0).0, CallRefusal::NoOpening)
         && finished(alloc, engine, active) == CallResult::Done
         && is_refused(dispatch(engine, 0).0, CallRefusal::ControllerFrozen)
@@ -127,9 +127,9 @@ pub fn follows_under_the_same_numbers(alloc: Global) -> Option<bool> {
     let mut engine = held(alloc)?;
     Some(
         renew(alloc, &mut engine, Numbering::Same) == CallResult::Done
-            && engine.totals().history == 0
-            && engine.totals().frozen == 1
-            && engine.totals().active == 1
+            && engine.engine.totals().history == 0
+            && engine.engine.totals().frozen == 1
+            && engine.engine.totals().active == 1
             && has_carried(&engine, SAME)
             && goes_on(alloc, &mut engine, 2, 3, 2)
             && submit(&mut engine, 0, 0) == (CallResult::Done, 4),
@@ -147,7 +147,7 @@ pub fn follows_under_fresh_numbers(alloc: Global) -> Option<bool> {
 }
 
 // The result of a succession by a manifest's text, and whether the text has no fault.
-fn by_text(alloc: Global, engine: &mut EngineHandle, text: &[u8]) -> (CallResult, bool) {
+fn by_text(alloc: Global, engine: &mut HostedEngine, text: &[u8]) -> (CallResult, bool) {
     match succeed(alloc, engine, text, Numbering::Same) {
         Ok(result) => (result, true),
         Err(_) => (CallResult::Faulty, false),
@@ -171,8 +171,8 @@ pub fn follows_by_another_manifest(alloc: Global) -> Option<bool> {
 }
 
 // Whether the engine is the one of `held`, of which nothing was asked since.
-fn is_as_it_was(engine: &mut EngineHandle) -> bool {
-    engine.totals().history == 10
+fn is_as_it_was(engine: &mut HostedEngine) -> bool {
+    engine.engine.totals().history == 10
         && release(engine, 2) == (CallResult::Done, 0)
         && release(engine, 1).0 == CallResult::NoToken
 }
@@ -191,7 +191,7 @@ pub fn refused_successions(alloc: Global) -> Option<bool> {
 }
 
 // Whether a live run is told before any fault of the text.
-fn is_told_to_be_live(alloc: Global, engine: &mut EngineHandle, run: &mut RunHandle) -> bool {
+fn is_told_to_be_live(alloc: Global, engine: &mut HostedEngine, run: &mut RunHandle) -> bool {
     renew(alloc, engine, Numbering::Same) == CallResult::RunsLive
         && by_text(alloc, engine, &[0xff]) == (CallResult::RunsLive, true)
         && by_text(alloc, engine, b"version = 3") == (CallResult::RunsLive, true)
@@ -207,7 +207,7 @@ pub fn a_live_run_is_told_first(alloc: Global) -> Option<bool> {
 }
 
 // Whether so many bytes are put from that line on, and where to go on.
-fn puts(engine: &EngineHandle, place: &mut [u8], from: u64, written: usize, next: u64) -> bool {
+fn puts(engine: &HostedEngine, place: &mut [u8], from: u64, written: usize, next: u64) -> bool {
     carried(engine, from, place) == (CallResult::Done, PutLines { written, next })
 }
 

@@ -2,8 +2,11 @@
 
 ghost use Rattle.std.specs.Prelude.{None, false};
 
-use cli_commands::{GivenManifest, ManifestUnread, WriterSink, serve};
-use host_live::{Came, Input, Manner};
+use cli_commands::{
+    GivenManifest, ManifestUnread, MetricsFile, MetricsUnwritten, WriterSink, serve,
+};
+use host_live::{Came, Input, Manner, Moment};
+use host_metrics::Metrics;
 use std::alloc::Global;
 
 /// The greatest reading that an engine takes, in milliseconds.
@@ -96,6 +99,26 @@ impl GivenManifest for NoManifest {
 
     fn read_again(&mut self, _alloc: Global) -> Result<Option<Vec<u8>>, ManifestUnread> {
         Ok(None)
+    }
+}
+
+impl MetricsFile for NoManifest {
+    fn take_metrics(&mut self, alloc: Global) -> Metrics {
+        Metrics::none(alloc)
+    }
+
+    fn keep_metrics(&mut self, _metrics: Metrics) {}
+
+    fn is_due(&mut self, _when: Moment) -> bool {
+        false
+    }
+
+    fn write_metrics(&mut self, _text: Option<&str>) -> Result<(), MetricsUnwritten> {
+        Ok(())
+    }
+
+    fn metrics_path(&self) -> &str {
+        ""
     }
 }
 

@@ -7,11 +7,14 @@ ghost use Rattle.cli_inspect_line.specs.Files.{input_paths as inspected_paths};
 
 use crate::pieces::Pieces;
 use cli_commands::{
-    AnsweringSink, Fault, GivenManifest, ManifestUnread, WriterSink, carry, report_usage, serve,
+    AnsweringSink, Fault, GivenManifest, ManifestUnread, MetricsFile, MetricsUnwritten, WriterSink,
+    carry, report_usage, serve,
 };
 use cli_inspect_line::Plan as InspectPlan;
 use cli_inspection::{carry as inspect, report_unread};
 use cli_line::{Manner, Plan, not_utf8, plan};
+use host_live::Moment;
+use host_metrics::Metrics;
 use std::alloc::{AllocError, Global};
 use std::sync::Wait;
 use std::thread::Threads;
@@ -39,7 +42,7 @@ pub fn run<R: Threads + Wait + Sync>(
 // Whether the second program carries these words out.
 fn is_inspected(words: &[String]) -> bool {
     match words.first() {
-        Some(word) => matches!(word.as_str(), "explain" | "show"),
+        Some(word) => matches!(word.as_str(), "explain" | "show" | "decide"),
         None => false,
     }
 }
@@ -95,16 +98,17 @@ fn carry_out<R: Threads + Wait + Sync>(
     match plan {
         Plan::Live(manner, manifest) => {
             let manifest = (manifest.as_str(), inputs[0].as_slice());
-            serve_case(alloc, *manner, manifest, case, out, err)
+            serve_case(alloc, manner, manifest, case, out, err)
         }
         _ => carry(rt, alloc, plan, inputs, &Silent, out, err),
     }
 }
 
-// Serves what comes on standard input, with an answer to each line where that is asked for.
+// Serves what comes on standard input, with an answer to each line where that is asked for. What was counted stands behind what went out, as it
+// was written last, if it is asked for.
 fn serve_case(
     alloc: Global,
-    manner: Manner,
+    manner: &Manner,
     manifest: (&str, &[u8]),
     case: &Case<'_>,
     out: &mut Vec<u8>,
@@ -117,11 +121,11 @@ fn serve_case(
         is_clocked: manner.is_clocked,
         is_kept: false,
     };
-    let mut again = Again {
-        path: manifest.0,
-        case,
+    let mut again = match Again::of(alloc, manifest.0, manner, case) {
+        Ok(again) => again,
+        Err(AllocError) => return Fault::OutOfMemory.report(err),
     };
-    if manner.is_told {
+    let status = if manner.is_told {
         let mut out = AnsweringSink::new(out);
         serve(
             alloc, manifest, served, &mut again, &mut input, &mut out, err,
@@ -131,14 +135,93 @@ fn serve_case(
         serve(
             alloc, manifest, served, &mut again, &mut input, &mut out, err,
         )
+    };
+    if out.extend_from_slice(again.text.as_slice()).is_err() {
+        return Fault::OutOfMemory.report(err);
     }
+    status
 }
 
-/// The manifest of that path, where it is read again: it is the case's file `again.toml`, if there is one, or has not changed.
+/// The manifest of that path, where it is read again: it is the case's file `again.toml`, if there is one, or has not changed. What is counted
+/// is written whenever it may be; into a folder `missing` it cannot be.
 #[derive(Drop)]
 struct Again<'a> {
     path: &'a str,
     case: &'a Case<'a>,
+    metrics: Option<&'a str>,
+    counted: Option<Metrics>,
+    text: Vec<u8>,
+    has_failed: bool,
+}
+
+impl<'a> Again<'a> {
+    fn of(
+        alloc: Global,
+        path: &'a str,
+        manner: &'a Manner,
+        case: &'a Case<'a>,
+    ) -> Result<Self, AllocError> {
+        let metrics = match &manner.metrics {
+            Some(path) => Some(path.as_str()),
+            None => None,
+        };
+        let counted = match metrics {
+            Some(_) => Some(Metrics::new(alloc)?),
+            None => None,
+        };
+        Ok(Again {
+            path,
+            case,
+            metrics,
+            counted,
+            text: Vec::new(alloc),
+            has_failed: false,
+        })
+    }
+
+    // Keeps the text in the place of the one before.
+    fn keep(&mut self, text: &str) -> bool {
+        self.text.clear();
+        !self.metrics_path().starts_with("missing/")
+            && self.text.extend_from_slice(text.as_bytes()).is_ok()
+    }
+}
+
+impl MetricsFile for Again<'_> {
+    fn take_metrics(&mut self, alloc: Global) -> Metrics {
+        match self.counted.take() {
+            Some(metrics) => metrics,
+            None => Metrics::none(alloc),
+        }
+    }
+
+    fn keep_metrics(&mut self, metrics: Metrics) {
+        self.counted = Some(metrics);
+    }
+
+    fn is_due(&mut self, _when: Moment) -> bool {
+        self.metrics.is_some()
+    }
+
+    fn write_metrics(&mut self, text: Option<&str>) -> Result<(), MetricsUnwritten> {
+        let is_written = match text {
+            Some(text) => self.keep(text),
+            None => false,
+        };
+        let had_failed = self.has_failed;
+        self.has_failed = !is_written;
+        if is_written {
+            Ok(())
+        } else if had_failed {
+            Err(MetricsUnwritten::Still)
+        } else {
+            Err(MetricsUnwritten::Now)
+        }
+    }
+
+    fn metrics_path(&self) -> &str {
+        self.metrics.unwrap_or("")
+    }
 }
 
 impl GivenManifest for Again<'_> {

@@ -2,6 +2,7 @@ use Rattle.std.proofs.Common.{ℕ, List, subst}
 use Rattle.host_journal.specs.Journals.{ServesInOrder}
 use Rattle.host_journal.specs.Made.{first_line}
 use Rattle.cli_commands.specs.Following.{IsFollowing, MayRefuse}
+use Rattle.cli_commands.proofs.Going.{followed_on}
 use Rattle.cli_commands.proofs.journaling.serve_under.Goals as goal
 
 pub returns-clause-served : goal.returns-clause-served
@@ -15,3 +16,6 @@ returns-clause-served g c = record {
   stop = c.serve-disk.ensures.fault;
   is_outcome = c.outcome_of.ensures.is;
 }
+
+pub returns-clause-stands : goal.returns-clause-stands
+returns-clause-stands g c = followed_on _ c.args.begun.now.number c.serve-disk.result.1 c.serve-disk.new.reports.next c.outcome_of.result c.serve-disk.ensures.stands c.outcome_of.ensures.is

@@ -3,6 +3,7 @@ use Rattle.host_live.specs.Answering.{with_answers}
 use Rattle.host_live.specs.Served.{ContinuesTurns, IsOwed}
 use Rattle.cli_commands.specs.Alone.{alone}
 use Rattle.cli_commands.specs.Following.{IsFollowing, MayRefuse}
+use Rattle.cli_commands.proofs.Going.{followed_alone}
 use Rattle.cli_commands.proofs.serving.serve_under.Goals as goal
 
 pub returns-clause-served : goal.returns-clause-served
@@ -19,3 +20,6 @@ returns-clause-served g c = record {
   same_clock = c.serve-served.ensures.begun;
   is_outcome = c.outcome_of.ensures.is;
 }
+
+pub returns-clause-stands : goal.returns-clause-stands
+returns-clause-stands g c = followed_alone _ c.args.begun.now.number c.serve-served.result c.serve-served.new.reports.next c.outcome_of.result c.serve-served.ensures.stands c.outcome_of.ensures.is

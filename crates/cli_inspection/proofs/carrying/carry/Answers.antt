@@ -5,7 +5,7 @@ use Rattle.cli_commands.specs.Told.{IsFaultyManifest, IsManifest, IsManifestFaul
 use Rattle.cli_commands.proofs.Telling.{first_is}
 use Rattle.cli_inspect_line.specs.Files.{input_paths}
 use Rattle.cli_inspect_line.specs.declared.plans.Plan.{Plan}
-use Rattle.cli_inspection.specs.Shown.{AreReported, IsAccepted, IsAsAsked, IsFaulty, IsOutput, IsRejected, IsReported, PutsFault, explains}
+use Rattle.cli_inspection.specs.Shown.{AreReported, IsAccepted, IsAsAsked, IsDecided, IsFaulty, IsOutput, IsPlanDecided, IsRejected, IsReported, PutsFault, explains}
 use Rattle.cli_inspection.proofs.Explained.{is_faulty}
 use Rattle.cli_inspection.proofs.Inputs.{none_there, only_one}
 use Rattle.cli_inspection.proofs.carrying.carry.Goals as goal
@@ -131,3 +131,30 @@ returns-in-ExplainFile-clause-output g c = λ is.
     let old = g.W.Write.contents c.args.out.now in
     let new = g.W.Write.contents c.print_judged.new.out in
     subst (λ (plan : Plan). IsOutput plan old new) (sym c.in-ExplainFile.is) (c.print_judged.ensures.output is)
+
+pub returns-in-Decide-clause-no_text : goal.returns-in-Decide-clause-no_text
+returns-in-Decide-clause-no_text g c = λ input there not_text.
+    let one : length c.args.inputs.now ≡ 1 = c.requires ∙ ap (λ (plan : Plan). length (input_paths plan)) c.in-Decide.is in
+    let read = only_one c.args.inputs.now c.index-inputs-0-in-Decide.result input one c.index-inputs-0-in-Decide.is there in
+    c.print_decided.ensures.no_text (λ text. not_text (subst (λ (bytes : List ℕ). IsUtf8 bytes) (c.as_slice-in-Decide.ensures.value ∙ ap (λ (bytes : Vec ℕ Global). bytes.items) read) text))
+
+pub returns-in-Decide-clause-done : goal.returns-in-Decide-clause-done
+returns-in-Decide-clause-done g c = λ is input there.
+    let read = first_is c.args.inputs.now c.index-inputs-0-in-Decide.result input c.index-inputs-0-in-Decide.is there in
+    let same : c.as_slice-in-Decide.result.now ≡ input.items = c.as_slice-in-Decide.ensures.value ∙ ap (λ (bytes : Vec ℕ Global). bytes.items) read in
+    subst (λ (plan : Plan). IsAsAsked plan input.items) (sym c.in-Decide.is) (subst (λ (bytes : List ℕ). IsManifest bytes) same (c.print_decided.ensures.done is))
+
+pub returns-in-Decide-clause-refused : goal.returns-in-Decide-clause-refused
+returns-in-Decide-clause-refused g c = λ is input there.
+    let read = first_is c.args.inputs.now c.index-inputs-0-in-Decide.result input c.index-inputs-0-in-Decide.is there in
+    let same : c.as_slice-in-Decide.result.now ≡ input.items = c.as_slice-in-Decide.ensures.value ∙ ap (λ (bytes : Vec ℕ Global). bytes.items) read in
+    subst (λ (plan : Plan). IsFaulty plan input.items) (sym c.in-Decide.is) (subst (λ (bytes : List ℕ). IsFaultyManifest bytes) same (c.print_decided.ensures.refused is))
+
+pub returns-in-Decide-clause-decided : goal.returns-in-Decide-clause-decided
+returns-in-Decide-clause-decided g c = λ is input there.
+    let old = g.W.Write.contents c.args.out.now in
+    let new = g.W.Write.contents c.print_decided.new.out in
+    let read = first_is c.args.inputs.now c.index-inputs-0-in-Decide.result input c.index-inputs-0-in-Decide.is there in
+    let same : c.as_slice-in-Decide.result.now ≡ input.items = c.as_slice-in-Decide.ensures.value ∙ ap (λ (bytes : Vec ℕ Global). bytes.items) read in
+    subst (λ (plan : Plan). IsPlanDecided plan input.items old new) (sym c.in-Decide.is)
+    (subst (λ (bytes : List ℕ). IsDecided c.in-Decide.extent c.in-Decide.question bytes old new) same (c.print_decided.ensures.decided is))

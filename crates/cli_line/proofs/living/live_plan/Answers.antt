@@ -11,12 +11,12 @@ returns c = (
     text_given (found_of c.args.live.now) (codes "journal") c.get_str.result _ c.get_str.ensures c.in-Some.is
         ∙ ap (λ (t : Text). Some t) (sym c.in_ok-folder.ensures.ok),
     c.in_ok-manifest.ensures,
-    c.manner_of-manner.ensures,
+    c.in_ok-manner.ensures,
     c.is_given.ensures,
   ),
   tt,
 )
 
 pub returns-in_default : goal.returns-in_default
-returns-in_default c = alone_behind (rows_of (found_of c.args.live.now)) c.manner_of-manner.result c.plan_alone.result
-    (nothing_given (found_of c.args.live.now) (codes "journal") c.get_str.result c.get_str.ensures c.in_default.is) c.manner_of-manner.ensures c.plan_alone.ensures
+returns-in_default c = alone_behind (rows_of (found_of c.args.live.now)) c.in_ok-manner.manner c.plan_alone.result
+    (nothing_given (found_of c.args.live.now) (codes "journal") c.get_str.result c.get_str.ensures c.in_default.is) c.in_ok-manner.ensures c.plan_alone.ensures

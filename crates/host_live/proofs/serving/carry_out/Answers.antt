@@ -1,5 +1,6 @@
 use Rattle.std.proofs.Common.{refl}
-use Rattle.host_live.proofs.Growing.{as_none, as_these}
+use Rattle.host_live.proofs.Growing.{as_none, as_these, has_as}
+use Rattle.host_live.proofs.Metering.{has_none}
 use Rattle.host_live.proofs.serving.carry_out.Goals as goal
 
 pub returns-in-Line-clause-carried : goal.returns-in-Line-clause-carried
@@ -19,3 +20,18 @@ returns-in-End-clause-carried g c = λ line it. rw c.in-End.is (as_none _ _ _ re
 
 pub returns-in-Failed-clause-carried : goal.returns-in-Failed-clause-carried
 returns-in-Failed-clause-carried g c = λ line it. rw c.in-Failed.is (as_none _ _ _ refl)
+
+pub returns-in-Cut-clause-counted : goal.returns-in-Cut-clause-counted
+returns-in-Cut-clause-counted g c = has_as _ _ _ _ _ _ c.carry_cut.ensures.carried
+
+pub returns-in-Nothing-clause-counted : goal.returns-in-Nothing-clause-counted
+returns-in-Nothing-clause-counted g c = has_none _ _
+
+pub returns-in-Due-clause-counted : goal.returns-in-Due-clause-counted
+returns-in-Due-clause-counted g c = has_as _ _ _ _ _ _ c.carry_reading.ensures.carried
+
+pub returns-in-End-clause-counted : goal.returns-in-End-clause-counted
+returns-in-End-clause-counted g c = has_none _ _
+
+pub returns-in-Failed-clause-counted : goal.returns-in-Failed-clause-counted
+returns-in-Failed-clause-counted g c = has_none _ _

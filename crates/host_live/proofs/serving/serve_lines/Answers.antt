@@ -1,5 +1,6 @@
 use Rattle.std.proofs.Common.{refl, rules}
 use Rattle.host_live.proofs.Finishing.{nothing_yet, stops_so_far, turns_asked, turns_end, turns_on, turns_stop}
+use Rattle.host_live.proofs.Metering.{has_both, has_none, may_on}
 use Rattle.host_live.proofs.serving.serve_lines.Goals as goal
 
 pub loop-init : goal.loop-init
@@ -8,6 +9,8 @@ loop-init g c = record {
   still = refl;
   kept = refl;
   begun = c.requires.begun;
+  counts = c.requires.counts;
+  counted = has_none _ _;
 }
 
 pub loop-preserved : goal.loop-preserved
@@ -16,6 +19,8 @@ loop-preserved g c = record {
   still = search rules;
   kept = search rules;
   begun = c.serve_next.ensures.going;
+  counts = may_on g.N.Reports.may_count _ _ _ _ c.loop.invariant.counts c.serve_next.ensures.counted;
+  counted = has_both _ _ _ _ _ _ c.loop.invariant.counted c.serve_next.ensures.counted;
 }
 
 pub returns-in-End-clause-grown : goal.returns-in-End-clause-grown
@@ -32,3 +37,12 @@ returns-clause-grown g c = λ point is. stops_so_far c.args.manner g.N.Reports.m
 
 pub returns-then-number-eq18446744073709551615-clause-grown : goal.returns-then-number-eq18446744073709551615-clause-grown
 returns-then-number-eq18446744073709551615-clause-grown g c = λ point is. stops_so_far c.args.manner g.N.Reports.may_refuse point _ _ c.args.host.now.engine _ _ _ _ _ _ _ (c.loop.invariant.grown point is)
+
+pub returns-in-End-clause-counted : goal.returns-in-End-clause-counted
+returns-in-End-clause-counted g c = has_both _ _ _ _ _ _ c.loop.invariant.counted c.serve_next.ensures.counted
+
+pub returns-in-Asked-clause-counted : goal.returns-in-Asked-clause-counted
+returns-in-Asked-clause-counted g c = has_both _ _ _ _ _ _ c.loop.invariant.counted c.serve_next.ensures.counted
+
+pub returns-in-Err-clause-counted : goal.returns-in-Err-clause-counted
+returns-in-Err-clause-counted g c = has_both _ _ _ _ _ _ c.loop.invariant.counted c.serve_next.ensures.counted

@@ -1,6 +1,7 @@
 -- what was turned so far
 use Rattle.std.proofs.Common.{◌≡◌}
 use Rattle.std.specs.Prelude.{IsTrue}
+use Rattle.host_live.specs.Metering.{HasCounted, MayCount}
 use Rattle.host_live.specs.Served.{GrowsWith, IsPrintedBehind}
 use Rattle.host_live.specs.Turns.{IsAt, Point}
 use Rattle.host_live.proofs.Finishing.{SoFar}
@@ -13,4 +14,6 @@ invariant-loop g l = record {
   still : g.I.Input.has_failed l.input ≡ g.I.Input.has_failed l.fn.input;
   kept : l.lines.begun ≡ l.fn.lines.begun;
   begun : IsTrue l.lines.is_ended → IsTrue (g.I.Input.has_ended l.input);
+  counts : MayCount g.N.Reports.may_count l.host.engine.engine l.host.engine.metrics;
+  counted : HasCounted l.fn.host.engine.engine l.fn.host.engine.metrics l.host.engine.engine l.host.engine.metrics;
 }

@@ -2,6 +2,8 @@ use Rattle.std.proofs.Common.{ℕ, subst}
 use Rattle.host_live.specs.declared.serving.LiveFault.{LiveFault}
 use Rattle.host_live.proofs.Outcomes.{line_now, served_so, stopped_so, unserved_so}
 use Rattle.host_live.specs.Served.{AnswersDecided}
+use Rattle.host_live.proofs.Growing.{has_by}
+use Rattle.host_live.proofs.Metering.{has_both}
 use Rattle.host_live.proofs.serving.serve_next.Goals as goal
 
 pub returns-in-Ok-carry_out-clause-turned : goal.returns-in-Ok-carry_out-clause-turned
@@ -12,3 +14,12 @@ returns-in-Err-carry_out-clause-turned g c = λ base told stands. stopped_so Liv
 
 pub returns-in-Err-clause-turned : goal.returns-in-Err-clause-turned
 returns-in-Err-clause-turned g c = λ base told stands. unserved_so c.args.manner g.N.Reports.may_refuse base told (g.I.Input.came c.args.input.now) (g.I.Input.came c.take_next.new.input) c.args.lines.now c.take_next.new.lines (g.N.Reports.has_decided c.args.reports.now) c.in-Err.fault c.args.host.now.engine c.take_next.new.host.engine _ _ _ _ _ _ c.in-Err.ensures.grown c.take_next.ensures.answers c.in-Err.ensures.unmoved stands
+
+pub returns-in-Ok-carry_out-clause-counted : goal.returns-in-Ok-carry_out-clause-counted
+returns-in-Ok-carry_out-clause-counted g c = has_both _ _ _ _ _ _ (has_by _ _ _ _ _ _ _ c.in-Ok.ensures.grown) (has_both _ _ _ _ _ _ c.carry_out.ensures.counted (has_by _ _ _ _ _ _ _ c.answer_decided.ensures.grown))
+
+pub returns-in-Err-carry_out-clause-counted : goal.returns-in-Err-carry_out-clause-counted
+returns-in-Err-carry_out-clause-counted g c = has_both _ _ _ _ _ _ (has_by _ _ _ _ _ _ _ c.in-Ok.ensures.grown) (has_both _ _ _ _ _ _ c.carry_out.ensures.counted (has_by _ _ _ _ _ _ _ c.stop.ensures.grown))
+
+pub returns-in-Err-clause-counted : goal.returns-in-Err-clause-counted
+returns-in-Err-clause-counted g c = has_by _ _ _ _ _ _ _ c.in-Err.ensures.grown

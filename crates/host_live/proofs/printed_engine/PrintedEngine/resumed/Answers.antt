@@ -16,4 +16,4 @@ pub returns : goal.returns
 returns c =
     let own : c.of.result ≡ version_of c.config.result.now = search rules in
     let version : c.of.result ≡ version_of c.args.engine.setup = own ∙ ap version_of c.config.ensures in
-    ap (λ (p : Printed). record { engine = c.args.engine; printed = p }) (c.resumed-printed.ensures ∙ ap (λ (v : _). resumed v c.args.count) version)
+    ap (λ (p : Printed). record { engine = c.args.engine; printed = p; metrics = c.args.metrics }) (c.resumed-printed.ensures ∙ ap (λ (v : _). resumed v c.args.count) version)

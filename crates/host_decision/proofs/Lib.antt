@@ -1,0 +1,11 @@
+pub mod Codes
+pub mod Failing
+pub mod Faultless
+pub mod GoneOn
+pub mod Leading
+pub mod LeftFor
+pub mod LinesOf
+pub mod Others
+pub mod TooMany
+pub mod Whole
+pub mod WhyNone

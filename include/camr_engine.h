@@ -220,10 +220,11 @@ static inline camr_result camr_dispatch(camr_engine *engine, uint32_t queue, uin
 }
 
 /*
- * Reports that a device is done with an active CCB: its CAM status, its SCSI status byte, and up to 64 sense bytes, which may be NULL if
- * there are none. With CAMR_REQ_CMP the CCB is finished and gone, and *run is NULL. With any other status its queue is frozen once more,
- * and a run of the queue's policy starts. The run goes to *run, and is the host's until camr_run_free. Results: CAMR_NO_COMPLETION for a
- * status that no device reports, or more sense bytes; CAMR_UNKNOWN, CAMR_NOT_ACTIVE, CAMR_LIMIT, CAMR_OUT_OF_MEMORY. *run is NULL then.
+ * Reports that a device is done with an active CCB: its CAM status, its SCSI status byte, and its sense bytes, which may be NULL if there
+ * are none. A completion has 64 of them at most: of more, the first 64 are taken. With CAMR_REQ_CMP the CCB is finished and gone, and *run
+ * is NULL. With any other status its queue is frozen once more, and a run of the queue's policy starts. The run goes to *run, and is the
+ * host's until camr_run_free. Results: CAMR_NO_COMPLETION for a status that no device reports; CAMR_UNKNOWN, CAMR_NOT_ACTIVE, CAMR_LIMIT,
+ * CAMR_OUT_OF_MEMORY. *run is NULL then.
  */
 static inline camr_result camr_complete(camr_engine *engine, uint32_t ccb, uint8_t status, uint8_t scsi, const void *sense,
                                         size_t sense_length, camr_run **run)

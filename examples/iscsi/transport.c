@@ -26,7 +26,7 @@
 #include <sys/mman.h>
 #include <time.h>
 
-enum { LUNS = 4, ACTIVE = 32, COMMANDS = 40, PLACES = 64, BLOCK = 512, BLOCKS = 8, BYTES = BLOCK * BLOCKS, MOST_SENSE = 64 };
+enum { LUNS = 4, ACTIVE = 32, COMMANDS = 40, PLACES = 64, BLOCK = 512, BLOCKS = 8, BYTES = BLOCK * BLOCKS };
 enum { FIRST_LUN = 1, ABSENT_LUN = 9, PRIORITY = 10, RETRIES = 3, GUEST_LINK = 1, GUEST_RESET = 2, GUEST_PROBE = 3 };
 enum { COMMAND_MS = 1000, RESET_MS = 2000, LINK_MS = 2000, TICK_MS = 10, PROBE_MS = 100, ODD_MS = 120, QUIET_MS = 30000 };
 enum { MOST_PROBES = 60, MOST_CCBS = LUNS * COMMANDS, MOST_SEGMENT = 4 << 20 };
@@ -362,7 +362,7 @@ static void report(struct command *command, uint8_t status, uint8_t scsi, const 
         read_clock(milliseconds()); /* a timer counts from the last reading */
         follow_trace(NULL);
     }
-    expect(camr_complete(host.engine, command->slot->ccb, status, scsi, sense, length < MOST_SENSE ? length : MOST_SENSE, &run), "camr_complete");
+    expect(camr_complete(host.engine, command->slot->ccb, status, scsi, sense, length, &run), "camr_complete");
     lun->active--;
     if (run == NULL) {
         finish(command, CAMR_REQ_CMP);

@@ -141,8 +141,9 @@ ReportOf (Some status) ccb scsi sense report =
     let outcome : Outcome = record { ccb = record { 0 = ccb }; status = status; scsi = scsi; sense = sense } in
     SomeIff report (IsCompletion outcome) outcome
 
+-- the same, of sense bytes that may be more than a completion has: the first 64 are taken
 abbrev pub IsReported : ℕ → ℕ → ℕ → List ℕ → Option Outcome → Type 0
-IsReported ccb code scsi sense report = (status : Option CamStatus) × IsDecodedFrom code status × ReportOf status ccb scsi sense report
+IsReported ccb code scsi sense report = (status : Option CamStatus) × IsDecodedFrom code status × ReportOf status ccb scsi (take 64 sense) report
 
 -- the number of a completion's result, whether a run started, and what the run's slot held before and holds then: if none started,
 -- what it held

@@ -1,6 +1,6 @@
 // The calls that start runs, take them further, park and resume them. It relies on `host_embedding` for each.
 
-ghost use Rattle.std.specs.Prelude.{◌≡◌, ◌≢◌, ◌<◌, false, IsSome, None, Option};
+ghost use Rattle.std.specs.Prelude.{◌≡◌, ◌≢◌, ◌<◌, false, IsSome, None, Option, take};
 ghost use Rattle.ccb.specs.Completion.{Outcome};
 ghost use Rattle.host_embedding.specs.Calls.{IsAdvanced, IsDriven, IsParked};
 ghost use Rattle.host_embedding.specs.Held.{is_same_run, out_of, IsStretched};
@@ -14,12 +14,22 @@ use ccb::{CamStatus, CcbId, Completion};
 use host_embedding::CallResult;
 use std::alloc::Global;
 
-// The completion that a device reports, of its numbers.
+// How many sense bytes a completion has at most.
+const MOST_SENSE: usize = 64;
+
+// The completion that a device reports, of its numbers. Sense bytes after the first 64 are left out.
 fn reported(ccb: u32, status: u8, scsi: u8, sense: &[u8]) -> Option<Completion>
     ensures { IsReported ccb status scsi sense.now result }
 {
     let status = CamStatus::from_code(status)?;
-    Completion::new(CcbId(ccb), status, scsi, sense)
+    Completion::new(CcbId(ccb), status, scsi, front_of(sense))
+}
+
+#[tactic(auto, using(std::proofs::lemmas::List::take_min))]
+fn front_of(sense: &[u8]) -> &[u8]
+    ensures { result.now ≡ take 64 sense.now }
+{
+    &sense[..MOST_SENSE.min(sense.len())]
 }
 
 /// Takes a completion. Where a run starts it goes into the run's slot, and `started` tells so.

@@ -1,5 +1,5 @@
 -- What is counted: how many records are so, by cell, and sums of what records tell.
-use Rattle.std.specs.Prelude.{◌≡◌, ◌<◌, ◌≤◌, ℕ, ◌+◌, ◌-◌, ◌*◌, ◌^◌, List, [], ◌∷◌, length, Option, replicate, slice_index_or, count_by}
+use Rattle.std.specs.Prelude.{◌≡◌, ◌<◌, ◌≤◌, ℕ, ◌+◌, ◌-◌, ◌*◌, ◌^◌, List, [], ◌∷◌, length, Option, Some, None, replicate, slice_index_or, count_by}
 use Rattle.std.specs.List.{sum_by}
 use Rattle.host_metrics.specs.Notes.{Note, controller_frozen_of, completion_at, finish_at, instructions_of, is_at, queue_frozen_of, recovery_at, refusal_at, requeue_at, start_at, submission_at}
 use Rattle.host_metrics.specs.declared.told.TheConstants.{CODES, CONTROLLERS, QUEUES, REFUSED}
@@ -55,6 +55,11 @@ pub record HaveRoom (by_queue by_controller : List ℕ) : Type 0 where
 -- no tables: nothing but records is counted
 abbrev pub no_metrics : MetricsState
 no_metrics = record { records = 0; refusals = []; submissions = []; starts = []; completions = []; recoveries = []; requeues = []; finishes = []; instructions = []; queues_frozen = []; controllers_frozen = [] }
+
+-- what these counters come to, if there are any
+abbrev pub counts_in : Option MetricsState → MetricsState
+counts_in None = no_metrics
+counts_in (Some metrics) = metrics
 
 -- nothing was counted yet
 abbrev pub zero_metrics : MetricsState

@@ -1,7 +1,7 @@
 // The counters of engines that follow one another. It relies on `told` for what a record tells, on `before` for what an engine had before it, on
 // `tables` for tables of counters, and on `programs` for the runs of each program.
 
-ghost use Rattle.std.specs.Prelude.{◌≡◌, ◌↔◌, ◌∷◌, ◌*◌, ◌+◌, [], false, IfOk, slice_index_or};
+ghost use Rattle.std.specs.Prelude.{◌≡◌, ◌<◌, ◌↔◌, ◌∷◌, ◌*◌, ◌+◌, [], false, IfOk, slice_index_or};
 ghost use Rattle.host_metrics.specs.Notes.{IsBefore, Note};
 ghost use Rattle.host_metrics.specs.Counted.{CountsOn, GrowsTo, no_metrics, zero_metrics};
 
@@ -17,7 +17,7 @@ use std::marker::Model;
 use world_calls::Record;
 
 /// What the records of engines that follow one another add up to, by queue, by code and by program. It has a fixed size, whatever comes, and
-/// a counter that is at its most stays there. Contracts see the counters.
+/// a counter that is at its most stays there. Of a queue, a controller or a refusal beyond the tables 0 is told. Contracts see the counters.
 #[derive(Drop)]
 pub struct Metrics {
     records: u64,
@@ -185,6 +185,7 @@ impl Metrics {
 
     /// How many completions of a queue's CCBs had that status, by its code.
     pub fn completions(&self, queue: u32, code: u8) -> u64
+        requires { code < CODES }
         ensures { result ≡ slice_index_or self.now.completions (queue * CODES + code) 0 }
     {
         at(
@@ -209,6 +210,7 @@ impl Metrics {
 
     /// How many CCBs a queue's runs finished with that final code.
     pub fn finishes(&self, queue: u32, code: u8) -> u64
+        requires { code < CODES }
         ensures { result ≡ slice_index_or self.now.finishes (queue * CODES + code) 0 }
     {
         at(&self.finishes, queue as usize * CODES + usize::from(code))

@@ -156,7 +156,7 @@ by_still engine after metrics printed at failed same =
 -- one record was made, printed and counted
 pub by_one : (engine after : NumberedState) (metrics counts : MetricsState) (old new : Printed) (at to : Option (List ℕ)) (failed fails : ℕ) (told : Record) → RecordFollows engine told after → after.setup ≡ engine.setup → PrintsAll old at failed (told ∷ []) new to fails → CountsOn (note_at engine told ∷ []) metrics counts
     → GrowsBy (told ∷ []) (record { engine = engine; printed = old; metrics = metrics }) at failed (record { engine = after; printed = new; metrics = counts }) to fails
-by_one engine after metrics counts old new at to failed fails told follows setup all counted = record { setup = setup; follows = follows; printed = all; counted = counted_one engine after metrics counts told follows counted }
+by_one engine after metrics counts old new at to failed fails told follows setup all counted = record { setup = setup; follows = follows; printed = all; counted = counted_one engine after metrics counts told follows setup counted }
 
 pub both_by : (old mid new : PrintedState) (at between to : Option (List ℕ)) (failed some fails : ℕ) (more others : List Record)
     → GrowsBy more old at failed mid between some → GrowsBy others mid between some new to fails → GrowsBy (more ++ others) old at failed new to fails

@@ -12,19 +12,19 @@ use Rattle.host_metrics.specs.declared.before.Before.{Before}
 use Rattle.host_metrics.specs.Notes.{IsBefore, Note}
 use Rattle.host_metrics.specs.Counted.{CountsOn, MetricsState}
 use Rattle.host_metrics.proofs.Counting.{counts_both, counts_none}
-use Rattle.host_live.specs.Metering.{HasCounted, IsCounted, MayCount, Went, note_at, nowhere, one_more}
+use Rattle.host_live.specs.Metering.{CountsTo, HasCounted, IsCounted, MayCount, Went, note_at, nowhere, one_more}
 
 went_both : (start mid end : NumberedState) (notes others : List Note) → Went start notes mid → Went mid others end → Went start (notes ++ others) end
 went_both start mid end notes others first nowhere = subst (λ (ns : List Note). Went start ns mid) (sym (append-nil notes)) first
-went_both start mid end notes others first (one_more so_far before told after way follows) =
+went_both start mid end notes others first (one_more so_far before told after way follows setup) =
     subst (λ (ns : List Note). Went start ns end) (append_assoc notes so_far (note_at before told ∷ []))
-    (one_more (notes ++ so_far) before told after (went_both start mid before notes so_far first way) follows)
+    (one_more (notes ++ so_far) before told after (went_both start mid before notes so_far first way) follows setup)
 
 pub counted_none : (engine : NumberedState) (metrics : MetricsState) → IsCounted engine metrics [] engine metrics
 counted_none engine metrics = record { notes = []; records = refl; went = nowhere; counts = counts_none metrics }
 
-pub counted_one : (before after : NumberedState) (old new : MetricsState) (told : Record) → RecordFollows before told after → CountsOn (note_at before told ∷ []) old new → IsCounted before old (told ∷ []) after new
-counted_one before after old new told follows counts = record { notes = note_at before told ∷ []; records = refl; went = one_more [] before told after nowhere follows; counts = counts }
+pub counted_one : (before after : NumberedState) (old new : MetricsState) (told : Record) → RecordFollows before told after → after.setup ≡ before.setup → CountsOn (note_at before told ∷ []) old new → IsCounted before old (told ∷ []) after new
+counted_one before after old new told follows setup counts = record { notes = note_at before told ∷ []; records = refl; went = one_more [] before told after nowhere follows setup; counts = counts }
 
 pub counted_both : (start mid now : NumberedState) (old some new : MetricsState) (more others : List Record) → IsCounted start old more mid some → IsCounted mid some others now new → IsCounted start old (more ++ others) now new
 counted_both start mid now old some new more others first second = record {
@@ -46,6 +46,19 @@ may_on Counted start now old new may has = λ more later last counted. may (has.
 
 pub may_now : (Counted : MetricsState → NumberedState → Type 0) (start : NumberedState) (old : MetricsState) → MayCount Counted start old → Counted old start
 may_now Counted start old may = may [] start old (counted_none start old)
+
+-- ---- what was counted at last
+
+-- counters that were taken over before, and were handed over since
+pub counts_to : (start now : NumberedState) (old taken new handed : MetricsState) (Reported : MetricsState → NumberedState → Type 0) (more : List Record) → taken ≡ old → handed ≡ new → IsCounted start taken more now new → Reported new now → CountsTo start old Reported handed more
+counts_to start now old taken new handed Reported more before after counted reported = record {
+  now = now;
+  counted = subst (λ (m : MetricsState). IsCounted start old more now m) (sym after) (subst (λ (m : MetricsState). IsCounted start m more now new) before counted);
+  reported = subst (λ (m : MetricsState). Reported m now) (sym after) reported;
+}
+
+pub counts_to_none : (start : NumberedState) (old : MetricsState) (Reported : MetricsState → NumberedState → Type 0) → Reported old start → CountsTo start old Reported old []
+counts_to_none start old Reported reported = record { now = start; counted = counted_none start old; reported = reported }
 
 -- ---- what is noted before
 

@@ -1,6 +1,6 @@
 -- What is out of the trace of an engine that stood behind a history and went on.
 use Rattle.std.proofs.Common.{◌≡◌, ◌∙◌, ℕ, Bool, true, false, Option, Some, None, Result, Ok, Err, List, [], ◌++◌, length, length-append, refl, sym, ap, subst, append_assoc, append-nil, inl, inr, ◌⊎◌, arith}
-use Rattle.std.specs.Prelude.{IfOk, IfSome, MatchBool, OnOk}
+use Rattle.std.specs.Prelude.{IfOk, IfSome, MatchBool}
 use Rattle.std.specs.Fmt.{option_append}
 use Rattle.std.specs.Io.KnownBytes.{Appends}
 use Rattle.std.proofs.lemmas.List.Concat.{flat_map-append}
@@ -172,20 +172,21 @@ module _ (manner : Manner) (start : NumberedState) (count : ℕ) (metrics : Metr
   pub continues_part : (T : Type 0) {E : Type 0} (fault : E) → Continues {T = T} start.setup manner records base (Err fault) at
   continues_part T fault = continued_in_part.0
 
-  module _ (Refuses : Succession → NumberedState → Unfollowed → Type 0) (point : Point) (came : Option CameState) (lines : Lines) (Decided : Succession → NumberedState → Type 0) (given answered : Option (List Answer)) (answers : List Answer) (are : answered ≡ with_answers given answers) where
+  module _ (Refuses : Succession → NumberedState → Unfollowed → Type 0) (point : Point) (came : Option CameState) (lines : Lines) (Decided : Succession → NumberedState → Type 0) (Counted : List Record → Type 0) (given answered : Option (List Answer)) (answers : List Answer) (are : answered ≡ with_answers given answers) (has : Counted made) where
     turned_all : (is_followed : Bool) (to : Option (List ℕ)) → IsGoneOn manner Refuses start Printed_on point came lines Decided is_followed made answers → (it : (out : IsContinued start.setup manner records base to) × (out.more ≡ made))
-        → IsServedOn start manner Refuses point came lines Decided is_followed records base to given answered
+        → IsServedOn start manner Refuses point came lines Decided Counted is_followed records base to given answered
     turned_all is_followed to these it = record {
       out = it.0;
       answers = answers;
       are_answers = are;
       turned = subst (λ (rs : List Record). IsGoneOn manner Refuses start Out_on point came lines Decided is_followed rs answers) (sym it.1)
           (gone_on_placed manner Refuses point came Printed_on Out_on (λ rs behind is. is.1) start lines Decided is_followed made answers these);
+      counted = subst Counted (sym it.1) has;
     }
 
     -- it stopped before the last line
     turned_part : (to : Option (List ℕ)) → IsGoneOnInPart manner Refuses start Printed_on point came made answers → (it : (out : IsContinuedInPart start.setup manner records base to) × (rest : List Record) × (made ≡ out.more ++ rest) × (out.last ≡ None))
-        → IsServedOnInPart start manner Refuses point came lines Decided records base to given answered
+        → IsServedOnInPart start manner Refuses point came lines Decided Counted records base to given answered
     turned_part to these it = record {
       out = it.0;
       rest = it.1;
@@ -194,11 +195,12 @@ module _ (manner : Manner) (start : NumberedState) (count : ℕ) (metrics : Metr
       turned = subst (λ (rs : List Record). IsGoneOnInPart manner Refuses start Out_on point came rs answers) it.2
           (gone_on_in_part_placed manner Refuses point came Printed_on Out_on (λ rs behind is. is.1) start made answers these);
       closed = subst (λ (o : Option Totals). IfSome o (λ totals. (it.1 ≡ []) × ((is_followed : Bool) × IsGoneOn manner Refuses start Out_on point came lines Decided is_followed it.0.more answers))) (sym it.3) tt;
+      counted = subst Counted it.2 has;
     }
 
     -- or at it
     turned_shut : (is_followed : Bool) (to : Option (List ℕ)) → IsGoneOn manner Refuses start Printed_on point came lines Decided is_followed made answers → (it : (out : IsContinuedInPart start.setup manner records base to) × (made ≡ out.more))
-        → IsServedOnInPart start manner Refuses point came lines Decided records base to given answered
+        → IsServedOnInPart start manner Refuses point came lines Decided Counted records base to given answered
     turned_shut is_followed to these it =
         let gone = subst (λ (rs : List Record). IsGoneOn manner Refuses start Out_on point came lines Decided is_followed rs answers) it.1
         (gone_on_placed manner Refuses point came Printed_on Out_on (λ rs behind is. is.1) start lines Decided is_followed made answers these) in
@@ -210,20 +212,21 @@ module _ (manner : Manner) (start : NumberedState) (count : ℕ) (metrics : Metr
           turned = subst (λ (rs : List Record). IsGoneOnInPart manner Refuses start Out_on point came rs answers) (sym (append-nil it.0.more))
               (gone_on_wholly manner Refuses point came Out_on Out_on (λ rs behind is. is) start lines Decided is_followed it.0.more answers gone);
           closed = if_any it.0.last (refl, (is_followed, gone));
+          counted = subst Counted (it.1 ∙ sym (append-nil it.0.more)) has;
         }
 
     pub continues_turns_closed : {E : Type 0} (r : Result Bool E) (is_followed : Bool) (to : Option (List ℕ)) → IfOk r (λ it. it ≡ is_followed) → count ≡ length records → engine.printed.lines.waiting ≡ [] → engine.printed.has_failed ≡ false → Closes manner engine at r to
-        → IsGoneOn manner Refuses start Printed_on point came lines Decided is_followed made answers → ContinuesTurns start manner Refuses point came lines Decided records base given r to answered
+        → IsGoneOn manner Refuses start Printed_on point came lines Decided is_followed made answers → ContinuesTurns start manner Refuses point came lines Decided Counted records base given r to answered
     continues_turns_closed (Ok it) is_followed to same counted all whole closes these =
-        subst (λ (b : Bool). IsServedOn start manner Refuses point came lines Decided b records base to given answered) (sym same) (elim closes [
+        subst (λ (b : Bool). IsServedOn start manner Refuses point came lines Decided Counted b records base to given answered) (sym same) (elim closes [
           | inl alive ↦
-              subst (λ (o : Option (List ℕ)). IsServedOn start manner Refuses point came lines Decided is_followed records base o given answered) (sym alive.2) (turned_all is_followed at these (left_open alive.0 all whole alive.1))
+              subst (λ (o : Option (List ℕ)). IsServedOn start manner Refuses point came lines Decided Counted is_followed records base o given answered) (sym alive.2) (turned_all is_followed at these (left_open alive.0 all whole alive.1))
           | inr ended ↦ turned_all is_followed to these (shut to counted whole ended.0 ended.1)
         ])
     continues_turns_closed (Err fault) is_followed to same counted all whole closes these =
         turned_shut is_followed to these (stopped_at_last to counted whole closes.1 closes.0)
 
-    pub continues_turns_part : {E : Type 0} (fault : E) → IsGoneOnInPart manner Refuses start Printed_on point came made answers → ContinuesTurns start manner Refuses point came lines Decided records base given (err_of Bool fault) at answered
+    pub continues_turns_part : {E : Type 0} (fault : E) → IsGoneOnInPart manner Refuses start Printed_on point came made answers → ContinuesTurns start manner Refuses point came lines Decided Counted records base given (err_of Bool fault) at answered
     continues_turns_part fault these = turned_part at these continued_in_part
 
 -- where no write failed none is counted
@@ -253,25 +256,26 @@ continues_none engine manner records base behind = record {
 }
 
 -- nothing was turned either
-pub unturned : (engine : NumberedState) (manner : Manner) (Refuses : Succession → NumberedState → Unfollowed → Type 0) (point : Point) (came : Option CameState) (lines : Lines) (Decided : Succession → NumberedState → Type 0) (records : List Record) (base : Option (List ℕ)) (given : Option (List Answer)) → IsAt point came lines → IsBehind records engine → IsServedOnInPart engine manner Refuses point came lines Decided records base base given given
+pub unturned : (engine : NumberedState) (manner : Manner) (Refuses : Succession → NumberedState → Unfollowed → Type 0) (point : Point) (came : Option CameState) (lines : Lines) (Decided : Succession → NumberedState → Type 0) (Counted : List Record → Type 0) (records : List Record) (base : Option (List ℕ)) (given : Option (List Answer)) → Counted [] → IsAt point came lines → IsBehind records engine → IsServedOnInPart engine manner Refuses point came lines Decided Counted records base base given given
 unfolding continues_none
-unturned engine manner Refuses point came lines Decided records base given at behind = record {
+unturned engine manner Refuses point came lines Decided Counted records base given none at behind = record {
   out = continues_none engine manner records base behind;
   rest = [];
   answers = [];
   are_answers = none_given given;
   turned = none_gone_on manner Refuses engine (IsOutBehind (version_of engine.setup) [] base) point came lines at;
   closed = tt;
+  counted = none;
 }
 
 -- ---- the answer that was owed
 
-module _ (engine : NumberedState) (manner : Manner) (Refuses : Succession → NumberedState → Unfollowed → Type 0) (point : Point) (came : Option CameState) (lines : Lines) (Decided : Succession → NumberedState → Type 0) (records : List Record) (base before at : Option (List ℕ)) (given middle answered : Option (List Answer)) where
-  pub behind_owed : {E : Type 0} (first : List Answer) (result : Result Bool E) → before ≡ base → middle ≡ with_answers given first → ContinuesTurns engine manner Refuses point came lines Decided records before middle result at answered
-      → ContinuesTurns engine manner Refuses point came lines Decided records base (with_answers given first) result at answered
+module _ (engine : NumberedState) (manner : Manner) (Refuses : Succession → NumberedState → Unfollowed → Type 0) (point : Point) (came : Option CameState) (lines : Lines) (Decided : Succession → NumberedState → Type 0) (Counted : List Record → Type 0) (records : List Record) (base before at : Option (List ℕ)) (given middle answered : Option (List Answer)) where
+  pub behind_owed : {E : Type 0} (first : List Answer) (result : Result Bool E) → before ≡ base → middle ≡ with_answers given first → ContinuesTurns engine manner Refuses point came lines Decided Counted records before middle result at answered
+      → ContinuesTurns engine manner Refuses point came lines Decided Counted records base (with_answers given first) result at answered
   behind_owed first result same are it =
-      subst (λ (g : Option (List Answer)). ContinuesTurns engine manner Refuses point came lines Decided records base g result at answered) are
-      (subst (λ (b : Option (List ℕ)). ContinuesTurns engine manner Refuses point came lines Decided records b middle result at answered) same it)
+      subst (λ (g : Option (List Answer)). ContinuesTurns engine manner Refuses point came lines Decided Counted records base g result at answered) are
+      (subst (λ (b : Option (List ℕ)). ContinuesTurns engine manner Refuses point came lines Decided Counted records b middle result at answered) same it)
 
 owed_so : {T U F : Type 0} (E : Type 0) (manner : Manner) (line : ℕ) (done : T) (result : Result U F) (base : Option (List ℕ)) (first : List Answer) (told : Bool) → manner.is_told ≡ told → IsOwed {E = E} manner (Some line) (Ok done) base first → IsOwed manner (Some line) result base first
 owed_so E manner line done (Ok value) base first told is it = it
@@ -298,6 +302,9 @@ closes_same {T = T} {E = E} manner first second at (Err fault) to same printed i
     subst (λ (p : Printed). Closes {T = T} {E = E} manner (record { engine = first.engine; printed = p; metrics = second.metrics }) at (Err fault) to) printed
     (subst (λ (e : NumberedState). Closes {T = T} {E = E} manner (record { engine = e; printed = second.printed; metrics = second.metrics }) at (Err fault) to) same it)
 
-pub on_ok : {T E : Type 0} (r : Result T E) (P : Type 0) → P → OnOk r P
-on_ok (Ok done) P it = it
-on_ok (Err fault) P it = tt
+-- ---- what is said of what was counted
+
+module _ (start : NumberedState) (manner : Manner) (Refuses : Succession → NumberedState → Unfollowed → Type 0) (point : Point) (came : Option CameState) (lines : Lines) (Decided : Succession → NumberedState → Type 0) (Counted Other : List Record → Type 0) (as_said : (more : List Record) → Counted more → Other more) (records : List Record) (base at : Option (List ℕ)) (given answered : Option (List Answer)) where
+  pub counted_as : {E : Type 0} (result : Result Bool E) → ContinuesTurns start manner Refuses point came lines Decided Counted records base given result at answered → ContinuesTurns start manner Refuses point came lines Decided Other records base given result at answered
+  counted_as (Ok is_followed) it = record { out = it.out; answers = it.answers; are_answers = it.are_answers; turned = it.turned; counted = as_said it.out.more it.counted }
+  counted_as (Err fault) it = record { out = it.out; rest = it.rest; answers = it.answers; are_answers = it.are_answers; turned = it.turned; closed = it.closed; counted = as_said (it.out.more ++ it.rest) it.counted }

@@ -67,25 +67,27 @@ pub data IsGoneOnInPart (manner : Manner) (Refuses : Succession → NumberedStat
 -- ---- what is said of a call
 
 -- What is out continues the trace of these records by that of the turns of what came, and the answers are those of these turns, each given
--- when the lines of its turn, and none of later ones, were out.
-pub record IsServedOn (start : NumberedState) (manner : Manner) (Refuses : Succession → NumberedState → Unfollowed → Type 0) (point : Point) (came : Option CameState) (lines : Lines) (Decided : Succession → NumberedState → Type 0) (is_followed : Bool) (records : List Record) (base at : Option (List ℕ)) (given answered : Option (List Answer)) : Type 0 where
+-- when the lines of its turn, and none of later ones, were out. The records of these lines are those that were counted.
+pub record IsServedOn (start : NumberedState) (manner : Manner) (Refuses : Succession → NumberedState → Unfollowed → Type 0) (point : Point) (came : Option CameState) (lines : Lines) (Decided : Succession → NumberedState → Type 0) (Counted : List Record → Type 0) (is_followed : Bool) (records : List Record) (base at : Option (List ℕ)) (given answered : Option (List Answer)) : Type 0 where
   pub out : IsContinued start.setup manner records base at
   pub answers : List Answer
   pub are_answers : answered ≡ with_answers given answers
   pub turned : IsGoneOn manner Refuses start (IsOutBehind (version_of start.setup) [] base) point came lines Decided is_followed out.more answers
+  pub counted : Counted out.more
 
--- a front of that; the last line begins in it only behind all of that
-pub record IsServedOnInPart (start : NumberedState) (manner : Manner) (Refuses : Succession → NumberedState → Unfollowed → Type 0) (point : Point) (came : Option CameState) (lines : Lines) (Decided : Succession → NumberedState → Type 0) (records : List Record) (base at : Option (List ℕ)) (given answered : Option (List Answer)) : Type 0 where
+-- a front of that; the last line begins in it only behind all of that; all records that were made were counted
+pub record IsServedOnInPart (start : NumberedState) (manner : Manner) (Refuses : Succession → NumberedState → Unfollowed → Type 0) (point : Point) (came : Option CameState) (lines : Lines) (Decided : Succession → NumberedState → Type 0) (Counted : List Record → Type 0) (records : List Record) (base at : Option (List ℕ)) (given answered : Option (List Answer)) : Type 0 where
   pub out : IsContinuedInPart start.setup manner records base at
   pub rest : List Record
   pub answers : List Answer
   pub are_answers : answered ≡ with_answers given answers
   pub turned : IsGoneOnInPart manner Refuses start (IsOutBehind (version_of start.setup) [] base) point came (out.more ++ rest) answers
   pub closed : IfSome out.last (λ totals. (rest ≡ []) × ((is_followed : Bool) × IsGoneOn manner Refuses start (IsOutBehind (version_of start.setup) [] base) point came lines Decided is_followed out.more answers))
+  pub counted : Counted (out.more ++ rest)
 
-abbrev pub ContinuesTurns : {E : Type 0} → NumberedState → Manner → (Succession → NumberedState → Unfollowed → Type 0) → Point → Option CameState → Lines → (Succession → NumberedState → Type 0) → List Record → Option (List ℕ) → Option (List Answer) → Result Bool E → Option (List ℕ) → Option (List Answer) → Type 0
-ContinuesTurns start manner Refuses point came lines Decided records base given (Ok is_followed) at answered = IsServedOn start manner Refuses point came lines Decided is_followed records base at given answered
-ContinuesTurns start manner Refuses point came lines Decided records base given (Err fault) at answered = IsServedOnInPart start manner Refuses point came lines Decided records base at given answered
+abbrev pub ContinuesTurns : {E : Type 0} → NumberedState → Manner → (Succession → NumberedState → Unfollowed → Type 0) → Point → Option CameState → Lines → (Succession → NumberedState → Type 0) → (List Record → Type 0) → List Record → Option (List ℕ) → Option (List Answer) → Result Bool E → Option (List ℕ) → Option (List Answer) → Type 0
+ContinuesTurns start manner Refuses point came lines Decided Counted records base given (Ok is_followed) at answered = IsServedOn start manner Refuses point came lines Decided Counted is_followed records base at given answered
+ContinuesTurns start manner Refuses point came lines Decided Counted records base given (Err fault) at answered = IsServedOnInPart start manner Refuses point came lines Decided Counted records base at given answered
 
 -- the answer to that line
 abbrev pub is_carried_out : (line behind : ℕ) → List Answer

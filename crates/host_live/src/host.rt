@@ -675,7 +675,8 @@ impl<'a> Host<'a> {
     /// Reports what was counted.
     pub(crate) fn report_counted<N: Reports>(&self, when: Moment, reports: &mut N)
         requires { N.may_count self.now.engine.metrics self.now.engine.engine }
-        ensures { (how : TheSuccession) (state : NumberedState) → N.has_decided reports.old how state → N.has_decided reports.new how state }
+        ensures decided { (how : TheSuccession) (state : NumberedState) → N.has_decided reports.old how state → N.has_decided reports.new how state }
+        ensures counted { N.has_counted reports.new when self.now.engine.metrics self.now.engine.engine }
     {
         reports.counted(when, self.engine.metrics(), self.engine.engine());
     }

@@ -59,10 +59,12 @@ pub enum Moment {
 }
 
 /// Is told what is no part of a trace, and decides whether an engine follows another one. What cannot be told is not told. Contracts see what
-/// was decided at last: how an engine is to follow, and which one; why none may follow; and what may have been counted of an engine.
+/// was decided at last: how an engine is to follow, and which one; why none may follow; what may have been counted of an engine; and what it
+/// was told at last to have been counted, when, and of which engine.
 pub trait Reports {
     ghost use Rattle.engine_core.specs.ByNumber.{NumberedState};
     ghost use Rattle.host_metrics.specs.Counted.{MetricsState};
+    ghost use Rattle.host_live.specs.declared.reports.Moment.{Moment};
     ghost use Rattle.host_live.specs.declared.reports.Unfollowed.{Unfollowed};
     ghost use Rattle.host_live.specs.declared.request.Succession.{Succession};
 
@@ -71,6 +73,8 @@ pub trait Reports {
     ghost may_refuse: { Succession → NumberedState → Unfollowed → Type 0 };
 
     ghost may_count: { MetricsState → NumberedState → Type 0 };
+
+    ghost has_counted: { Self → Moment → MetricsState → NumberedState → Type 0 };
 
     /// That line is not carried out, the first being 1.
     fn refused(&mut self, fault: LineFault, line: usize);
@@ -87,7 +91,8 @@ pub trait Reports {
     /// What was counted so far, and the engine as it stands.
     fn counted(&mut self, when: Moment, metrics: &Metrics, engine: &NumberedEngine<'_>)
         requires { may_count metrics.now engine.now }
-        ensures { (how : Succession) (state : NumberedState) → has_decided self.old how state → has_decided self.new how state };
+        ensures decided { (how : Succession) (state : NumberedState) → has_decided self.old how state → has_decided self.new how state }
+        ensures counted { has_counted self.new when metrics.now engine.now };
 
     /// A line asks for another engine to follow this one, which has no live run: `None` if one is to, or why not.
     fn follow(

@@ -10,13 +10,14 @@ ghost use Rattle.host_live.specs.Answering.{Answer, with_answers};
 ghost use Rattle.host_live.specs.Drafts.{IsDraftOf};
 ghost use Rattle.host_live.specs.Growth.{GrowsAs, GrowsBy, StandsBehind};
 ghost use Rattle.host_live.specs.LinesCome.{IsTaken, Stands, Waits};
-ghost use Rattle.host_live.specs.Metering.{HasCounted, MayCount};
+ghost use Rattle.host_live.specs.Metering.{CountsTo, HasCounted, MayCount};
 ghost use Rattle.host_live.specs.Served.{AnswersOwed, Carries, CarriesCut, CarriesLine, CarriesReading, ContinuesTurns, DrivesFirst, DrivesLast, EndsOr, FinishesOr, GoesOnOr, GrowsWith, IsLineNow, IsOwed, IsPrintedBehind, MayCome, NextIs};
 ghost use Rattle.host_live.specs.Telling.{Closes, Continues};
 ghost use Rattle.host_live.specs.Turns.{DrivesAll, IsAt, IsSomewhere, Point};
 ghost use Rattle.host_live.specs.declared.lines.Next.TheVariants.{End, Failed};
 ghost use Rattle.host_live.specs.declared.answering.After.TheVariants.{End as AfterAll};
 ghost use Rattle.host_live.specs.declared.answering.Turn.TheVariants.{End as AtEnd};
+ghost use Rattle.host_live.specs.declared.reports.Moment.TheVariants.{End as AtLast};
 ghost use Rattle.host_live.specs.declared.serving.LiveFault.TheVariants.{Unread, Unwritten};
 
 use crate::answering::{After, Turn, answer_decided, stop};
@@ -73,7 +74,7 @@ impl From<HostFault> for LiveFault {
 /// out, and whenever a timer is due. Where it reads more than an engine takes, that is recorded once, and time stands still. Where lines are
 /// answered, each is once the outlet took what it led to, and `quit` ends the input. The line that asks for the engine that follows is not
 /// answered here: whoever makes that engine serves it with the same lines, and says that this answer is owed. Each record is counted, and what
-/// was counted is reported whenever the engine is about to wait, and when nothing more is served.
+/// was counted is reported whenever the engine is about to wait, and when nothing more is served, also where it stops before the end.
 pub fn serve<I: Input, S: Outlet, N: Reports>(
     alloc: Global,
     engine: NumberedEngine<'_>,
@@ -94,8 +95,9 @@ pub fn serve<I: Input, S: Outlet, N: Reports>(
     // All that went out continues the trace of each history that the engine stood behind; where it stopped, it is a front of what does.
     ensures told { (records : List TheRecord) → IsBehind records engine.entry → count ≡ length records → Continues engine.entry.setup manner records (S.bytes out.old) result (S.bytes out.new) }
     // It is that of the runs that were out, unless runs stay out, and then of what the lines that came asked for. The answer that was owed was
-    // given first, and then each line was answered so.
-    ensures turned { (first : List Answer) × IsOwed manner owed result (S.bytes out.old) first × ((point : Point) (records : List TheRecord) → IsAt point (I.came input.old) lines.old → IsBehind records engine.entry → count ≡ length records → ContinuesTurns engine.entry manner N.may_refuse point (I.came input.new) lines.new (N.has_decided reports.new) records (S.bytes out.old) (with_answers (S.answers out.old) first) result (S.bytes out.new) (S.answers out.new)) }
+    // given first, and then each line was answered so. The records of all that are counted, each once and no others, over what was counted
+    // before; and what they come to was reported at last, as it is handed back, at the end and where it stopped.
+    ensures turned { (first : List Answer) × IsOwed manner owed result (S.bytes out.old) first × ((point : Point) (records : List TheRecord) → IsAt point (I.came input.old) lines.old → IsBehind records engine.entry → count ≡ length records → ContinuesTurns engine.entry manner N.may_refuse point (I.came input.new) lines.new (N.has_decided reports.new) (CountsTo engine.entry metrics.old (N.has_counted reports.new AtLast) metrics.new) records (S.bytes out.old) (with_answers (S.answers out.old) first) result (S.bytes out.new) (S.answers out.new)) }
     // Between the clock of the input and that of the engine stays what was.
     ensures begun { lines.new.begun ≡ lines.old.begun }
     ensures unread { result ≡ Err Unread → IsTrue (I.has_failed input.new) }
@@ -106,15 +108,16 @@ pub fn serve<I: Input, S: Outlet, N: Reports>(
     ensures going { IsTrue lines.new.is_ended → IsTrue (I.has_ended input.new) }
     // The engine that follows goes on with the same lines.
     ensures stands { result ≡ Ok true → IsSomewhere (I.came input.new) lines.new }
-    // Each record that was made was counted, once.
-    ensures counted { OnOk result ((now : NumberedState) × HasCounted engine.entry metrics.old now metrics.new) }
     ensures unwritten { result ≡ Err Unwritten → HasFailed (S.failures out.old) (S.failures out.new) }
 {
     match answer_owed(manner, owed, out) {
         Ok(()) => serve_here(
             alloc, engine, count, manner, metrics, input, lines, out, reports,
         ),
-        Err(fault) => Err(fault),
+        Err(fault) => {
+            reports.counted(Moment::End, metrics, &engine);
+            Err(fault)
+        }
     }
 }
 
@@ -164,14 +167,13 @@ fn serve_here<I: Input, S: Outlet, N: Reports>(
     requires stands { IsSomewhere (I.came input.old) lines.old }
     requires counts { MayCount N.may_count engine metrics.old }
     ensures told { (records : List TheRecord) → IsBehind records engine.entry → count ≡ length records → Continues engine.entry.setup manner records (S.bytes out.old) result (S.bytes out.new) }
-    ensures turned { (point : Point) (records : List TheRecord) → IsAt point (I.came input.old) lines.old → IsBehind records engine.entry → count ≡ length records → ContinuesTurns engine.entry manner N.may_refuse point (I.came input.new) lines.new (N.has_decided reports.new) records (S.bytes out.old) (S.answers out.old) result (S.bytes out.new) (S.answers out.new) }
+    ensures turned { (point : Point) (records : List TheRecord) → IsAt point (I.came input.old) lines.old → IsBehind records engine.entry → count ≡ length records → ContinuesTurns engine.entry manner N.may_refuse point (I.came input.new) lines.new (N.has_decided reports.new) (CountsTo engine.entry metrics.old (N.has_counted reports.new AtLast) metrics.new) records (S.bytes out.old) (S.answers out.old) result (S.bytes out.new) (S.answers out.new) }
     ensures begun { lines.new.begun ≡ lines.old.begun }
     ensures unread { result ≡ Err Unread → IsTrue (I.has_failed input.new) }
     ensures still { OnOk result (I.has_failed input.new ≡ I.has_failed input.old) }
     ensures ended { manner.is_told ≡ false → result ≡ Ok false → IsTrue (I.has_ended input.new) }
     ensures going { IsTrue lines.new.is_ended → IsTrue (I.has_ended input.new) }
     ensures stands { result ≡ Ok true → IsSomewhere (I.came input.new) lines.new }
-    ensures counted { OnOk result ((now : NumberedState) × HasCounted engine.entry metrics.old now metrics.new) }
     ensures unwritten { result ≡ Err Unwritten → HasFailed (S.failures out.old) (S.failures out.new) }
 {
     let counted = replace(metrics, Metrics::none(alloc));
@@ -182,7 +184,10 @@ fn serve_here<I: Input, S: Outlet, N: Reports>(
             host.hand_over(metrics);
             close(host, manner, is_followed, out)
         }
-        Err(fault) => Err(fault),
+        Err(fault) => {
+            host.hand_over(metrics);
+            Err(fault)
+        }
     }
 }
 
@@ -217,7 +222,8 @@ fn is_left_open(host: &Host<'_>, manner: Manner) -> bool
     manner.is_kept && host.engine.has_run()
 }
 
-// Drives the runs that are out, unless runs stay out, and serves the lines. All is handed on then. It returns whether another engine follows.
+// Drives the runs that are out, unless runs stay out, and serves the lines. All is handed on then, and what was counted is reported. It returns
+// whether another engine follows.
 fn serve_resumed<I: Input, S: Outlet, N: Reports>(
     host: &mut Host<'_>,
     manner: Manner,
@@ -230,6 +236,7 @@ fn serve_resumed<I: Input, S: Outlet, N: Reports>(
     requires counts { MayCount N.may_count host.old.engine.engine host.old.engine.metrics }
     ensures grown { (point : Point) → IsAt point (I.came input.old) lines.old → GrowsWith (GoesOnOr manner N.may_refuse host.old.engine.engine (IsPrintedBehind host.old.engine.printed (S.bytes out.old)) point (I.came input.new) lines.new (N.has_decided reports.new) result) host.old.engine (S.bytes out.old) (S.failures out.old) (S.answers out.old) host.new.engine (S.bytes out.new) (S.failures out.new) (S.answers out.new) }
     ensures counted { HasCounted host.old.engine.engine host.old.engine.metrics host.new.engine.engine host.new.engine.metrics }
+    ensures reported { N.has_counted reports.new AtLast host.new.engine.metrics host.new.engine.engine }
     ensures begun { lines.new.begun ≡ lines.old.begun }
     ensures unread { result ≡ Err Unread → IsTrue (I.has_failed input.new) }
     ensures still { OnOk result (I.has_failed input.new ≡ I.has_failed input.old) }
@@ -241,7 +248,10 @@ fn serve_resumed<I: Input, S: Outlet, N: Reports>(
 {
     match drive_first(host, manner, out) {
         Ok(()) => serve_behind(host, manner, input, lines, out, reports),
-        Err(fault) => Err(fault),
+        Err(fault) => {
+            host.report_counted(Moment::End, reports);
+            Err(fault)
+        }
     }
 }
 
@@ -259,6 +269,7 @@ fn serve_behind<I: Input, S: Outlet, N: Reports>(
     requires counts { MayCount N.may_count host.old.engine.engine host.old.engine.metrics }
     ensures grown { (point : Point) → IsAt point (I.came input.old) lines.old → GrowsWith (FinishesOr manner N.may_refuse host.old.engine.engine (IsPrintedBehind host.old.engine.printed (S.bytes out.old)) point (I.came input.new) lines.new (N.has_decided reports.new) result) host.old.engine (S.bytes out.old) (S.failures out.old) (S.answers out.old) host.new.engine (S.bytes out.new) (S.failures out.new) (S.answers out.new) }
     ensures counted { HasCounted host.old.engine.engine host.old.engine.metrics host.new.engine.engine host.new.engine.metrics }
+    ensures reported { N.has_counted reports.new AtLast host.new.engine.metrics host.new.engine.engine }
     ensures begun { lines.new.begun ≡ lines.old.begun }
     ensures unread { result ≡ Err Unread → IsTrue (I.has_failed input.new) }
     ensures still { OnOk result (I.has_failed input.new ≡ I.has_failed input.old) }

@@ -13,7 +13,7 @@ report_counted-requires-in-Err g c = may_now g.N.Reports.may_count _ _ (may_on g
 
 pub returns-in-Ok-clause-grown : goal.returns-in-Ok-clause-grown
 returns-in-Ok-clause-grown g c = λ point is.
-    let ends = with_these _ _ _ _ _ _ _ _ (λ records answers it. ends_with c.args.manner g.N.Reports.may_refuse c.args.host.now.engine.engine _ point (g.I.Input.came c.serve_lines.new.input) c.serve_lines.new.lines (g.N.Reports.has_decided c.serve_lines.new.reports) (g.N.Reports.has_decided c.report_counted.new.reports) c.in-Ok.is_followed records answers c.report_counted.ensures it) (c.in-Ok.ensures.grown point is) in
+    let ends = with_these _ _ _ _ _ _ _ _ (λ records answers it. ends_with c.args.manner g.N.Reports.may_refuse c.args.host.now.engine.engine _ point (g.I.Input.came c.serve_lines.new.input) c.serve_lines.new.lines (g.N.Reports.has_decided c.serve_lines.new.reports) (g.N.Reports.has_decided c.report_counted.new.reports) c.in-Ok.is_followed records answers c.report_counted.ensures.decided it) (c.in-Ok.ensures.grown point is) in
     finishes c.args.manner g.N.Reports.may_refuse point (g.I.Input.came c.serve_lines.new.input) c.serve_lines.new.lines (g.N.Reports.has_decided c.report_counted.new.reports) c.args.host.now.engine c.serve_lines.new.host.engine c.finish-finished.new.host.engine _ _ _ _ _ _ _ _ _ c.in-Ok.is_followed c.finish-finished.result c.finish-finished.ensures.followed ends c.finish-finished.ensures.grown c.finish-finished.ensures.answers
 
 pub returns-in-Ok-clause-counted : goal.returns-in-Ok-clause-counted

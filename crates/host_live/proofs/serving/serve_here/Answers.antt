@@ -6,8 +6,10 @@ use Rattle.host_live.specs.Growth.{GrowsBy, PrintedState, resumed_printed}
 use Rattle.host_live.specs.Served.{IsGoneOn, IsGoneOnInPart, IsPrintedBehind}
 use Rattle.host_live.proofs.Finishing.{next_point}
 use Rattle.host_live.proofs.Growing.{failed_meanwhile}
-use Rattle.host_live.specs.Metering.{HasCounted, MayCount}
-use Rattle.host_live.proofs.Told.{closes_same, on_ok, continues_closed, continues_part, continues_turns_closed, continues_turns_part, none_failed}
+use Rattle.host_live.specs.Metering.{CountsTo, IsCounted, MayCount}
+use Rattle.host_live.specs.declared.reports.Moment.TheVariants.{End}
+use Rattle.host_live.proofs.Metering.{counts_to}
+use Rattle.host_live.proofs.Told.{closes_same, continues_closed, continues_part, continues_turns_closed, continues_turns_part, none_failed}
 use Rattle.host_live.proofs.serving.serve_here.Goals as goal
 
 pub returns-in-Ok-clause-told : goal.returns-in-Ok-clause-told
@@ -20,8 +22,11 @@ pub returns-in-Ok-clause-turned : goal.returns-in-Ok-clause-turned
 returns-in-Ok-clause-turned g c = λ point records is behind are.
     let same : c.new-host.result.engine ≡ resumed_printed c.args.count c.args.engine c.replace-counted.result = c.new-host.ensures ∙ c.resumed-engine.ensures in
     let it = c.in-Ok.ensures.grown point is in
+    let counted : IsCounted c.args.engine c.replace-counted.result it.more c.serve_resumed.new.host.engine.engine c.serve_resumed.new.host.engine.metrics =
+    subst (λ (e : PrintedState). IsCounted e.engine e.metrics it.more c.serve_resumed.new.host.engine.engine c.serve_resumed.new.host.engine.metrics) same it.by.counted in
     continues_turns_closed c.args.manner c.args.engine c.args.count c.replace-counted.result c.serve_resumed.new.host.engine (g.S.Outlet.bytes c.args.out.now) (g.S.Outlet.bytes c.serve_resumed.new.out) (g.S.Outlet.failures c.args.out.now) (g.S.Outlet.failures c.serve_resumed.new.out) it.more (subst (λ (e : PrintedState). GrowsBy it.more e (g.S.Outlet.bytes c.args.out.now) (g.S.Outlet.failures c.args.out.now) c.serve_resumed.new.host.engine (g.S.Outlet.bytes c.serve_resumed.new.out) (g.S.Outlet.failures c.serve_resumed.new.out)) same it.by) records behind
-    g.N.Reports.may_refuse point (g.I.Input.came c.serve_resumed.new.input) c.serve_resumed.new.lines (g.N.Reports.has_decided c.serve_resumed.new.reports) (g.S.Outlet.answers c.args.out.now) (g.S.Outlet.answers c.close.new.out) it.others (c.close.ensures.answers ∙ it.are_answers)
+    g.N.Reports.may_refuse point (g.I.Input.came c.serve_resumed.new.input) c.serve_resumed.new.lines (g.N.Reports.has_decided c.serve_resumed.new.reports) (CountsTo c.args.engine c.args.metrics.now (g.N.Reports.has_counted c.serve_resumed.new.reports End) c.hand_over.new.metrics) (g.S.Outlet.answers c.args.out.now) (g.S.Outlet.answers c.close.new.out) it.others (c.close.ensures.answers ∙ it.are_answers)
+    (counts_to c.args.engine c.serve_resumed.new.host.engine.engine c.args.metrics.now c.replace-counted.result c.serve_resumed.new.host.engine.metrics c.hand_over.new.metrics (g.N.Reports.has_counted c.serve_resumed.new.reports End) it.more c.replace-counted.ensures.value c.hand_over.ensures.handed counted c.serve_resumed.ensures.reported)
     c.close.result c.in-Ok.is_followed (g.S.Outlet.bytes c.close.new.out) c.close.ensures.followed are c.in-Ok.ensures.all c.in-Ok.ensures.whole (closes_same c.args.manner c.serve_resumed.new.host.engine c.hand_over.new.self.engine (g.S.Outlet.bytes c.serve_resumed.new.out) c.close.result (g.S.Outlet.bytes c.close.new.out) c.hand_over.ensures.engine c.hand_over.ensures.printed c.close.ensures.closed)
     (subst (λ (e : PrintedState). IsGoneOn c.args.manner g.N.Reports.may_refuse e.engine (IsPrintedBehind e.printed (g.S.Outlet.bytes c.args.out.now)) point (g.I.Input.came c.serve_resumed.new.input) c.serve_resumed.new.lines (g.N.Reports.has_decided c.serve_resumed.new.reports) c.in-Ok.is_followed it.more it.others) same it.these)
 
@@ -47,8 +52,11 @@ pub returns-in-Err-clause-turned : goal.returns-in-Err-clause-turned
 returns-in-Err-clause-turned g c = λ point records is behind are.
     let same : c.new-host.result.engine ≡ resumed_printed c.args.count c.args.engine c.replace-counted.result = c.new-host.ensures ∙ c.resumed-engine.ensures in
     let it = c.in-Err.ensures.grown point is in
+    let counted : IsCounted c.args.engine c.replace-counted.result it.more c.serve_resumed.new.host.engine.engine c.serve_resumed.new.host.engine.metrics =
+    subst (λ (e : PrintedState). IsCounted e.engine e.metrics it.more c.serve_resumed.new.host.engine.engine c.serve_resumed.new.host.engine.metrics) same it.by.counted in
     continues_turns_part c.args.manner c.args.engine c.args.count c.replace-counted.result c.serve_resumed.new.host.engine (g.S.Outlet.bytes c.args.out.now) (g.S.Outlet.bytes c.serve_resumed.new.out) (g.S.Outlet.failures c.args.out.now) (g.S.Outlet.failures c.serve_resumed.new.out) it.more (subst (λ (e : PrintedState). GrowsBy it.more e (g.S.Outlet.bytes c.args.out.now) (g.S.Outlet.failures c.args.out.now) c.serve_resumed.new.host.engine (g.S.Outlet.bytes c.serve_resumed.new.out) (g.S.Outlet.failures c.serve_resumed.new.out)) same it.by) records behind
-    g.N.Reports.may_refuse point (g.I.Input.came c.serve_resumed.new.input) c.serve_resumed.new.lines (g.N.Reports.has_decided c.serve_resumed.new.reports) (g.S.Outlet.answers c.args.out.now) (g.S.Outlet.answers c.serve_resumed.new.out) it.others it.are_answers c.in-Err.fault
+    g.N.Reports.may_refuse point (g.I.Input.came c.serve_resumed.new.input) c.serve_resumed.new.lines (g.N.Reports.has_decided c.serve_resumed.new.reports) (CountsTo c.args.engine c.args.metrics.now (g.N.Reports.has_counted c.serve_resumed.new.reports End) c.hand_over-in-Err.new.metrics) (g.S.Outlet.answers c.args.out.now) (g.S.Outlet.answers c.serve_resumed.new.out) it.others it.are_answers
+    (counts_to c.args.engine c.serve_resumed.new.host.engine.engine c.args.metrics.now c.replace-counted.result c.serve_resumed.new.host.engine.metrics c.hand_over-in-Err.new.metrics (g.N.Reports.has_counted c.serve_resumed.new.reports End) it.more c.replace-counted.ensures.value c.hand_over-in-Err.ensures.handed counted c.serve_resumed.ensures.reported) c.in-Err.fault
     (subst (λ (e : PrintedState). IsGoneOnInPart c.args.manner g.N.Reports.may_refuse e.engine (IsPrintedBehind e.printed (g.S.Outlet.bytes c.args.out.now)) point (g.I.Input.came c.serve_resumed.new.input) it.more it.others) same it.these)
 
 pub returns-in-Err-clause-unwritten : goal.returns-in-Err-clause-unwritten
@@ -62,14 +70,3 @@ serve_resumed-requires-clause-counts g c =
     let same : c.new-host.result.engine ≡ resumed_printed c.args.count c.args.engine c.replace-counted.result = c.new-host.ensures ∙ c.resumed-engine.ensures in
     subst (λ (e : PrintedState). MayCount g.N.Reports.may_count e.engine e.metrics) (sym same)
     (subst (λ (m : MetricsState). MayCount g.N.Reports.may_count c.args.engine m) (sym c.replace-counted.ensures.value) c.requires.counts)
-
-pub returns-in-Ok-clause-counted : goal.returns-in-Ok-clause-counted
-returns-in-Ok-clause-counted g c =
-    let same : c.new-host.result.engine ≡ resumed_printed c.args.count c.args.engine c.replace-counted.result = c.new-host.ensures ∙ c.resumed-engine.ensures in
-    let from_there : HasCounted c.args.engine c.replace-counted.result c.serve_resumed.new.host.engine.engine c.serve_resumed.new.host.engine.metrics =
-    subst (λ (e : PrintedState). HasCounted e.engine e.metrics c.serve_resumed.new.host.engine.engine c.serve_resumed.new.host.engine.metrics) same c.serve_resumed.ensures.counted in
-    on_ok c.close.result _ (
-      c.serve_resumed.new.host.engine.engine,
-      subst (λ (m : MetricsState). HasCounted c.args.engine c.args.metrics.now c.serve_resumed.new.host.engine.engine m) (sym c.hand_over.ensures.handed)
-          (subst (λ (m : MetricsState). HasCounted c.args.engine m c.serve_resumed.new.host.engine.engine c.serve_resumed.new.host.engine.metrics) c.replace-counted.ensures.value from_there),
-    )

@@ -1,6 +1,6 @@
 use Rattle.host_live.proofs.Finishing.{goes_behind, not_driven_first}
 use Rattle.host_live.proofs.Growing.{has_as}
-use Rattle.host_live.proofs.Metering.{has_both, may_on}
+use Rattle.host_live.proofs.Metering.{has_both, may_now, may_on}
 use Rattle.host_live.proofs.serving.serve_resumed.Goals as goal
 
 pub returns-in-Ok-clause-grown : goal.returns-in-Ok-clause-grown
@@ -17,3 +17,6 @@ returns-in-Ok-clause-counted g c = has_both _ _ _ _ _ _ (has_as _ _ _ _ _ _ c.in
 
 pub returns-in-Err-clause-counted : goal.returns-in-Err-clause-counted
 returns-in-Err-clause-counted g c = has_as _ _ _ _ _ _ c.in-Err.ensures.grown
+
+pub report_counted-requires : goal.report_counted-requires
+report_counted-requires g c = may_now g.N.Reports.may_count _ _ (may_on g.N.Reports.may_count _ _ _ _ c.requires.counts (has_as _ _ _ _ _ _ c.in-Err.ensures.grown))

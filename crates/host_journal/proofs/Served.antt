@@ -81,9 +81,9 @@ continues_so setup manner records base at to (Err e) (Err s) flushed same both i
 
 -- ---- the turns
 
-module _ (start : NumberedState) (manner : Manner) (Refuses : Succession → NumberedState → Unfollowed → Type 0) (point : Point) (came : Option CameState) (lines : Lines) (Decided : Succession → NumberedState → Type 0) (records : List Record) (base at to : Option (List ℕ)) (given answered : Option (List Answer)) where
+module _ (start : NumberedState) (manner : Manner) (Refuses : Succession → NumberedState → Unfollowed → Type 0) (point : Point) (came : Option CameState) (lines : Lines) (Decided : Succession → NumberedState → Type 0) (Counted : List Record → Type 0) (records : List Record) (base at to : Option (List ℕ)) (given answered : Option (List Answer)) where
   -- all turns are a part of them
-  turns_in_part : (is_followed : Bool) → IsServedOn start manner Refuses point came lines Decided is_followed records base at given answered → IsServedOnInPart start manner Refuses point came lines Decided records base at given answered
+  turns_in_part : (is_followed : Bool) → IsServedOn start manner Refuses point came lines Decided Counted is_followed records base at given answered → IsServedOnInPart start manner Refuses point came lines Decided Counted records base at given answered
   unfolding in_part
   turns_in_part is_followed all = record {
     out = in_part start.setup manner records base at all.out;
@@ -93,17 +93,18 @@ module _ (start : NumberedState) (manner : Manner) (Refuses : Succession → Num
     turned = subst (λ (more : List Record). IsGoneOnInPart manner Refuses start (IsOutBehind (version_of start.setup) [] base) point came more all.answers) (sym (append-nil all.out.more))
         (gone_on_wholly manner Refuses point came (IsOutBehind (version_of start.setup) [] base) (IsOutBehind (version_of start.setup) [] base) (λ rs behind is. is) start lines Decided is_followed all.out.more all.answers all.turned);
     closed = if_any all.out.last (refl, (is_followed, all.turned));
+    counted = subst Counted (sym (append-nil all.out.more)) all.counted;
   }
 
   -- what was turned stays so, whatever is told at last
   pub turns_so : {E B C D : Type 0} (result : Result Bool E) (served : Result Bool B) (flushed : Result C D) → to ≡ at → IfOk result (λ is_followed. (served ≡ Ok is_followed) × IsOk flushed)
-      → ContinuesTurns start manner Refuses point came lines Decided records base given served at answered → ContinuesTurns start manner Refuses point came lines Decided records base given result to answered
+      → ContinuesTurns start manner Refuses point came lines Decided Counted records base given served at answered → ContinuesTurns start manner Refuses point came lines Decided Counted records base given result to answered
   turns_so (Ok done) (Ok s) flushed same both its =
       let one : s ≡ done = (let is = both.0 in cc) in
-      subst (λ (o : Option (List ℕ)). IsServedOn start manner Refuses point came lines Decided done records base o given answered) (sym same) (subst (λ (b : Bool). IsServedOn start manner Refuses point came lines Decided b records base at given answered) one its)
+      subst (λ (o : Option (List ℕ)). IsServedOn start manner Refuses point came lines Decided Counted done records base o given answered) (sym same) (subst (λ (b : Bool). IsServedOn start manner Refuses point came lines Decided Counted b records base at given answered) one its)
   turns_so (Ok done) (Err s) flushed same both its = absurd (let bad = both.0 in cc)
-  turns_so (Err e) (Ok s) flushed same both its = subst (λ (o : Option (List ℕ)). IsServedOnInPart start manner Refuses point came lines Decided records base o given answered) (sym same) (turns_in_part s its)
-  turns_so (Err e) (Err s) flushed same both its = subst (λ (o : Option (List ℕ)). IsServedOnInPart start manner Refuses point came lines Decided records base o given answered) (sym same) its
+  turns_so (Err e) (Ok s) flushed same both its = subst (λ (o : Option (List ℕ)). IsServedOnInPart start manner Refuses point came lines Decided Counted records base o given answered) (sym same) (turns_in_part s its)
+  turns_so (Err e) (Err s) flushed same both its = subst (λ (o : Option (List ℕ)). IsServedOnInPart start manner Refuses point came lines Decided Counted records base o given answered) (sym same) its
 
 -- what was owed too
 pub owed_so : {E B C D : Type 0} (manner : Manner) (owed : Option ℕ) (base : Option (List ℕ)) (first : List Answer) (result : Result Bool E) (served : Result Bool B) (flushed : Result C D) → IfOk result (λ is_followed. (served ≡ Ok is_followed) × IsOk flushed) → IsOwed manner owed served base first → IsOwed manner owed result base first
@@ -120,20 +121,20 @@ both_ok (Ok done) (Ok s) flushed both = (refl, both.1)
 both_ok (Ok done) (Err s) flushed both = absurd (let bad = both.0 in cc)
 both_ok (Err e) served flushed both = tt
 
-module _ {E : Type 0} (engine : NumberedState) (count : ℕ) (manner : Manner) (Refuses : Succession → NumberedState → Unfollowed → Type 0) (owed : Option ℕ) (point : Point) (came : Option CameState) (lines : Lines) (Decided : Succession → NumberedState → Type 0) (is_synced : Bool) (first : List ℕ) where
+module _ {E : Type 0} (engine : NumberedState) (count : ℕ) (manner : Manner) (Refuses : Succession → NumberedState → Unfollowed → Type 0) (owed : Option ℕ) (point : Point) (came : Option CameState) (lines : Lines) (Decided : Succession → NumberedState → Type 0) (Counted : List Record → Type 0) (is_synced : Bool) (first : List ℕ) where
   pub in_order_turned : {B C D : Type 0} (before first_steps served_steps now : Option (List Step)) (state : JournaledState) (told : List Answer) (result : Result Bool E) (served : Result Bool B) (flushed : Result C D)
       → Leaves is_synced first before now state → IfOk result (λ is_followed. (served ≡ Ok is_followed) × IsOk flushed) → OnOk flushed ((state.pending ≡ []) × (state.lost ≡ None)) → OnOk flushed (is_synced ≡ true → state.is_behind ≡ false)
       → first_steps ≡ before → kept_so_far now ≡ kept_so_far served_steps → state.answers ≡ told
       → (given : List Answer) → IsOwed manner owed served (kept_so_far first_steps) given
-      → ((records : List Record) → IsBehind records engine → count ≡ length records → ContinuesTurns engine manner Refuses point came lines Decided records (kept_so_far first_steps) (Some given) served (kept_so_far served_steps) (Some (stood_behind (kept_so_far before) told)))
-      → ServesInOrder engine count manner Refuses owed point came lines Decided is_synced first before now result
+      → ((records : List Record) → IsBehind records engine → count ≡ length records → ContinuesTurns engine manner Refuses point came lines Decided Counted records (kept_so_far first_steps) (Some given) served (kept_so_far served_steps) (Some (stood_behind (kept_so_far before) told)))
+      → ServesInOrder engine count manner Refuses owed point came lines Decided Counted is_synced first before now result
   in_order_turned before first_steps served_steps now state told result served flushed leaves both all sure begins kept answers given is_so turned = record {
     answers = state.answers;
     in_order = served_in_order is_synced first before now state result served flushed leaves (both_ok result served flushed both) all sure;
     given = given;
     owed_is = subst (λ (o : Option (List Step)). IsOwed manner owed result (kept_so_far o) given) begins (owed_so manner owed (kept_so_far first_steps) given result served flushed both is_so);
     turned = λ records behind are.
-        subst (λ (a : List Answer). ContinuesTurns engine manner Refuses point came lines Decided records (kept_so_far before) (Some given) result (kept_so_far now) (Some (stood_behind (kept_so_far before) a))) (sym answers)
-        (subst (λ (o : Option (List Step)). ContinuesTurns engine manner Refuses point came lines Decided records (kept_so_far o) (Some given) result (kept_so_far now) (Some (stood_behind (kept_so_far before) told))) begins
-        (turns_so engine manner Refuses point came lines Decided records (kept_so_far first_steps) (kept_so_far served_steps) (kept_so_far now) (Some given) (Some (stood_behind (kept_so_far before) told)) result served flushed kept both (turned records behind are)));
+        subst (λ (a : List Answer). ContinuesTurns engine manner Refuses point came lines Decided Counted records (kept_so_far before) (Some given) result (kept_so_far now) (Some (stood_behind (kept_so_far before) a))) (sym answers)
+        (subst (λ (o : Option (List Step)). ContinuesTurns engine manner Refuses point came lines Decided Counted records (kept_so_far o) (Some given) result (kept_so_far now) (Some (stood_behind (kept_so_far before) told))) begins
+        (turns_so engine manner Refuses point came lines Decided Counted records (kept_so_far first_steps) (kept_so_far served_steps) (kept_so_far now) (Some given) (Some (stood_behind (kept_so_far before) told)) result served flushed kept both (turned records behind are)));
   }

@@ -105,13 +105,14 @@ pub record InOrder {T E : Type 0} (is_synced : Bool) (first : List ℕ) (before 
 
 -- What was appended continues each history behind the engine, of so many records, by the runs that were out, unless runs stay out, and then by
 -- what the lines that came asked for, turn by turn; and at the end by the last line, unless the trace is kept and a run is live. The order was
--- kept, and what is out has the answer that was owed and those of these turns, and no others.
-pub record ServesInOrder {E : Type 0} (engine : NumberedState) (count : ℕ) (manner : Manner) (Refuses : Succession → NumberedState → Unfollowed → Type 0) (owed : Option ℕ) (point : Point) (came : Option CameState) (lines : Lines) (Decided : Succession → NumberedState → Type 0) (is_synced : Bool) (first : List ℕ) (before now : Option (List Step)) (result : Result Bool E) : Type 0 where
+-- kept, and what is out has the answer that was owed and those of these turns, and no others. The records of what was appended are those that
+-- were counted.
+pub record ServesInOrder {E : Type 0} (engine : NumberedState) (count : ℕ) (manner : Manner) (Refuses : Succession → NumberedState → Unfollowed → Type 0) (owed : Option ℕ) (point : Point) (came : Option CameState) (lines : Lines) (Decided : Succession → NumberedState → Type 0) (Counted : List Record → Type 0) (is_synced : Bool) (first : List ℕ) (before now : Option (List Step)) (result : Result Bool E) : Type 0 where
   pub answers : List Answer
   pub in_order : InOrder is_synced first before now answers result
   pub given : List Answer
   pub owed_is : IsOwed manner owed result (kept_so_far before) given
-  pub turned : (records : List Record) → IsBehind records engine → count ≡ length records → ContinuesTurns engine manner Refuses point came lines Decided records (kept_so_far before) (Some given) result (kept_so_far now) (Some (stood_behind (kept_so_far before) answers))
+  pub turned : (records : List Record) → IsBehind records engine → count ≡ length records → ContinuesTurns engine manner Refuses point came lines Decided Counted records (kept_so_far before) (Some given) result (kept_so_far now) (Some (stood_behind (kept_so_far before) answers))
 
 -- That of a sink of which so much waits, which lost nothing or something.
 pub record Leaves (is_synced : Bool) (first : List ℕ) (before now : Option (List Step)) (state : JournaledState) : Type 0 where

@@ -6,9 +6,10 @@ ghost use Rattle.base.specs.declared.or_memory.OrMemory.TheVariants.{Fault};
 ghost use Rattle.world_calls.specs.declared.record.Record.{Record as TheRecord};
 ghost use Rattle.engine_core.specs.ByNumber.{IsBehind};
 ghost use Rattle.host_live.specs.Growth.{StandsBehind};
-ghost use Rattle.host_live.specs.Metering.{MayCount};
+ghost use Rattle.host_live.specs.Metering.{CountsTo, MayCount};
 ghost use Rattle.host_live.specs.Telling.{Continues};
 ghost use Rattle.host_live.specs.Turns.{IsAt, IsSomewhere, Point};
+ghost use Rattle.host_live.specs.declared.reports.Moment.TheVariants.{End as AtLast};
 ghost use Rattle.host_live.specs.declared.serving.LiveFault.TheVariants.{Unread as InputUnread};
 ghost use Rattle.host_journal.specs.Disks.{AllDone, Step, kept_so_far};
 ghost use Rattle.host_journal.specs.Journals.{HasLost, MayStop, ServesInOrder, is_of_write};
@@ -25,7 +26,7 @@ use crate::making::first_text;
 use crate::order::Order;
 use base::OrMemory;
 use engine_core::NumberedEngine;
-use host_live::{Input, Lines, LiveFault, Manner, Reports};
+use host_live::{Input, Lines, LiveFault, Manner, Moment, Reports};
 use host_metrics::Metrics;
 use std::alloc::Global;
 use std::marker::Brand;
@@ -34,7 +35,7 @@ use trace::WriteFailed;
 /// Serves an engine of this journal that stands behind a history of so many records, whose segment is open, until the input ends or another
 /// engine is to follow this one; it returns whether one is. The lines of what a line of the input leads to are appended to the segment before
 /// they go out, and with `is_synced` they are synced before. If the segment was just made, its text goes out first, and then the answer that is
-/// owed. Each record is counted. At the end the last line of the trace is made; but a trace that is kept gets none while a run is live: then
+/// owed. Each record is counted, and what was counted is reported when nothing more is served. At the end the last line of the trace is made; but a trace that is kept gets none while a run is live: then
 /// the next start recovers the engine. Once the segment or standard output cannot be written, nothing goes out any more, and the fault says
 /// which it was.
 pub fn serve<D: Disk, I: Input, N: Reports>(
@@ -57,8 +58,10 @@ pub fn serve<D: Disk, I: Input, N: Reports>(
     requires stands { IsSomewhere (I.came input.old) lines.old }
     requires counts { MayCount N.may_count engine metrics.old }
     // No byte goes out that is not in the segment, synced if that is asked for, but for answers between lines; at the end all is out. What
-    // was appended is that of what the lines that came asked for, one by one, and each was answered so.
-    ensures order { (point : Point) → IsAt point (I.came input.old) lines.old → ServesInOrder engine.entry count manner N.may_refuse owed point (I.came input.new) lines.new (N.has_decided reports.new) is_synced (first_line begun.now) (D.steps disk) (D.steps result.0) result.1 }
+    // was appended is that of what the lines that came asked for, one by one, and each was answered so. The records of all that are counted,
+    // each once and no others, over what was counted before; and what they come to was reported at last, as it is handed back, at the end and
+    // where it stopped.
+    ensures order { (point : Point) → IsAt point (I.came input.old) lines.old → ServesInOrder engine.entry count manner N.may_refuse owed point (I.came input.new) lines.new (N.has_decided reports.new) (CountsTo engine.entry metrics.old (N.has_counted reports.new AtLast) metrics.new) is_synced (first_line begun.now) (D.steps disk) (D.steps result.0) result.1 }
     // What was appended continues the history behind the engine.
     ensures told { (records : List TheRecord) → IsBehind records engine.entry → count ≡ length records → Continues engine.entry.setup manner records (kept_so_far (D.steps disk)) result.1 (kept_so_far (D.steps result.0)) }
     ensures unread { result.1 ≡ Err (Fault Unread) → IsTrue (I.has_failed input.new) }
@@ -74,7 +77,10 @@ pub fn serve<D: Disk, I: Input, N: Reports>(
             alloc, disk, pending, begun, engine, count, manner, is_synced, owed, metrics, input,
             lines, reports,
         ),
-        Err(error) => (disk, Err(error)),
+        Err(error) => {
+            reports.counted(Moment::End, metrics, &engine);
+            (disk, Err(error))
+        }
     }
 }
 
@@ -131,7 +137,7 @@ fn serve_ordered<O: Order, D: Disk, I: Input, N: Reports>(
     requires begun { IsTrue lines.old.is_ended → IsTrue (I.has_ended input.old) }
     requires stands { IsSomewhere (I.came input.old) lines.old }
     requires counts { MayCount N.may_count engine metrics.old }
-    ensures order { (point : Point) → IsAt point (I.came input.old) lines.old → ServesInOrder engine.entry count manner N.may_refuse owed point (I.came input.new) lines.new (N.has_decided reports.new) O.is_synced O.first O.before (D.steps result.0) result.1 }
+    ensures order { (point : Point) → IsAt point (I.came input.old) lines.old → ServesInOrder engine.entry count manner N.may_refuse owed point (I.came input.new) lines.new (N.has_decided reports.new) (CountsTo engine.entry metrics.old (N.has_counted reports.new AtLast) metrics.new) O.is_synced O.first O.before (D.steps result.0) result.1 }
     ensures told { (records : List TheRecord) → IsBehind records engine.entry → count ≡ length records → Continues engine.entry.setup manner records (kept_so_far (D.steps disk)) result.1 (kept_so_far (D.steps result.0)) }
     ensures unread { result.1 ≡ Err (Fault Unread) → IsTrue (I.has_failed input.new) }
     ensures still { OnOk result.1 (I.has_failed input.new ≡ I.has_failed input.old) }

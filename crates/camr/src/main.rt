@@ -175,7 +175,9 @@ impl<'a, R: Files<File = File> + AllocGlobal + Clock> GivenFiles<'a, R> {
     }
 
     // Takes note of whether what is counted was written.
-    fn note(&mut self, is_written: bool) -> Result<(), MetricsUnwritten> {
+    fn note(&mut self, is_written: bool) -> Result<(), MetricsUnwritten>
+        ensures { self.new.counted ≡ self.old.counted }
+    {
         self.written = self.clock.now();
         let had_failed = self.has_failed;
         self.has_failed = !is_written;
@@ -190,6 +192,10 @@ impl<'a, R: Files<File = File> + AllocGlobal + Clock> GivenFiles<'a, R> {
 }
 
 impl<R: Files<File = File> + RandomSource + AllocGlobal + Clock> MetricsFile for GivenFiles<'_, R> {
+    ghost use Rattle.host_metrics.specs.Counted.{counts_in};
+
+    ghost counts = { λ files. counts_in files.counted };
+
     fn take_metrics(&mut self, alloc: Global) -> Metrics {
         match self.counted.take() {
             Some(metrics) => metrics,

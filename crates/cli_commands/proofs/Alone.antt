@@ -13,6 +13,7 @@ use Rattle.world.specs.World.{Setup, version_of}
 use Rattle.world_calls.specs.declared.carried_line.CarriedLine.{CarriedLine}
 use Rattle.world_calls.specs.declared.record.Record.{Record}
 use Rattle.world_calls.specs.declared.totals.Totals.{Totals}
+use Rattle.host_metrics.specs.Counted.{MetricsState}
 use Rattle.host_live.specs.Answering.{Answer}
 use Rattle.host_live.specs.Inputs.{CameState}
 use Rattle.host_live.specs.Telling.{Continues, IsContinued, IsLast, last_text}
@@ -31,16 +32,16 @@ pub no_zero : (status : ℕ) → 1 ≤ status → status ≢ 0
 no_zero status some none = omega (arith, some, none)
 
 -- nothing more is served
-pub ended_alone : {MayRead : Reading → Type 0} (manner : Manner) (P : Option CameState → Option (List ℕ) → Option (List Answer) → ℕ → Type 0) (s : ℕ) (outcome : Outcome) (came : Option CameState) (lines : Lines) (base : Option (List ℕ)) (given : Option (List Answer)) (last : Option CameState) (at : Option (List ℕ)) (told : Option (List Answer)) (status : ℕ)
-    → outcome ≡ Ended s → P came base given s → GoesAlone MayRead manner outcome came lines base given last at told status → P last at told status
-ended_alone manner P s outcome came lines base given last at told status is p (at_the_end own it its here answered) = let one : s ≡ own = (let bad = is in cc) in subst (λ (n : ℕ). P it here answered n) one p
-ended_alone manner P s outcome came lines base given last at told status is p (not_begun next it its from here answered front) = absurd (let bad : Followed next ≡ Ended s = is in cc)
-ended_alone manner P s outcome came lines base given last at told status is p (begun next engine began it end its later from mid here to answers answered answer what own first put served on) = absurd (let bad : Followed next ≡ Ended s = is in cc)
+pub ended_alone : {MayRead : Reading → Type 0} (manner : Manner) (P : Option CameState → Option (List ℕ) → Option (List Answer) → MetricsState → ℕ → Type 0) (s : ℕ) (outcome : Outcome) (came : Option CameState) (lines : Lines) (base : Option (List ℕ)) (given : Option (List Answer)) (before : MetricsState) (last : Option CameState) (at : Option (List ℕ)) (told : Option (List Answer)) (left : MetricsState) (status : ℕ)
+    → outcome ≡ Ended s → P came base given before s → GoesAlone MayRead manner outcome came lines base given before last at told left status → P last at told left status
+ended_alone manner P s outcome came lines base given before last at told left status is p (at_the_end own it its here answered counts) = let one : s ≡ own = (let bad = is in cc) in subst (λ (n : ℕ). P it here answered counts n) one p
+ended_alone manner P s outcome came lines base given before last at told left status is p (not_begun next it its from here answered counts front) = absurd (let bad : Followed next ≡ Ended s = is in cc)
+ended_alone manner P s outcome came lines base given before last at told left status is p (begun next engine began it end its later from mid here to answers answered answer counted counts count what own first put served on) = absurd (let bad : Followed next ≡ Ended s = is in cc)
 
 -- what it was given stays
-pub kept_answers : {MayRead : Reading → Type 0} (number : ℕ) (own : List ℕ) (engine : NumberedState) (manner : Manner) (owed : Option ℕ) (began : Option CameState) (lines : Lines) (base : Option (List ℕ)) (given before : Option (List Answer)) (came : Option CameState) (later : Lines) (at : Option (List ℕ)) (answered : Option (List Answer)) (outcome : Outcome)
-    → before ≡ given → IsServedFrom MayRead number own engine manner owed began lines base before came later at answered outcome → IsServedFrom MayRead number own engine manner owed began lines base given came later at answered outcome
-kept_answers {MayRead = MayRead} number own engine manner owed began lines base given before came later at answered outcome same it = subst (λ (a : Option (List Answer)). IsServedFrom MayRead number own engine manner owed began lines base a came later at answered outcome) same it
+pub kept_answers : {MayRead : Reading → Type 0} (number : ℕ) (own : List ℕ) (engine : NumberedState) (manner : Manner) (owed : Option ℕ) (began : Option CameState) (lines : Lines) (base : Option (List ℕ)) (given other : Option (List Answer)) (before : MetricsState) (came : Option CameState) (later : Lines) (at : Option (List ℕ)) (answered : Option (List Answer)) (after : MetricsState) (outcome : Outcome)
+    → other ≡ given → IsServedFrom MayRead number own engine manner owed began lines base other before came later at answered after outcome → IsServedFrom MayRead number own engine manner owed began lines base given before came later at answered after outcome
+kept_answers {MayRead = MayRead} number own engine manner owed began lines base given other before came later at answered after outcome same it = subst (λ (a : Option (List Answer)). IsServedFrom MayRead number own engine manner owed began lines base a before came later at answered after outcome) same it
 
 -- nothing is out of it
 pub no_front : (text : List ℕ) (base : Option (List ℕ)) → IsFront text base base
@@ -59,12 +60,12 @@ went_out : {E : Type 0} (setup : Setup) (manner : Manner) (records : List Record
 went_out setup manner records base at (Ok done) it = (it.bytes, it.told)
 went_out setup manner records base at (Err fault) it = (it.front.handed, it.front.told)
 
-all_went : {MayRead : Reading → Type 0} (manner : Manner) (outcome : Outcome) (came : Option CameState) (lines : Lines) (base : Option (List ℕ)) (given : Option (List Answer)) (last : Option CameState) (at : Option (List ℕ)) (told : Option (List Answer)) (status : ℕ) → GoesAlone MayRead manner outcome came lines base given last at told status → (more : List ℕ) × Appends base at more
-all_went manner outcome came lines base given last at told status (at_the_end own it its here answered) = ([], none_put here)
-all_went manner outcome came lines base given last at told status (not_begun next it its from here answered front) = (front.handed, front.told)
-all_went manner outcome came lines base given last at told status (begun next engine began it end its later from mid here to answers answered answer what own first put served on) =
+all_went : {MayRead : Reading → Type 0} (manner : Manner) (outcome : Outcome) (came : Option CameState) (lines : Lines) (base : Option (List ℕ)) (given : Option (List Answer)) (before : MetricsState) (last : Option CameState) (at : Option (List ℕ)) (told : Option (List Answer)) (left : MetricsState) (status : ℕ) → GoesAlone MayRead manner outcome came lines base given before last at told left status → (more : List ℕ) × Appends base at more
+all_went manner outcome came lines base given before last at told left status (at_the_end own it its here answered counts) = ([], none_put here)
+all_went manner outcome came lines base given before last at told left status (not_begun next it its from here answered counts front) = (front.handed, front.told)
+all_went manner outcome came lines base given before last at told left status (begun next engine began it end its later from mid here to answers answered answer counted counts count what own first put served on) =
     let one = went_out engine.setup (alone manner) [] mid here served.result served.told in
-    let rest = all_went manner what it later here answered end to answer own on in
+    let rest = all_went manner what it later here answered counts end to answer count own on in
     (front_in next ++ (one.0 ++ rest.0), Appends-trans from mid to (front_in next) (one.0 ++ rest.0) put (Appends-trans mid here to one.0 rest.0 one.1 rest.1))
 
 -- an engine that was not kept has its last line
@@ -79,13 +80,13 @@ whole_out manifest setup manner base mid at serving put it (Some totals) is =
     )
 
 -- its status is none of an end
-no_end_alone : {A : Type 0} {MayRead : Reading → Type 0} (manner : Manner) (outcome : Outcome) (came : Option CameState) (lines : Lines) (base : Option (List ℕ)) (given : Option (List Answer)) (last : Option CameState) (at : Option (List ℕ)) (told : Option (List Answer)) → outcome ≡ Ended 2 → (status : ℕ) → status ≡ 0 → GoesAlone MayRead manner outcome came lines base given last at told status → A
-no_end_alone {A} manner outcome came lines base given last at told is status none goes = absurd (ended_alone manner (λ c b g s. s ≡ 0 → ⊥) 2 outcome came lines base given last at told status is (λ two. let bad : 2 ≡ 0 = two in cc) goes none)
+no_end_alone : {A : Type 0} {MayRead : Reading → Type 0} (manner : Manner) (outcome : Outcome) (came : Option CameState) (lines : Lines) (base : Option (List ℕ)) (given : Option (List Answer)) (before : MetricsState) (last : Option CameState) (at : Option (List ℕ)) (told : Option (List Answer)) (left : MetricsState) → outcome ≡ Ended 2 → (status : ℕ) → status ≡ 0 → GoesAlone MayRead manner outcome came lines base given before last at told left status → A
+no_end_alone {A} manner outcome came lines base given before last at told left is status none goes = absurd (ended_alone manner (λ c b g m s. s ≡ 0 → ⊥) 2 outcome came lines base given before last at told left status is (λ two. let bad : 2 ≡ 0 = two in cc) goes none)
 
-first_out : {MayRead : Reading → Type 0} (number : ℕ) (manifest : List ℕ) (setup : Setup) (manner : Manner) (base mid at : Option (List ℕ)) (result : Result Bool LiveFault) (following : Option Next) (outcome : Outcome) (came : Option CameState) (lines : Lines) (given : Option (List Answer)) (last : Option CameState) (to : Option (List ℕ)) (told : Option (List Answer)) (status : ℕ) → status ≡ 0
-    → IsServing manifest setup → Appends base mid (header (version_of setup)) → Continues setup (alone manner) [] mid result at → IsOutcomeAlone number result following outcome → GoesAlone MayRead manner outcome came lines at given last to told status → IsTraceFirst manifest base to
-first_out number manifest setup manner base mid at (Ok done) following outcome came lines given last to told status none serving put it is on = (at, whole_out manifest setup manner base mid at serving put it it.last refl, all_went manner outcome came lines at given last to told status on)
-first_out number manifest setup manner base mid at (Err fault) following outcome came lines given last to told status none serving put it is on = no_end_alone manner outcome came lines at given last to told is status none on
+first_out : {MayRead : Reading → Type 0} (number : ℕ) (manifest : List ℕ) (setup : Setup) (manner : Manner) (base mid at : Option (List ℕ)) (result : Result Bool LiveFault) (following : Option Next) (outcome : Outcome) (came : Option CameState) (lines : Lines) (given : Option (List Answer)) (before : MetricsState) (last : Option CameState) (to : Option (List ℕ)) (told : Option (List Answer)) (left : MetricsState) (status : ℕ) → status ≡ 0
+    → IsServing manifest setup → Appends base mid (header (version_of setup)) → Continues setup (alone manner) [] mid result at → IsOutcomeAlone number result following outcome → GoesAlone MayRead manner outcome came lines at given before last to told left status → IsTraceFirst manifest base to
+first_out number manifest setup manner base mid at (Ok done) following outcome came lines given before last to told left status none serving put it is on = (at, whole_out manifest setup manner base mid at serving put it it.last refl, all_went manner outcome came lines at given before last to told left status on)
+first_out number manifest setup manner base mid at (Err fault) following outcome came lines given before last to told left status none serving put it is on = no_end_alone manner outcome came lines at given before last to told left is status none on
 
 header_front : (setup : Setup) (carried : Option (List CarriedLine)) → carried ≡ None → or_none (front_of setup carried) ≡ header (version_of setup)
 header_front setup carried none = ap (λ (c : Option (List CarriedLine)). or_none (front_of setup c)) none
@@ -94,14 +95,14 @@ opened_first : (setup : Setup) (carried : Option (List CarriedLine)) (engine : N
 opened_first setup None engine none it = it
 opened_first setup (Some lines) engine none it = absurd (let bad = none in cc)
 
-pub trace_first : {MayRead : Reading → Type 0} (manifest : List ℕ) (manner : Manner) (first : Next) (outcome : Outcome) (came : Option CameState) (lines : Lines) (base : Option (List ℕ)) (given : Option (List Answer)) (last : Option CameState) (at : Option (List ℕ)) (told : Option (List Answer)) (status : ℕ) → status ≡ 0 → IsFirstOf manifest first → outcome ≡ Followed first
-    → GoesAlone MayRead manner outcome came lines base given last at told status → IsTraceFirst manifest base at
-trace_first manifest manner first outcome came lines base given last at told status none is so (at_the_end own it its here answered) = absurd (let bad : Ended own ≡ Followed first = so in cc)
-trace_first manifest manner first outcome came lines base given last at told status none is so (not_begun next it its from here answered front) = absurd (let bad : 2 ≡ 0 = none in cc)
-trace_first manifest manner first outcome came lines base given last at told status none is so (begun next engine began it end its later from mid here to answers answered answer what own head put served on) =
+pub trace_first : {MayRead : Reading → Type 0} (manifest : List ℕ) (manner : Manner) (first : Next) (outcome : Outcome) (came : Option CameState) (lines : Lines) (base : Option (List ℕ)) (given : Option (List Answer)) (before : MetricsState) (last : Option CameState) (at : Option (List ℕ)) (told : Option (List Answer)) (left : MetricsState) (status : ℕ) → status ≡ 0 → IsFirstOf manifest first → outcome ≡ Followed first
+    → GoesAlone MayRead manner outcome came lines base given before last at told left status → IsTraceFirst manifest base at
+trace_first manifest manner first outcome came lines base given before last at told left status none is so (at_the_end own it its here answered counts) = absurd (let bad : Ended own ≡ Followed first = so in cc)
+trace_first manifest manner first outcome came lines base given before last at told left status none is so (not_begun next it its from here answered counts front) = absurd (let bad : 2 ≡ 0 = none in cc)
+trace_first manifest manner first outcome came lines base given before last at told left status none is so (begun next engine began it end its later from mid here to answers answered answer counted counts count what own head put served on) =
     let same : next ≡ first = (let all = so in cc) in
     let of = subst (IsFirstOf manifest) (sym same) is in
     let opened = opened_first next.config (items_of next.carried) engine of.carried head in
-    first_out next.number manifest next.config manner from mid here served.result served.next what it later answered end to answer own none of.serving
+    first_out next.number manifest next.config manner from mid here served.result served.next what it later answered counts end to answer count own none of.serving
     (subst (Appends from mid) (header_front next.config (items_of next.carried) of.carried) put)
     (subst (λ (s : Setup). Continues s (alone manner) [] mid served.result here) (ap (λ (e : NumberedState). e.setup) opened) served.told) served.is_outcome on

@@ -4,6 +4,7 @@ use Rattle.std.specs.Prelude.{MatchOption}
 use Rattle.base.specs.declared.or_memory.OrMemory.{OrMemory}
 use Rattle.base.specs.declared.or_memory.OrMemory.TheVariants.{OutOfMemory, Fault}
 use Rattle.engine_core.specs.ByNumber.{NumberedState}
+use Rattle.host_metrics.specs.Counted.{MetricsState}
 use Rattle.host_live.specs.Inputs.{CameState}
 use Rattle.host_live.specs.Turns.{IsAt, IsSomewhere, Point}
 use Rattle.host_live.specs.declared.lines.Lines.{Lines}
@@ -21,10 +22,10 @@ use Rattle.cli_commands.specs.declared.serving.Outcome.{Outcome}
 use Rattle.cli_commands.specs.declared.serving.Outcome.TheVariants.{Ended, Followed}
 
 -- the same, of what the folder holds and the manifest that is given
-pub starts_so : {MayRead : Reading → Type 0} (manner : Manner) (is_synced : Bool) (held others : Held) (given its : Option (List ℕ)) (old new : Option (List Step)) (began came : Option CameState) (status : ℕ) → others ≡ held → its ≡ given
-    → Starts MayRead manner is_synced others its old began new came status → Starts MayRead manner is_synced held given old began new came status
-starts_so {MayRead = MayRead} manner is_synced held others given its old new began came status same is starts =
-    subst (λ (h : Held). Starts MayRead manner is_synced h given old began new came status) same (subst (λ (o : Option (List ℕ)). Starts MayRead manner is_synced others o old began new came status) is starts)
+pub starts_so : {MayRead : Reading → Type 0} (manner : Manner) (is_synced : Bool) (held others : Held) (given its : Option (List ℕ)) (old new : Option (List Step)) (began came : Option CameState) (before after : MetricsState) (status : ℕ) → others ≡ held → its ≡ given
+    → Starts MayRead manner is_synced others its old began before new came after status → Starts MayRead manner is_synced held given old began before new came after status
+starts_so {MayRead = MayRead} manner is_synced held others given its old new began came before after status same is starts =
+    subst (λ (h : Held). Starts MayRead manner is_synced h given old began before new came after status) same (subst (λ (o : Option (List ℕ)). Starts MayRead manner is_synced others o old began before new came after status) is starts)
 
 fault_some : (fault : JournalFault) → 1 ≤ status_of_fault fault
 fault_some faults.Foreign = omega (arith)
@@ -60,11 +61,11 @@ no_end error status is none = absurd (omega (arith, is_some error status is, non
 -- ---- what is served of an outcome
 
 -- nothing more is served
-pub ended_of : {MayRead : Reading → Type 0} (manner : Manner) (is_synced : Bool) (P : Option (List Step) → Option CameState → ℕ → Type 0) (s : ℕ) (outcome : Outcome) (steps : Option (List Step)) (came : Option CameState) (lines : Lines) (new : Option (List Step)) (last : Option CameState) (status : ℕ) → outcome ≡ Ended s → P steps came s
-    → ServesOn MayRead manner is_synced outcome steps came lines new last status → P new last status
-ended_of manner is_synced P s outcome steps came lines new last status is p (at_its_end own same it its) = let one : s ≡ own = (let bad = is in cc) in subst (λ (n : ℕ). P same it n) one p
-ended_of manner is_synced P s outcome steps came lines new last status is p (not_made next begun later old opened it its error own by opens prepares told) = absurd (let bad : Followed next ≡ Ended s = is in cc)
-ended_of manner is_synced P s outcome steps came lines new last status is p (made next begun later after old opened mid one began it its from more what own by opens prepares served on) = absurd (let bad : Followed next ≡ Ended s = is in cc)
+pub ended_of : {MayRead : Reading → Type 0} (manner : Manner) (is_synced : Bool) (P : Option (List Step) → Option CameState → MetricsState → ℕ → Type 0) (s : ℕ) (outcome : Outcome) (steps : Option (List Step)) (came : Option CameState) (lines : Lines) (before : MetricsState) (new : Option (List Step)) (last : Option CameState) (left : MetricsState) (status : ℕ) → outcome ≡ Ended s → P steps came before s
+    → ServesOn MayRead manner is_synced outcome steps came lines before new last left status → P new last left status
+ended_of manner is_synced P s outcome steps came lines before new last left status is p (at_its_end own same it its counts) = let one : s ≡ own = (let bad = is in cc) in subst (λ (n : ℕ). P same it counts n) one p
+ended_of manner is_synced P s outcome steps came lines before new last left status is p (not_made next begun later old opened it its counts error own by opens prepares told) = absurd (let bad : Followed next ≡ Ended s = is in cc)
+ended_of manner is_synced P s outcome steps came lines before new last left status is p (made next begun later after old opened mid one began it its from more counted counts count what own by opens prepares served on) = absurd (let bad : Followed next ≡ Ended s = is in cc)
 
 -- what holds of one that is no failure
 pub served_if : {A : Type 0} (outcome : Outcome) → A → IfServed outcome A
@@ -86,9 +87,9 @@ at_begun begun point came lines at = record {
 }
 
 -- an engine was served with these lines, from whatever reading the clock began
-pub first_served : {MayRead : Reading → Type 0} (begun : ℕ) (engine : NumberedState) (count : ℕ) (segment : Begun) (own : List ℕ) (manner : Manner) (is_synced : Bool) (owed : Option ℕ) (old : Option (List Step)) (began : Option CameState) (lines then : Lines) (new : Option (List Step)) (came : Option CameState) (later : Lines) (outcome : Outcome)
-    → then ≡ record lines { begun = begun } → IsServedTo MayRead engine count segment own manner is_synced owed old began then new came later outcome → IsServedTo MayRead engine count segment own manner is_synced owed old began lines new came later outcome
-first_served begun engine count segment own manner is_synced owed old began lines then new came later outcome same it = record {
+pub first_served : {MayRead : Reading → Type 0} (begun : ℕ) (engine : NumberedState) (count : ℕ) (segment : Begun) (own : List ℕ) (manner : Manner) (is_synced : Bool) (owed : Option ℕ) (old : Option (List Step)) (began : Option CameState) (lines then : Lines) (before : MetricsState) (new : Option (List Step)) (came : Option CameState) (later : Lines) (after : MetricsState) (outcome : Outcome)
+    → then ≡ record lines { begun = begun } → IsServedTo MayRead engine count segment own manner is_synced owed old began then before new came later after outcome → IsServedTo MayRead engine count segment own manner is_synced owed old began lines before new came later after outcome
+first_served begun engine count segment own manner is_synced owed old began lines then before new came later after outcome same it = record {
   result = it.result;
   next = it.next;
   order = λ point at. it.order point (subst (IsAt point began) (sym same) (at_begun begun point began lines at));
@@ -101,11 +102,11 @@ pub somewhere_begun : (begun : ℕ) (point : Point) (came : Option CameState) (l
 somewhere_begun begun point came lines then same at = (point, subst (IsAt point came) (sym same) (at_begun begun point came lines at))
 
 -- an engine was served with the manifest of these bytes, and owes an answer to this line
-pub owned_served : {MayRead : Reading → Type 0} (engine : NumberedState) (count : ℕ) (segment : Begun) (own its : List ℕ) (manner : Manner) (is_synced : Bool) (n number : ℕ) (old : Option (List Step)) (began : Option CameState) (lines : Lines) (new : Option (List Step)) (came : Option CameState) (later : Lines) (outcome : Outcome)
-    → own ≡ its → n ≡ number → IsServedTo MayRead engine count segment own manner is_synced (Some n) old began lines new came later outcome → IsServedTo MayRead engine count segment its manner is_synced (Some number) old began lines new came later outcome
-owned_served {MayRead = MayRead} engine count segment own its manner is_synced n number old began lines new came later outcome same is it =
-    subst (λ (m : ℕ). IsServedTo MayRead engine count segment its manner is_synced (Some m) old began lines new came later outcome) is
-    (subst (λ (o : List ℕ). IsServedTo MayRead engine count segment o manner is_synced (Some n) old began lines new came later outcome) same it)
+pub owned_served : {MayRead : Reading → Type 0} (engine : NumberedState) (count : ℕ) (segment : Begun) (own its : List ℕ) (manner : Manner) (is_synced : Bool) (n number : ℕ) (old : Option (List Step)) (began : Option CameState) (lines : Lines) (before : MetricsState) (new : Option (List Step)) (came : Option CameState) (later : Lines) (after : MetricsState) (outcome : Outcome)
+    → own ≡ its → n ≡ number → IsServedTo MayRead engine count segment own manner is_synced (Some n) old began lines before new came later after outcome → IsServedTo MayRead engine count segment its manner is_synced (Some number) old began lines before new came later after outcome
+owned_served {MayRead = MayRead} engine count segment own its manner is_synced n number old began lines before new came later after outcome same is it =
+    subst (λ (m : ℕ). IsServedTo MayRead engine count segment its manner is_synced (Some m) old began lines before new came later after outcome) is
+    (subst (λ (o : List ℕ). IsServedTo MayRead engine count segment o manner is_synced (Some n) old began lines before new came later after outcome) same it)
 
 -- ---- the manifest of a segment that was shut
 

@@ -2,7 +2,10 @@
 use Rattle.std.specs.Prelude.{◌≡◌, ◌<◌, ◌≤◌, ◌⊎◌, ◌++◌, [], ℕ, zero, suc, Bool, true, false, List, Option, Some, None, MatchOption, Result, Ok, Err, IfErr, ⊤, codes, decimal, if◌then◌else◌}
 use Rattle.base.specs.declared.or_memory.OrMemory.{OrMemory}
 use Rattle.base.specs.declared.or_memory.OrMemory.TheVariants.{OutOfMemory, Fault}
+use Rattle.world_calls.specs.declared.record.Record.{Record}
+use Rattle.host_metrics.specs.Counted.{MetricsState}
 use Rattle.host_live.specs.Inputs.{CameState, known_of}
+use Rattle.host_live.specs.Metering.{CountsTo}
 use Rattle.host_live.specs.Turns.{IsAt, Point}
 use Rattle.host_live.specs.declared.lines.Lines.{Lines}
 use Rattle.host_live.specs.declared.manner.Manner.{Manner}
@@ -67,14 +70,21 @@ IsOutcome number (Ok false) next outcome = outcome ≡ Ended 0
 IsOutcome number (Ok true) next outcome = HasFollowed number next outcome
 IsOutcome number (Err error) next outcome = (status : ℕ) × (outcome ≡ Ended status) × IsStatus error status
 
+-- ---- what is counted
+
+-- These records were made by an engine that began so, and counted. Of what was reported nothing is said.
+abbrev pub IsCountedFrom : NumberedState → (before after : MetricsState) → List Record → Type 0
+IsCountedFrom engine before after more = CountsTo engine before (λ metrics now. ⊤) after more
+
 -- ---- a segment
 
 -- An engine of this segment, whose manifest has these bytes, and which stands after so many records, was served: no byte went out that is not
--- in the segment, and what was appended continues the history by what the lines that came asked for. If another one is to follow, it is that.
-pub record IsServedTo (MayRead : Reading → Type 0) (engine : NumberedState) (count : ℕ) (begun : Begun) (own : List ℕ) (manner : Manner) (is_synced : Bool) (owed : Option ℕ) (old : Option (List Step)) (began : Option CameState) (lines : Lines) (new : Option (List Step)) (came : Option CameState) (later : Lines) (outcome : Outcome) : Type 0 where
+-- in the segment, what was appended continues the history by what the lines that came asked for, and its records were counted over what was
+-- counted before. If another one is to follow, it is that.
+pub record IsServedTo (MayRead : Reading → Type 0) (engine : NumberedState) (count : ℕ) (begun : Begun) (own : List ℕ) (manner : Manner) (is_synced : Bool) (owed : Option ℕ) (old : Option (List Step)) (began : Option CameState) (lines : Lines) (before : MetricsState) (new : Option (List Step)) (came : Option CameState) (later : Lines) (after : MetricsState) (outcome : Outcome) : Type 0 where
   pub result : Result Bool (OrMemory JournalFault)
   pub next : Option Next
-  pub order : (point : Point) → IsAt point began lines → ServesInOrder engine count manner (MayRefuse MayRead begun.number own) owed point came later (λ how now. IsFollowing MayRead begun.number own how now next) is_synced (first_line begun) old new result
+  pub order : (point : Point) → IsAt point began lines → ServesInOrder engine count manner (MayRefuse MayRead begun.number own) owed point came later (λ how now. IsFollowing MayRead begun.number own how now next) (IsCountedFrom engine before after) is_synced (first_line begun) old new result
   pub stop : IfErr result (MayStop begun.number old new)
   pub is_outcome : IsOutcome begun.number result next outcome
 
@@ -86,14 +96,14 @@ pub record IsBegunBy (next : Next) (begun : Begun) : Type 0 where
   pub carried : begun.carried ≡ next.carried
 
 -- What was served of this outcome: nothing more at its end; or the segment that follows was made, its engine was served, and what was served
--- after that; or it was not made.
-pub data ServesOn (MayRead : Reading → Type 0) (manner : Manner) (is_synced : Bool) : Outcome → (old : Option (List Step)) (began : Option CameState) (lines : Lines) → (new : Option (List Step)) (came : Option CameState) (status : ℕ) → Type 0 where
-  at_its_end : (status : ℕ) (steps : Option (List Step)) (came : Option CameState) (lines : Lines) → ServesOn MayRead manner is_synced (Ended status) steps came lines steps came status
-  not_made : (next : Next) (begun : Begun) (later : Held) (old new : Option (List Step)) (came : Option CameState) (lines : Lines) (error : OrMemory JournalFault) (status : ℕ) → IsBegunBy next begun → Opens begun later old new (Err error) → Prepares begun old (Err error) new
-      → IsStatus error status → ServesOn MayRead manner is_synced (Followed next) old came lines new came status
-  made : (next : Next) (begun : Begun) (later : Held) (after : Recovered) (old opened mid new : Option (List Step)) (began came last : Option CameState) (lines more : Lines) (outcome : Outcome) (status : ℕ) → IsBegunBy next begun → Opens begun later old opened (Ok after) → Prepares begun old (Ok after) opened
-      → IsServedTo MayRead after.engine after.records begun next.bytes.items manner is_synced (Some lines.number) opened began lines mid came more outcome → ServesOn MayRead manner is_synced outcome mid came more new last status
-      → ServesOn MayRead manner is_synced (Followed next) old began lines new last status
+-- after that; or it was not made. An engine's counters go on from those that the one before it left.
+pub data ServesOn (MayRead : Reading → Type 0) (manner : Manner) (is_synced : Bool) : Outcome → (old : Option (List Step)) (began : Option CameState) (lines : Lines) (before : MetricsState) → (new : Option (List Step)) (came : Option CameState) (after : MetricsState) (status : ℕ) → Type 0 where
+  at_its_end : (status : ℕ) (steps : Option (List Step)) (came : Option CameState) (lines : Lines) (counts : MetricsState) → ServesOn MayRead manner is_synced (Ended status) steps came lines counts steps came counts status
+  not_made : (next : Next) (begun : Begun) (later : Held) (old new : Option (List Step)) (came : Option CameState) (lines : Lines) (counts : MetricsState) (error : OrMemory JournalFault) (status : ℕ) → IsBegunBy next begun → Opens begun later old new (Err error) → Prepares begun old (Err error) new
+      → IsStatus error status → ServesOn MayRead manner is_synced (Followed next) old came lines counts new came counts status
+  made : (next : Next) (begun : Begun) (later : Held) (after : Recovered) (old opened mid new : Option (List Step)) (began came last : Option CameState) (lines more : Lines) (before counts left : MetricsState) (outcome : Outcome) (status : ℕ) → IsBegunBy next begun → Opens begun later old opened (Ok after) → Prepares begun old (Ok after) opened
+      → IsServedTo MayRead after.engine after.records begun next.bytes.items manner is_synced (Some lines.number) opened began lines before mid came more counts outcome → ServesOn MayRead manner is_synced outcome mid came more counts new last left status
+      → ServesOn MayRead manner is_synced (Followed next) old began lines before new last left status
 
 -- ---- a start
 
@@ -141,27 +151,27 @@ pub record IsUnfollowed (held : Held) (given : Option (List ℕ)) (number : ℕ)
 
 -- What a start on a journal did, by the steps of its disk, by what of the input came, and by its status, from what the folder held and the
 -- manifest that is given.
-pub data Starts (MayRead : Reading → Type 0) (manner : Manner) (is_synced : Bool) (held : Held) (given : Option (List ℕ)) (old : Option (List Step)) (began : Option CameState) : (new : Option (List Step)) (came : Option CameState) (status : ℕ) → Type 0 where
+pub data Starts (MayRead : Reading → Type 0) (manner : Manner) (is_synced : Bool) (held : Held) (given : Option (List ℕ)) (old : Option (List Step)) (began : Option CameState) (before : MetricsState) : (new : Option (List Step)) (came : Option CameState) (after : MetricsState) (status : ℕ) → Type 0 where
   -- It was refused before a segment was found, and nothing was read.
-  refused : (new : Option (List Step)) (error : OrMemory JournalFault) (status : ℕ) → Fails held given old new error → HasEnteredFor given old new error → IsStatus error status → Starts MayRead manner is_synced held given old began new began status
+  refused : (new : Option (List Step)) (error : OrMemory JournalFault) (status : ℕ) → Fails held given old new error → HasEnteredFor given old new error → IsStatus error status → Starts MayRead manner is_synced held given old began before new began before status
   -- The segment was found, and its manifest could not be read once more. Nothing was read.
-  unread : (begun : Begun) (found new : Option (List Step)) (error : OrMemory JournalFault) (status : ℕ) → Finds held given begun → HasEntered given old found → IsManifestUnread begun.number found error new → IsStatus error status → Starts MayRead manner is_synced held given old began new began status
+  unread : (begun : Begun) (found new : Option (List Step)) (error : OrMemory JournalFault) (status : ℕ) → Finds held given begun → HasEntered given old found → IsManifestUnread begun.number found error new → IsStatus error status → Starts MayRead manner is_synced held given old began before new began before status
   -- The segment was found, and could not be opened. Nothing was read.
   unopened : (begun : Begun) (found new : Option (List Step)) (error : OrMemory JournalFault) (status : ℕ) → Finds held given begun → HasEntered given old found → Opens begun held found new (Err error) → Prepares begun found (Err error) new
-      → IsStatus error status → Starts MayRead manner is_synced held given old began new began status
+      → IsStatus error status → Starts MayRead manner is_synced held given old began before new began before status
   -- It was opened, its engine had not been shut, and was served, and then those that follow it.
-  served : (begun : Begun) (recovered : Recovered) (own : List ℕ) (opened mid new : Option (List Step)) (came last : Option CameState) (lines more : Lines) (outcome : Outcome) (status : ℕ) → HasOpened held given old begun recovered opened → recovered.is_ended ≡ false → IsOwn held begun own → IsFirstLines began lines
-      → IsServedTo MayRead recovered.engine recovered.records begun own manner is_synced None opened began lines mid came more outcome → ServesOn MayRead manner is_synced outcome mid came more new last status → Starts MayRead manner is_synced held given old began new last status
+  served : (begun : Begun) (recovered : Recovered) (own : List ℕ) (opened mid new : Option (List Step)) (came last : Option CameState) (lines more : Lines) (counts left : MetricsState) (outcome : Outcome) (status : ℕ) → HasOpened held given old begun recovered opened → recovered.is_ended ≡ false → IsOwn held begun own → IsFirstLines began lines
+      → IsServedTo MayRead recovered.engine recovered.records begun own manner is_synced None opened began lines before mid came more counts outcome → ServesOn MayRead manner is_synced outcome mid came more counts new last left status → Starts MayRead manner is_synced held given old began before new last left status
   -- Its engine had been shut, and no segment follows it. Nothing was read.
   unfollowed : (begun : Begun) (recovered : Recovered) (opened : Option (List Step)) (error : OrMemory JournalFault) (status : ℕ) → HasOpened held given old begun recovered opened → recovered.is_ended ≡ true
-      → IsUnfollowed held given begun.number recovered.engine error → IsStatus error status → Starts MayRead manner is_synced held given old began opened began status
+      → IsUnfollowed held given begun.number recovered.engine error → IsStatus error status → Starts MayRead manner is_synced held given old began before opened began before status
   -- The next segment was not made. Nothing was read.
   unmade : (next : Begun) (later : Held) (opened new : Option (List Step)) (error : OrMemory JournalFault) (status : ℕ) → HasNext held given old next opened → Opens next later opened new (Err error) → Prepares next opened (Err error) new
-      → IsStatus error status → Starts MayRead manner is_synced held given old began new began status
+      → IsStatus error status → Starts MayRead manner is_synced held given old began before new began before status
   -- It was made, and its engine was served, and then those that follow it.
-  continued : (next : Begun) (later : Held) (after : Recovered) (own : List ℕ) (opened made_so mid new : Option (List Step)) (came last : Option CameState) (lines more : Lines) (outcome : Outcome) (status : ℕ) → HasNext held given old next opened → Opens next later opened made_so (Ok after) → Prepares next opened (Ok after) made_so
-      → IsOfMade next own → IsFirstLines began lines → IsServedTo MayRead after.engine after.records next own manner is_synced None made_so began lines mid came more outcome → ServesOn MayRead manner is_synced outcome mid came more new last status
-      → Starts MayRead manner is_synced held given old began new last status
+  continued : (next : Begun) (later : Held) (after : Recovered) (own : List ℕ) (opened made_so mid new : Option (List Step)) (came last : Option CameState) (lines more : Lines) (counts left : MetricsState) (outcome : Outcome) (status : ℕ) → HasNext held given old next opened → Opens next later opened made_so (Ok after) → Prepares next opened (Ok after) made_so
+      → IsOfMade next own → IsFirstLines began lines → IsServedTo MayRead after.engine after.records next own manner is_synced None made_so began lines before mid came more counts outcome → ServesOn MayRead manner is_synced outcome mid came more counts new last left status
+      → Starts MayRead manner is_synced held given old began before new last left status
 
 -- ---- inside
 

@@ -96,6 +96,8 @@ impl<M: GivenManifest + MetricsFile, E: Write, F: InForce> Reports
 
     ghost may_count = { λ metrics engine. ⊤ };
 
+    ghost has_counted = { λ desk when metrics engine. ⊤ };
+
     fn refused(&mut self, fault: LineFault, line: usize) {
         let _ = match fault {
             LineFault::Form => writeln!(self.err, "camr: N1 at {line}"),

@@ -2,6 +2,7 @@
 // engine follows, and on `journal_reports` for how faults are reported.
 
 ghost use Rattle.std.specs.Prelude.{◌≡◌, ◌≤◌, ℕ, Bool, IsTrue, List, None, Option, false, option_map, true};
+ghost use Rattle.host_metrics.specs.Counted.{MetricsState};
 ghost use Rattle.host_live.specs.Growth.{StandsBehind};
 ghost use Rattle.host_live.specs.Inputs.{CameState};
 ghost use Rattle.host_live.specs.Turns.{IsSomewhere};
@@ -43,8 +44,9 @@ pub fn serve_journal<D: Disk, I: Input, M: GivenManifest + MetricsFile, E: Write
 ) -> (D, u8)
     ensures status { result.1 ≤ 2 }
     // Why it was refused; or which segment was begun or recovered, what the lines of the input led to, which segments followed, and in which
-    // order each segment and standard output were written.
-    ensures starts { Starts M.may_read manner is_synced (D.held disk) (option_map (λ file. file.1.now) manifest.entry) (D.steps disk) (I.came input.old) (D.steps result.0) (I.came input.new) result.1 }
+    // order each segment and standard output were written. The records that each engine made are counted, over what the engine before it left,
+    // and the first engine's over what was given.
+    ensures starts { Starts M.may_read manner is_synced (D.held disk) (option_map (λ file. file.1.now) manifest.entry) (D.steps disk) (I.came input.old) (M.counts given.old) (D.steps result.0) (I.came input.new) (M.counts given.new) result.1 }
     // All of the input was read, and no read failed. Only where lines are answered one of them may end it.
     ensures read { result.1 ≡ 0 → I.has_failed input.new ≡ I.has_failed input.old }
     ensures ended { manner.is_told ≡ false → result.1 ≡ 0 → IsTrue (I.has_ended input.new) }
@@ -109,7 +111,7 @@ fn serve_rest<D: Disk, I: Input, M: GivenManifest + MetricsFile, E: Write>(
     requires stands { IfFollowed outcome (IsSomewhere (I.came input.old) lines.old) }
     requires status { HasStatus outcome }
     ensures status { result.1 ≤ 2 }
-    ensures rest { ServesOn M.may_read terms.entry.manner terms.entry.is_synced outcome (D.steps disk) (I.came input.old) lines.old (D.steps result.0) (I.came input.new) result.1 }
+    ensures rest { ServesOn M.may_read terms.entry.manner terms.entry.is_synced outcome (D.steps disk) (I.came input.old) lines.old (M.counts given.old) (D.steps result.0) (I.came input.new) (M.counts given.new) result.1 }
     ensures read { (failed : Bool) → IfServed outcome (I.has_failed input.old ≡ failed) → result.1 ≡ 0 → I.has_failed input.new ≡ failed }
     ensures ended { terms.entry.manner.is_told ≡ false → IfEnded outcome (IsTrue (I.has_ended input.old)) → result.1 ≡ 0 → IsTrue (I.has_ended input.new) }
 {
@@ -141,7 +143,7 @@ fn serve_next<D: Disk, I: Input, M: GivenManifest + MetricsFile, E: Write>(
     ensures going { IfFollowed result.1 (IsTrue lines.new.is_ended → IsTrue (I.has_ended input.new)) }
     ensures stands { IfFollowed result.1 (IsSomewhere (I.came input.new) lines.new) }
     ensures onward { IsOnward next.number result.1 }
-    ensures rest { (new : Option (List Step)) (last : Option CameState) (status : ℕ) → ServesOn M.may_read terms.entry.manner terms.entry.is_synced result.1 (D.steps result.0) (I.came input.new) lines.new new last status → ServesOn M.may_read terms.entry.manner terms.entry.is_synced (Followed next) (D.steps disk) (I.came input.old) lines.old new last status }
+    ensures rest { (new : Option (List Step)) (last : Option CameState) (left : MetricsState) (status : ℕ) → ServesOn M.may_read terms.entry.manner terms.entry.is_synced result.1 (D.steps result.0) (I.came input.new) lines.new (M.counts given.new) new last left status → ServesOn M.may_read terms.entry.manner terms.entry.is_synced (Followed next) (D.steps disk) (I.came input.old) lines.old (M.counts given.old) new last left status }
 {
     let Next {
         number,
@@ -184,7 +186,7 @@ fn serve_begun<D: Disk, I: Input, M: GivenManifest + MetricsFile, E: Write>(
     ensures ended { terms.entry.manner.is_told ≡ false → IfEnded result.1 (IsTrue (I.has_ended input.new)) }
     ensures going { IfFollowed result.1 (IsTrue lines.new.is_ended → IsTrue (I.has_ended input.new)) }
     ensures stands { IfFollowed result.1 (IsSomewhere (I.came input.new) lines.new) }
-    ensures starts { (held : Held) (old : Option (List Step)) → D.held disk ≡ held → Finds held (option_map (λ bytes. bytes.now) terms.entry.given) begun.now → HasEntered (option_map (λ bytes. bytes.now) terms.entry.given) old (D.steps disk) → (new : Option (List Step)) (last : Option CameState) (status : ℕ) → ServesOn M.may_read terms.entry.manner terms.entry.is_synced result.1 (D.steps result.0) (I.came input.new) lines.new new last status → Starts M.may_read terms.entry.manner terms.entry.is_synced held (option_map (λ bytes. bytes.now) terms.entry.given) old (I.came input.old) new last status }
+    ensures starts { (held : Held) (old : Option (List Step)) → D.held disk ≡ held → Finds held (option_map (λ bytes. bytes.now) terms.entry.given) begun.now → HasEntered (option_map (λ bytes. bytes.now) terms.entry.given) old (D.steps disk) → (new : Option (List Step)) (last : Option CameState) (left : MetricsState) (status : ℕ) → ServesOn M.may_read terms.entry.manner terms.entry.is_synced result.1 (D.steps result.0) (I.came input.new) lines.new (M.counts given.new) new last left status → Starts M.may_read terms.entry.manner terms.entry.is_synced held (option_map (λ bytes. bytes.now) terms.entry.given) old (I.came input.old) (M.counts given.old) new last left status }
 {
     match begun.manifest {
         Some(own) => serve_owned(terms, disk, begun, own, given, input, lines, err),
@@ -210,7 +212,7 @@ fn serve_found<D: Disk, I: Input, M: GivenManifest + MetricsFile, E: Write>(
     ensures ended { terms.entry.manner.is_told ≡ false → IfEnded result.1 (IsTrue (I.has_ended input.new)) }
     ensures going { IfFollowed result.1 (IsTrue lines.new.is_ended → IsTrue (I.has_ended input.new)) }
     ensures stands { IfFollowed result.1 (IsSomewhere (I.came input.new) lines.new) }
-    ensures starts { (held : Held) (old : Option (List Step)) → D.held disk ≡ held → Finds held (option_map (λ bytes. bytes.now) terms.entry.given) begun.now → HasEntered (option_map (λ bytes. bytes.now) terms.entry.given) old (D.steps disk) → (new : Option (List Step)) (last : Option CameState) (status : ℕ) → ServesOn M.may_read terms.entry.manner terms.entry.is_synced result.1 (D.steps result.0) (I.came input.new) lines.new new last status → Starts M.may_read terms.entry.manner terms.entry.is_synced held (option_map (λ bytes. bytes.now) terms.entry.given) old (I.came input.old) new last status }
+    ensures starts { (held : Held) (old : Option (List Step)) → D.held disk ≡ held → Finds held (option_map (λ bytes. bytes.now) terms.entry.given) begun.now → HasEntered (option_map (λ bytes. bytes.now) terms.entry.given) old (D.steps disk) → (new : Option (List Step)) (last : Option CameState) (left : MetricsState) (status : ℕ) → ServesOn M.may_read terms.entry.manner terms.entry.is_synced result.1 (D.steps result.0) (I.came input.new) lines.new (M.counts given.new) new last left status → Starts M.may_read terms.entry.manner terms.entry.is_synced held (option_map (λ bytes. bytes.now) terms.entry.given) old (I.came input.old) (M.counts given.old) new last left status }
 {
     match manifest_of(terms.alloc, &mut disk, begun.number) {
         Ok(own) => serve_owned(terms, disk, begun, own.as_slice(), given, input, lines, err),
@@ -236,7 +238,7 @@ fn serve_owned<D: Disk, I: Input, M: GivenManifest + MetricsFile, E: Write>(
     ensures ended { terms.entry.manner.is_told ≡ false → IfEnded result.1 (IsTrue (I.has_ended input.new)) }
     ensures going { IfFollowed result.1 (IsTrue lines.new.is_ended → IsTrue (I.has_ended input.new)) }
     ensures stands { IfFollowed result.1 (IsSomewhere (I.came input.new) lines.new) }
-    ensures starts { (held : Held) (old : Option (List Step)) → D.held disk ≡ held → IsOwn held begun.now own.now → Finds held (option_map (λ bytes. bytes.now) terms.entry.given) begun.now → HasEntered (option_map (λ bytes. bytes.now) terms.entry.given) old (D.steps disk) → (new : Option (List Step)) (last : Option CameState) (status : ℕ) → ServesOn M.may_read terms.entry.manner terms.entry.is_synced result.1 (D.steps result.0) (I.came input.new) lines.new new last status → Starts M.may_read terms.entry.manner terms.entry.is_synced held (option_map (λ bytes. bytes.now) terms.entry.given) old (I.came input.old) new last status }
+    ensures starts { (held : Held) (old : Option (List Step)) → D.held disk ≡ held → IsOwn held begun.now own.now → Finds held (option_map (λ bytes. bytes.now) terms.entry.given) begun.now → HasEntered (option_map (λ bytes. bytes.now) terms.entry.given) old (D.steps disk) → (new : Option (List Step)) (last : Option CameState) (left : MetricsState) (status : ℕ) → ServesOn M.may_read terms.entry.manner terms.entry.is_synced result.1 (D.steps result.0) (I.came input.new) lines.new (M.counts given.new) new last left status → Starts M.may_read terms.entry.manner terms.entry.is_synced held (option_map (λ bytes. bytes.now) terms.entry.given) old (I.came input.old) (M.counts given.old) new last left status }
 {
     match open(terms.alloc, &mut disk, begun) {
         Ok(recovered) => serve_opened(terms, disk, begun, own, recovered, given, input, lines, err),
@@ -265,7 +267,7 @@ fn serve_opened<D: Disk, I: Input, M: GivenManifest + MetricsFile, E: Write>(
     ensures ended { terms.entry.manner.is_told ≡ false → IfEnded result.1 (IsTrue (I.has_ended input.new)) }
     ensures going { IfFollowed result.1 (IsTrue lines.new.is_ended → IsTrue (I.has_ended input.new)) }
     ensures stands { IfFollowed result.1 (IsSomewhere (I.came input.new) lines.new) }
-    ensures starts { (held : Held) (old : Option (List Step)) → IsOwn held begun.now own.now → HasOpened held (option_map (λ bytes. bytes.now) terms.entry.given) old begun.now recovered.entry (D.steps disk) → (new : Option (List Step)) (last : Option CameState) (status : ℕ) → ServesOn M.may_read terms.entry.manner terms.entry.is_synced result.1 (D.steps result.0) (I.came input.new) lines.new new last status → Starts M.may_read terms.entry.manner terms.entry.is_synced held (option_map (λ bytes. bytes.now) terms.entry.given) old (I.came input.old) new last status }
+    ensures starts { (held : Held) (old : Option (List Step)) → IsOwn held begun.now own.now → HasOpened held (option_map (λ bytes. bytes.now) terms.entry.given) old begun.now recovered.entry (D.steps disk) → (new : Option (List Step)) (last : Option CameState) (left : MetricsState) (status : ℕ) → ServesOn M.may_read terms.entry.manner terms.entry.is_synced result.1 (D.steps result.0) (I.came input.new) lines.new (M.counts given.new) new last left status → Starts M.may_read terms.entry.manner terms.entry.is_synced held (option_map (λ bytes. bytes.now) terms.entry.given) old (I.came input.old) (M.counts given.old) new last left status }
 {
     if recovered.is_ended {
         return serve_after(
@@ -299,7 +301,7 @@ fn serve_first<D: Disk, I: Input, M: GivenManifest + MetricsFile, E: Write>(
     ensures ended { terms.entry.manner.is_told ≡ false → IfEnded result.1 (IsTrue (I.has_ended input.new)) }
     ensures going { IfFollowed result.1 (IsTrue lines.new.is_ended → IsTrue (I.has_ended input.new)) }
     ensures stands { IfFollowed result.1 (IsSomewhere (I.came input.new) lines.new) }
-    ensures served { IsServedTo M.may_read recovered.entry.engine recovered.entry.records begun.now own.now terms.entry.manner terms.entry.is_synced None (D.steps disk) (I.came input.old) lines.old (D.steps result.0) (I.came input.new) lines.new result.1 }
+    ensures served { IsServedTo M.may_read recovered.entry.engine recovered.entry.records begun.now own.now terms.entry.manner terms.entry.is_synced None (D.steps disk) (I.came input.old) lines.old (M.counts given.old) (D.steps result.0) (I.came input.new) lines.new (M.counts given.new) result.1 }
 {
     lines.begin_at(recovered.engine.clock());
     serve_engine(
@@ -330,7 +332,7 @@ fn serve_engine<D: Disk, I: Input, M: GivenManifest + MetricsFile, E: Write>(
     ensures going { IfFollowed result.1 (IsTrue lines.new.is_ended → IsTrue (I.has_ended input.new)) }
     ensures stands { IfFollowed result.1 (IsSomewhere (I.came input.new) lines.new) }
     ensures onward { IsOnward begun.now.number result.1 }
-    ensures served { IsServedTo M.may_read recovered.entry.engine recovered.entry.records begun.now own.now terms.entry.manner terms.entry.is_synced owed (D.steps disk) (I.came input.old) lines.old (D.steps result.0) (I.came input.new) lines.new result.1 }
+    ensures served { IsServedTo M.may_read recovered.entry.engine recovered.entry.records begun.now own.now terms.entry.manner terms.entry.is_synced owed (D.steps disk) (I.came input.old) lines.old (M.counts given.old) (D.steps result.0) (I.came input.new) lines.new (M.counts given.new) result.1 }
 {
     serve_under::<Brand, D, I, M, E>(
         terms, disk, begun, own, recovered, owed, given, input, lines, err,
@@ -362,7 +364,7 @@ fn serve_under<F: InForce, D: Disk, I: Input, M: GivenManifest + MetricsFile, E:
     ensures going { IfFollowed result.1 (IsTrue lines.new.is_ended → IsTrue (I.has_ended input.new)) }
     ensures stands { IfFollowed result.1 (IsSomewhere (I.came input.new) lines.new) }
     ensures onward { IsOnward begun.now.number result.1 }
-    ensures served { IsServedTo M.may_read recovered.entry.engine recovered.entry.records begun.now own.now terms.entry.manner terms.entry.is_synced owed (D.steps disk) (I.came input.old) lines.old (D.steps result.0) (I.came input.new) lines.new result.1 }
+    ensures served { IsServedTo M.may_read recovered.entry.engine recovered.entry.records begun.now own.now terms.entry.manner terms.entry.is_synced owed (D.steps disk) (I.came input.old) lines.old (M.counts given.old) (D.steps result.0) (I.came input.new) lines.new (M.counts given.new) result.1 }
 {
     let mut metrics = taken_metrics(terms.alloc, given, own, err);
     let mut desk: Desk<M, E, F> = Desk {
@@ -449,7 +451,7 @@ fn serve_after<D: Disk, I: Input, M: GivenManifest + MetricsFile, E: Write>(
     ensures ended { terms.entry.manner.is_told ≡ false → IfEnded result.1 (IsTrue (I.has_ended input.new)) }
     ensures going { IfFollowed result.1 (IsTrue lines.new.is_ended → IsTrue (I.has_ended input.new)) }
     ensures stands { IfFollowed result.1 (IsSomewhere (I.came input.new) lines.new) }
-    ensures starts { (held : Held) (old : Option (List Step)) → IsOwn held begun.now own.now → HasOpened held (option_map (λ bytes. bytes.now) terms.entry.given) old begun.now recovered.now (D.steps disk) → (new : Option (List Step)) (last : Option CameState) (status : ℕ) → ServesOn M.may_read terms.entry.manner terms.entry.is_synced result.1 (D.steps result.0) (I.came input.new) lines.new new last status → Starts M.may_read terms.entry.manner terms.entry.is_synced held (option_map (λ bytes. bytes.now) terms.entry.given) old (I.came input.old) new last status }
+    ensures starts { (held : Held) (old : Option (List Step)) → IsOwn held begun.now own.now → HasOpened held (option_map (λ bytes. bytes.now) terms.entry.given) old begun.now recovered.now (D.steps disk) → (new : Option (List Step)) (last : Option CameState) (left : MetricsState) (status : ℕ) → ServesOn M.may_read terms.entry.manner terms.entry.is_synced result.1 (D.steps result.0) (I.came input.new) lines.new (M.counts given.new) new last left status → Starts M.may_read terms.entry.manner terms.entry.is_synced held (option_map (λ bytes. bytes.now) terms.entry.given) old (I.came input.old) (M.counts given.old) new last left status }
 {
     match terms.given {
         Some(bytes) => {
@@ -487,7 +489,7 @@ fn serve_following<D: Disk, I: Input, M: GivenManifest + MetricsFile, E: Write>(
     ensures ended { terms.entry.manner.is_told ≡ false → IfEnded result.1 (IsTrue (I.has_ended input.new)) }
     ensures going { IfFollowed result.1 (IsTrue lines.new.is_ended → IsTrue (I.has_ended input.new)) }
     ensures stands { IfFollowed result.1 (IsSomewhere (I.came input.new) lines.new) }
-    ensures starts { (held : Held) (old : Option (List Step)) → IsNextGiven (option_map (λ bytes. bytes.now) terms.entry.given) (held.manifests begun.now.number) manifest.entry → HasOpened held (option_map (λ bytes. bytes.now) terms.entry.given) old begun.now recovered.now (D.steps disk) → (new : Option (List Step)) (last : Option CameState) (status : ℕ) → ServesOn M.may_read terms.entry.manner terms.entry.is_synced result.1 (D.steps result.0) (I.came input.new) lines.new new last status → Starts M.may_read terms.entry.manner terms.entry.is_synced held (option_map (λ bytes. bytes.now) terms.entry.given) old (I.came input.old) new last status }
+    ensures starts { (held : Held) (old : Option (List Step)) → IsNextGiven (option_map (λ bytes. bytes.now) terms.entry.given) (held.manifests begun.now.number) manifest.entry → HasOpened held (option_map (λ bytes. bytes.now) terms.entry.given) old begun.now recovered.now (D.steps disk) → (new : Option (List Step)) (last : Option CameState) (left : MetricsState) (status : ℕ) → ServesOn M.may_read terms.entry.manner terms.entry.is_synced result.1 (D.steps result.0) (I.came input.new) lines.new (M.counts given.new) new last left status → Starts M.may_read terms.entry.manner terms.entry.is_synced held (option_map (λ bytes. bytes.now) terms.entry.given) old (I.came input.old) (M.counts given.old) new last left status }
 {
     let engine = &recovered.engine;
     match follow(terms.alloc, begun.number, engine, manifest, Numbering::Same) {
@@ -523,7 +525,7 @@ fn serve_made<D: Disk, I: Input, M: GivenManifest + MetricsFile, E: Write>(
     ensures ended { terms.entry.manner.is_told ≡ false → IfEnded result.1 (IsTrue (I.has_ended input.new)) }
     ensures going { IfFollowed result.1 (IsTrue lines.new.is_ended → IsTrue (I.has_ended input.new)) }
     ensures stands { IfFollowed result.1 (IsSomewhere (I.came input.new) lines.new) }
-    ensures starts { (held : Held) (old : Option (List Step)) → IsOfMade next.now own.now → HasNext held (option_map (λ bytes. bytes.now) terms.entry.given) old next.now (D.steps disk) → (new : Option (List Step)) (last : Option CameState) (status : ℕ) → ServesOn M.may_read terms.entry.manner terms.entry.is_synced result.1 (D.steps result.0) (I.came input.new) lines.new new last status → Starts M.may_read terms.entry.manner terms.entry.is_synced held (option_map (λ bytes. bytes.now) terms.entry.given) old (I.came input.old) new last status }
+    ensures starts { (held : Held) (old : Option (List Step)) → IsOfMade next.now own.now → HasNext held (option_map (λ bytes. bytes.now) terms.entry.given) old next.now (D.steps disk) → (new : Option (List Step)) (last : Option CameState) (left : MetricsState) (status : ℕ) → ServesOn M.may_read terms.entry.manner terms.entry.is_synced result.1 (D.steps result.0) (I.came input.new) lines.new (M.counts given.new) new last left status → Starts M.may_read terms.entry.manner terms.entry.is_synced held (option_map (λ bytes. bytes.now) terms.entry.given) old (I.came input.old) (M.counts given.old) new last left status }
 {
     match open(terms.alloc, &mut disk, next) {
         Ok(recovered) => {

@@ -1,6 +1,8 @@
 // Where what is counted of live engines goes. It relies on `host_metrics` for counters and their text, and on `host_live` for when they are
 // reported.
 
+ghost use Rattle.std.specs.Prelude.{◌≡◌};
+
 use crate::fault::Fault;
 use engine_core::NumberedEngine;
 use host_live::Moment;
@@ -17,19 +19,28 @@ pub enum MetricsUnwritten {
     Still,
 }
 
-/// The file in which what is counted stands, and the counters between an engine and the one that follows it.
+/// The file in which what is counted stands, and the counters between an engine and the one that follows it. Contracts see these counters.
 pub trait MetricsFile {
+    ghost use Rattle.std.specs.Prelude.{◌≡◌};
+    ghost use Rattle.host_metrics.specs.Counted.{MetricsState};
+
+    ghost counts: { Self → MetricsState };
+
     /// Takes the counters that go on from the engine before. If no file is asked for, they count nothing.
-    fn take_metrics(&mut self, alloc: Global) -> Metrics;
+    fn take_metrics(&mut self, alloc: Global) -> Metrics
+        ensures { result ≡ counts self.old };
 
     /// Keeps the counters for the engine that follows.
-    fn keep_metrics(&mut self, metrics: Metrics);
+    fn keep_metrics(&mut self, metrics: Metrics)
+        ensures { counts self.new ≡ metrics };
 
     /// Whether what is counted is to be written at that moment.
-    fn is_due(&mut self, when: Moment) -> bool;
+    fn is_due(&mut self, when: Moment) -> bool
+        ensures { counts self.new ≡ counts self.old };
 
     /// Writes that text in the place of the file; none if memory was refused for it, and then nothing is written.
-    fn write_metrics(&mut self, text: Option<&str>) -> Result<(), MetricsUnwritten>;
+    fn write_metrics(&mut self, text: Option<&str>) -> Result<(), MetricsUnwritten>
+        ensures { counts self.new ≡ counts self.old };
 
     /// The path of the file.
     fn metrics_path(&self) -> &str;
@@ -71,7 +82,9 @@ pub(crate) fn taken_metrics<M: MetricsFile, E: Write>(
     file: &mut M,
     manifest: &[u8],
     err: &mut E,
-) -> Metrics {
+) -> Metrics
+    ensures { result ≡ M.counts file.old }
+{
     let mut metrics = file.take_metrics(alloc);
     if metrics.is_on() && metrics.name_programs(alloc, manifest).is_err() {
         let _ = Fault::OutOfMemory.report(err);

@@ -5,6 +5,7 @@ ghost use Rattle.std.specs.Prelude.{◌≡◌, ◌≢◌, ◌≤◌, [], false, 
 ghost use Rattle.std.specs.Io.KnownBytes.{Appends, Keeps};
 ghost use Rattle.engine_core.specs.ByNumber.{IsBehind};
 ghost use Rattle.trace.specs.Growing.{IsFront};
+ghost use Rattle.host_metrics.specs.Counted.{MetricsState};
 ghost use Rattle.whole_trace.specs.Continued.{items_of};
 ghost use Rattle.host_live.specs.Answering.{Answer};
 ghost use Rattle.host_live.specs.Inputs.{CameState};
@@ -60,8 +61,9 @@ pub fn serve<I: Input, S: Outlet, M: GivenManifest + MetricsFile, E: Write>(
     ensures no_text { ¬ (IsUtf8 manifest.entry.1.now) → result ≡ 2 }
     ensures done { result ≡ 0 → IsManifest manifest.entry.1.now }
     // All that went out is the trace of an engine of the manifest, and of each engine that followed, by what the lines that came asked for, one
-    // by one; and each was answered so. Where it stopped, it is a front of that.
-    ensures served { ServedAlone M.may_read manifest.entry.1.now manner (I.came input.old) (I.came input.new) (S.bytes out.old) (S.answers out.old) (S.bytes out.new) (S.answers out.new) result }
+    // by one; and each was answered so. Where it stopped, it is a front of that. The records of each engine are counted, over what the engine
+    // before it left, and the first engine's over what was given.
+    ensures served { ServedAlone M.may_read manifest.entry.1.now manner (I.came input.old) (M.counts given.old) (I.came input.new) (S.bytes out.old) (S.answers out.old) (S.bytes out.new) (S.answers out.new) (M.counts given.new) result }
     // A replay over the manifest accepts what went out first.
     ensures accepted { result ≡ 0 → IsTraceFirst manifest.entry.1.now (S.bytes out.old) (S.bytes out.new) }
     // It is at its end only if no read failed, and all of the input was read, or where lines are answered one of them ended it.
@@ -121,7 +123,7 @@ fn serve_all<I: Input, S: Outlet, M: GivenManifest + MetricsFile, E: Write>(
     err: &mut E,
 ) -> u8
     ensures status { (result ≤ 2) × (result ≢ 1) }
-    ensures served { (lines : TheLines) × IsFirstLines (I.came input.old) lines × GoesAlone M.may_read manner (Followed first) (I.came input.old) lines (S.bytes out.old) (S.answers out.old) (I.came input.new) (S.bytes out.new) (S.answers out.new) result }
+    ensures served { (lines : TheLines) × IsFirstLines (I.came input.old) lines × GoesAlone M.may_read manner (Followed first) (I.came input.old) lines (S.bytes out.old) (S.answers out.old) (M.counts given.old) (I.came input.new) (S.bytes out.new) (S.answers out.new) (M.counts given.new) result }
     ensures read { result ≡ 0 → I.has_failed input.new ≡ I.has_failed input.old }
     ensures ended { manner.is_told ≡ false → result ≡ 0 → IsTrue (I.has_ended input.new) }
 {
@@ -156,7 +158,7 @@ fn serve_next<I: Input, S: Outlet, M: GivenManifest + MetricsFile, E: Write>(
     ensures going { IfFollowed result (IsTrue lines.new.is_ended → IsTrue (I.has_ended input.new)) }
     ensures stands { IfFollowed result (IsSomewhere (I.came input.new) lines.new) }
     ensures onward { IsOnward next.number result }
-    ensures rest { (last : Option CameState) (at : Option (List ℕ)) (told : Option (List Answer)) (status : ℕ) → GoesAlone M.may_read manner result (I.came input.new) lines.new (S.bytes out.new) (S.answers out.new) last at told status → GoesAlone M.may_read manner (Followed next) (I.came input.old) lines.old (S.bytes out.old) (S.answers out.old) last at told status }
+    ensures rest { (last : Option CameState) (at : Option (List ℕ)) (told : Option (List Answer)) (left : MetricsState) (status : ℕ) → GoesAlone M.may_read manner result (I.came input.new) lines.new (S.bytes out.new) (S.answers out.new) (M.counts given.new) last at told left status → GoesAlone M.may_read manner (Followed next) (I.came input.old) lines.old (S.bytes out.old) (S.answers out.old) (M.counts given.old) last at told left status }
 {
     let Next {
         number,
@@ -246,7 +248,7 @@ fn serve_begun<I: Input, S: Outlet, M: GivenManifest + MetricsFile, E: Write>(
     ensures going { IfFollowed result (IsTrue lines.new.is_ended → IsTrue (I.has_ended input.new)) }
     ensures stands { IfFollowed result (IsSomewhere (I.came input.new) lines.new) }
     ensures onward { IsOnward begun.now.number result }
-    ensures served { IsServedFrom M.may_read begun.now.number own.now engine.entry manner (owed_of (items_of begun.now.carried) lines.old.number) (I.came input.old) lines.old (S.bytes out.old) (S.answers out.old) (I.came input.new) lines.new (S.bytes out.new) (S.answers out.new) result }
+    ensures served { IsServedFrom M.may_read begun.now.number own.now engine.entry manner (owed_of (items_of begun.now.carried) lines.old.number) (I.came input.old) lines.old (S.bytes out.old) (S.answers out.old) (M.counts given.old) (I.came input.new) lines.new (S.bytes out.new) (S.answers out.new) (M.counts given.new) result }
 {
     serve_under::<Brand, I, S, M, E>(
         place, begun, own, engine, manner, given, input, lines, out, err,
@@ -277,7 +279,7 @@ fn serve_under<F: InForce, I: Input, S: Outlet, M: GivenManifest + MetricsFile, 
     ensures going { IfFollowed result (IsTrue lines.new.is_ended → IsTrue (I.has_ended input.new)) }
     ensures stands { IfFollowed result (IsSomewhere (I.came input.new) lines.new) }
     ensures onward { IsOnward begun.now.number result }
-    ensures served { IsServedFrom M.may_read begun.now.number own.now engine.entry manner (owed_of (items_of begun.now.carried) lines.old.number) (I.came input.old) lines.old (S.bytes out.old) (S.answers out.old) (I.came input.new) lines.new (S.bytes out.new) (S.answers out.new) result }
+    ensures served { IsServedFrom M.may_read begun.now.number own.now engine.entry manner (owed_of (items_of begun.now.carried) lines.old.number) (I.came input.old) lines.old (S.bytes out.old) (S.answers out.old) (M.counts given.old) (I.came input.new) lines.new (S.bytes out.new) (S.answers out.new) (M.counts given.new) result }
 {
     let alone = Manner {
         is_stepped: manner.is_stepped,

@@ -83,9 +83,11 @@ impl Input for Once {
     }
 }
 
-/// The manifest, which does not change.
+/// The manifest, which does not change, and the counters between engines.
 #[derive(Drop)]
-struct SameManifest;
+struct SameManifest {
+    counted: Option<Metrics>,
+}
 
 impl GivenManifest for SameManifest {
     ghost use Rattle.std.specs.Prelude.{⊤};
@@ -101,11 +103,20 @@ impl GivenManifest for SameManifest {
 }
 
 impl MetricsFile for SameManifest {
+    ghost use Rattle.host_metrics.specs.Counted.{counts_in};
+
+    ghost counts = { λ same. counts_in same.counted };
+
     fn take_metrics(&mut self, alloc: Global) -> Metrics {
-        Metrics::none(alloc)
+        match self.counted.take() {
+            Some(metrics) => metrics,
+            None => Metrics::none(alloc),
+        }
     }
 
-    fn keep_metrics(&mut self, _metrics: Metrics) {}
+    fn keep_metrics(&mut self, metrics: Metrics) {
+        self.counted = Some(metrics);
+    }
 
     fn is_due(&mut self, _when: Moment) -> bool {
         false
@@ -138,7 +149,7 @@ fn served(alloc: Global, disk: Memory, input: &'static [u8], is_synced: bool) ->
         manifest,
         manner,
         is_synced,
-        &mut SameManifest,
+        &mut SameManifest { counted: None },
         &mut input,
         &mut err,
     )

@@ -87,9 +87,11 @@ impl Input for Late<'_> {
     }
 }
 
-/// No manifest that could be read again.
+/// No manifest that could be read again, and the counters between engines.
 #[derive(Drop)]
-struct NoManifest;
+struct NoManifest {
+    counted: Option<Metrics>,
+}
 
 impl GivenManifest for NoManifest {
     ghost use Rattle.std.specs.Prelude.{◌≡◌};
@@ -103,11 +105,20 @@ impl GivenManifest for NoManifest {
 }
 
 impl MetricsFile for NoManifest {
+    ghost use Rattle.host_metrics.specs.Counted.{counts_in};
+
+    ghost counts = { λ none. counts_in none.counted };
+
     fn take_metrics(&mut self, alloc: Global) -> Metrics {
-        Metrics::none(alloc)
+        match self.counted.take() {
+            Some(metrics) => metrics,
+            None => Metrics::none(alloc),
+        }
     }
 
-    fn keep_metrics(&mut self, _metrics: Metrics) {}
+    fn keep_metrics(&mut self, metrics: Metrics) {
+        self.counted = Some(metrics);
+    }
 
     fn is_due(&mut self, _when: Moment) -> bool {
         false
@@ -144,7 +155,7 @@ pub fn a_clock_beyond_the_last_reading(alloc: Global) -> bool {
             is_clocked: true,
             is_kept: false,
         },
-        &mut NoManifest,
+        &mut NoManifest { counted: None },
         &mut input,
         &mut WriterSink::new(&mut out),
         &mut err,

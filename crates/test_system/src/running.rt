@@ -180,7 +180,9 @@ impl<'a> Again<'a> {
     }
 
     // Keeps the text in the place of the one before.
-    fn keep(&mut self, text: &str) -> bool {
+    fn keep(&mut self, text: &str) -> bool
+        ensures { self.new.counted ≡ self.old.counted }
+    {
         self.text.clear();
         !self.metrics_path().starts_with("missing/")
             && self.text.extend_from_slice(text.as_bytes()).is_ok()
@@ -188,6 +190,10 @@ impl<'a> Again<'a> {
 }
 
 impl MetricsFile for Again<'_> {
+    ghost use Rattle.host_metrics.specs.Counted.{counts_in};
+
+    ghost counts = { λ again. counts_in again.counted };
+
     fn take_metrics(&mut self, alloc: Global) -> Metrics {
         match self.counted.take() {
             Some(metrics) => metrics,

@@ -15,6 +15,6 @@ returns-in-Ok-clause-starts g c = λ held old same finds entered.
     finds (subst (HasEntered (option_map (λ bytes. bytes.now) c.args.terms.given) old) (sym c.in-Ok.ensures.steps) entered)
 
 pub returns-in-Err-clause-starts : goal.returns-in-Err-clause-starts
-returns-in-Err-clause-starts g c = λ held old same finds entered new last status on.
-    ended_of c.args.terms.manner c.args.terms.is_synced (Starts g.M.GivenManifest.may_read c.args.terms.manner c.args.terms.is_synced held (option_map (λ bytes. bytes.now) c.args.terms.given) old (g.I.Input.came c.args.input.now)) c.report.result (Ended c.report.result) _ _ c.args.lines.now new last status refl
+returns-in-Err-clause-starts g c = λ held old same finds entered new last left status on.
+    ended_of c.args.terms.manner c.args.terms.is_synced (Starts g.M.GivenManifest.may_read c.args.terms.manner c.args.terms.is_synced held (option_map (λ bytes. bytes.now) c.args.terms.given) old (g.I.Input.came c.args.input.now) (g.M.MetricsFile.counts c.args.given.now)) c.report.result (Ended c.report.result) _ _ c.args.lines.now _ new last left status refl
     (unread c.args.begun.now (g.D.Disk.steps c.args.disk) (g.D.Disk.steps c.manifest_of.new.disk) c.in-Err.fault c.report.result finds entered c.in-Err.ensures.steps c.report.ensures) on

@@ -5,12 +5,12 @@ use Rattle.cli_commands.proofs.journaling.serve_journal.Goals as goal
 
 pub returns-in-Ok-clause-starts : goal.returns-in-Ok-clause-starts
 returns-in-Ok-clause-starts g c =
-    starts_so c.args.manner c.args.is_synced (g.D.Disk.held c.args.disk) (g.D.Disk.held c.begin.new.disk) _ _ (g.D.Disk.steps c.args.disk) (g.D.Disk.steps c.serve_rest.result.0) _ _ c.serve_rest.result.1 c.begin.ensures.held c.bytes_of.ensures
-    (c.serve_begun-disk.ensures.starts (g.D.Disk.held c.begin.new.disk) (g.D.Disk.steps c.args.disk) refl c.in-Ok.ensures.found c.in-Ok.ensures.steps _ _ _ c.serve_rest.ensures.rest)
+    starts_so c.args.manner c.args.is_synced (g.D.Disk.held c.args.disk) (g.D.Disk.held c.begin.new.disk) _ _ (g.D.Disk.steps c.args.disk) (g.D.Disk.steps c.serve_rest.result.0) _ _ _ _ c.serve_rest.result.1 c.begin.ensures.held c.bytes_of.ensures
+    (c.serve_begun-disk.ensures.starts (g.D.Disk.held c.begin.new.disk) (g.D.Disk.steps c.args.disk) refl c.in-Ok.ensures.found c.in-Ok.ensures.steps _ _ _ _ c.serve_rest.ensures.rest)
 
 pub returns-in-Err-clause-starts : goal.returns-in-Err-clause-starts
 returns-in-Err-clause-starts g c =
-    starts_so c.args.manner c.args.is_synced (g.D.Disk.held c.args.disk) (g.D.Disk.held c.begin.new.disk) _ _ (g.D.Disk.steps c.args.disk) (g.D.Disk.steps c.begin.new.disk) _ _ c.report.result c.begin.ensures.held c.bytes_of.ensures
+    starts_so c.args.manner c.args.is_synced (g.D.Disk.held c.args.disk) (g.D.Disk.held c.begin.new.disk) _ _ (g.D.Disk.steps c.args.disk) (g.D.Disk.steps c.begin.new.disk) _ _ _ _ c.report.result c.begin.ensures.held c.bytes_of.ensures
     (refused _ c.in-Err.fault _ c.in-Err.ensures.refused c.in-Err.ensures.steps c.report.ensures)
 
 pub returns-in-Err-clause-read : goal.returns-in-Err-clause-read

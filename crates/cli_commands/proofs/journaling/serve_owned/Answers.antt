@@ -19,6 +19,6 @@ returns-in-Ok-clause-starts g c = λ held old same own finds entered.
     })
 
 pub returns-in-Err-clause-starts : goal.returns-in-Err-clause-starts
-returns-in-Err-clause-starts g c = λ held old same own finds entered new last status on.
-    ended_of c.args.terms.manner c.args.terms.is_synced (Starts g.M.GivenManifest.may_read c.args.terms.manner c.args.terms.is_synced held (option_map (λ bytes. bytes.now) c.args.terms.given) old (g.I.Input.came c.args.input.now)) c.report.result (Ended c.report.result) _ _ c.args.lines.now new last status refl
+returns-in-Err-clause-starts g c = λ held old same own finds entered new last left status on.
+    ended_of c.args.terms.manner c.args.terms.is_synced (Starts g.M.GivenManifest.may_read c.args.terms.manner c.args.terms.is_synced held (option_map (λ bytes. bytes.now) c.args.terms.given) old (g.I.Input.came c.args.input.now) (g.M.MetricsFile.counts c.args.given.now)) c.report.result (Ended c.report.result) _ _ c.args.lines.now _ new last left status refl
     (unopened c.args.begun.now (g.D.Disk.steps c.args.disk) (g.D.Disk.steps c.open.new.disk) c.in-Err.fault c.report.result finds entered (subst (λ (h : Held). Opens c.args.begun.now h (g.D.Disk.steps c.args.disk) (g.D.Disk.steps c.open.new.disk) (Err c.in-Err.fault)) same c.in-Err.ensures.opens) c.in-Err.ensures.steps c.report.ensures) on

@@ -1,6 +1,7 @@
 -- what was served so far
 use Rattle.std.proofs.Common.{◌≡◌, ℕ, Bool, false, List, Option}
 use Rattle.std.specs.Prelude.{◌+◌, ◌-◌, ◌^◌, IsTrue}
+use Rattle.host_metrics.specs.Counted.{MetricsState}
 use Rattle.host_live.specs.Inputs.{CameState}
 use Rattle.host_live.specs.Turns.{IsSomewhere}
 use Rattle.host_journal.specs.Disks.{Step}
@@ -11,8 +12,8 @@ use Rattle.cli_commands.proofs.journaling.serve_rest.Given as goal
 
 abbrev pub invariant-loop-outcome : goal.invariant-loop-outcome
 invariant-loop-outcome g l = record {
-  rest : (new : Option (List Step)) (last : Option CameState) (status : ℕ) → ServesOn g.M.GivenManifest.may_read l.terms.manner l.terms.is_synced l.outcome (g.D.Disk.steps l.disk) (g.I.Input.came l.input) l.lines new last status
-      → ServesOn g.M.GivenManifest.may_read l.terms.manner l.terms.is_synced l.fn.outcome (g.D.Disk.steps l.fn.disk) (g.I.Input.came l.fn.input) l.fn.lines new last status;
+  rest : (new : Option (List Step)) (last : Option CameState) (left : MetricsState) (status : ℕ) → ServesOn g.M.GivenManifest.may_read l.terms.manner l.terms.is_synced l.outcome (g.D.Disk.steps l.disk) (g.I.Input.came l.input) l.lines (g.M.MetricsFile.counts l.given) new last left status
+      → ServesOn g.M.GivenManifest.may_read l.terms.manner l.terms.is_synced l.fn.outcome (g.D.Disk.steps l.fn.disk) (g.I.Input.came l.fn.input) l.fn.lines (g.M.MetricsFile.counts l.fn.given) new last left status;
   going : IfFollowed l.outcome (IsTrue l.lines.is_ended → IsTrue (g.I.Input.has_ended l.input));
   stands : IfFollowed l.outcome (IsSomewhere (g.I.Input.came l.input) l.lines);
   status : HasStatus l.outcome;

@@ -1,6 +1,7 @@
 -- what was served so far
 use Rattle.std.proofs.Common.{◌≡◌, ℕ, false, List, Option}
 use Rattle.std.specs.Prelude.{◌+◌, ◌-◌, ◌^◌, IsTrue}
+use Rattle.host_metrics.specs.Counted.{MetricsState}
 use Rattle.host_live.specs.Answering.{Answer}
 use Rattle.host_live.specs.Inputs.{CameState}
 use Rattle.host_live.specs.Turns.{IsSomewhere}
@@ -13,8 +14,8 @@ use Rattle.cli_commands.proofs.serving.serve_all.Given as goal
 
 abbrev pub invariant-loop-outcome : goal.invariant-loop-outcome
 invariant-loop-outcome g l = record {
-  rest : (lines : Lines) × IsFirstLines (g.I.Input.came l.fn.input) lines × ((last : Option CameState) (at : Option (List ℕ)) (told : Option (List Answer)) (status : ℕ) → GoesAlone g.M.GivenManifest.may_read l.manner l.outcome (g.I.Input.came l.input) l.lines (g.S.Outlet.bytes l.out) (g.S.Outlet.answers l.out) last at told status
-      → GoesAlone g.M.GivenManifest.may_read l.manner (Followed l.fn.first) (g.I.Input.came l.fn.input) lines (g.S.Outlet.bytes l.fn.out) (g.S.Outlet.answers l.fn.out) last at told status);
+  rest : (lines : Lines) × IsFirstLines (g.I.Input.came l.fn.input) lines × ((last : Option CameState) (at : Option (List ℕ)) (told : Option (List Answer)) (left : MetricsState) (status : ℕ) → GoesAlone g.M.GivenManifest.may_read l.manner l.outcome (g.I.Input.came l.input) l.lines (g.S.Outlet.bytes l.out) (g.S.Outlet.answers l.out) (g.M.MetricsFile.counts l.given) last at told left status
+      → GoesAlone g.M.GivenManifest.may_read l.manner (Followed l.fn.first) (g.I.Input.came l.fn.input) lines (g.S.Outlet.bytes l.fn.out) (g.S.Outlet.answers l.fn.out) (g.M.MetricsFile.counts l.fn.given) last at told left status);
   going : IfFollowed l.outcome (IsTrue l.lines.is_ended → IsTrue (g.I.Input.has_ended l.input));
   stands : IfFollowed l.outcome (IsSomewhere (g.I.Input.came l.input) l.lines);
   status : HasStatusAlone l.outcome;

@@ -37,20 +37,35 @@ IsFaulty config before word = ((HasPlace config word → ⊥) ⊎ (word.word ≡
 abbrev pub IsFaultAt : Setup → List TableWord → ℕ → Type 0
 IsFaultAt config words place = (word : TableWord) × (slice_get words place ≡ Some word) × IsFaulty config (take place words) word
 
+-- and it is the first of them
+abbrev pub IsFirstFaultAt : Setup → List TableWord → ℕ → Type 0
+IsFirstFaultAt config words place = IsFaultAt config words place × ((earlier : ℕ) → earlier < place → IsFaultAt config words earlier → ⊥)
+
 -- all of them can be
 abbrev pub AreFaultless : Setup → List TableWord → Type 0
 AreFaultless config words = (place : ℕ) → IsFaultAt config words place → ⊥
 
--- it is one of these words
+-- it is the first of these words that cannot be
 abbrev pub IsFaultAmong : Setup → List TableWord → Undecided → Type 0
-IsFaultAmong config words (Word place) = IsFaultAt config words place
+IsFaultAmong config words (Word place) = IsFirstFaultAt config words place
 IsFaultAmong config words fault = ⊥
 
+-- there is such a queue; and the CCB has failed; and the clock can read so
+abbrev pub HasQueue : Setup → Question → Type 0
+HasQueue config question = question.failure.queue.0 < queue_count config
+
+abbrev pub MayFail : Setup → Question → Type 0
+MayFail config question = HasQueue config question × (has_failed question.failure.status ≡ true)
+
+abbrev pub MayRead : Setup → Question → Type 0
+MayRead config question = MayFail config question × (question.failure.clock ≤ LAST_READING)
+
+-- the first fault of the question, in the order in which faults are judged
 abbrev pub IsFault : Setup → Question → Undecided → Type 0
 IsFault config question Queue = queue_count config ≤ question.failure.queue.0
-IsFault config question Status = has_failed question.failure.status ≡ false
-IsFault config question Clock = LAST_READING < question.failure.clock
-IsFault config question (Word place) = IsFaultAt config question.words.items place
+IsFault config question Status = HasQueue config question × (has_failed question.failure.status ≡ false)
+IsFault config question Clock = MayFail config question × (LAST_READING < question.failure.clock)
+IsFault config question (Word place) = MayRead config question × IsFirstFaultAt config question.words.items place
 IsFault config question fault = ⊥
 
 -- there is no such fault

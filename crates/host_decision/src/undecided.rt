@@ -11,7 +11,7 @@ use show_question::{Question, TableWord};
 /// The greatest clock reading.
 pub const LAST_READING: u64 = 1 << 62;
 
-/// What of a question an engine cannot take: the first of these that holds.
+/// What of a question an engine cannot take: of the first four the first one that holds.
 #[derive(Clone, Copy, Debug)]
 pub enum Undecided {
     /// There is no such queue.

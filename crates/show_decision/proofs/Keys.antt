@@ -1,5 +1,5 @@
 -- What is decided of the codes of keys, and the texts of that.
-use Rattle.std.proofs.Common.{◌≡◌, ◌≢◌, ◌∙◌, ◌<◌, ◌+◌, ◌⊎◌, ℕ, List, [], ◌∷◌, ◌++◌, Some, ap, append-nil, arith, get_or, inl, inr, length, refl, subst, sym}
+use Rattle.std.proofs.Common.{◌≡◌, ◌∙◌, ◌<◌, ◌+◌, ◌⊎◌, ℕ, List, [], ◌∷◌, ◌++◌, Some, ap, append-nil, arith, get_or, inl, inr, length, refl, subst, sym}
 use Rattle.std.specs.Prelude.{slice_get}
 use Rattle.std.specs.List.{flat_map}
 use Rattle.std.proofs.lemmas.Grind.{flat_map-append}
@@ -9,7 +9,7 @@ use Rattle.std.proofs.Math.Seq.{get_or-append_seam}
 use Rattle.world_calls.specs.declared.carried_line.CarriedLine.{CarriedLine}
 use Rattle.world.specs.World.{Setup}
 use Rattle.show_question.specs.declared.Failure.{Failure}
-use Rattle.show_decision.specs.Numbered.{text_at}
+use Rattle.show_decision.specs.Numbered.{AreApart, text_at}
 use Rattle.show_decision.specs.Rows.{AreRowsOf, IsUsual, number_at}
 use Rattle.show_decision.specs.RowTexts.{key_rows_text}
 use Rattle.show_decision.specs.Table.{AddsDecided, AreDecided, AreKeyTexts, IsDecidedAs, IsKeyText, failure_of, heading_of}
@@ -19,9 +19,6 @@ use Rattle.show_decision.specs.declared.rows.TheConstants.{CODES}
 
 before_or_here : (k count : ℕ) → k < count + 1 → (k < count) ⊎ (k ≡ count)
 before_or_here k count below = grind arith
-
-is_usual : (number usual : ℕ) → (number ≡ usual) ⊎ (number ≢ usual)
-is_usual number usual = grind arith
 
 -- a text that has a number keeps it if others come
 still_there : (texts more : List (List ℕ)) (number : ℕ) (text : List ℕ) → slice_get texts number ≡ Some text → slice_get (texts ++ more) number ≡ Some text
@@ -61,10 +58,6 @@ module _ (config : Setup) (lines : List CarriedLine) (failure : Failure) (respon
             );
       }
 
-  -- the text of the number that a code has is what is decided of it
-  text_so : (failed : Failure) (texts : List (List ℕ)) (number : ℕ) → IsDecidedAs config lines failed texts number → IsTextOf config lines failed (text_at texts number)
-  text_so failed texts number it = subst (IsTextOf config lines failed) (sym (get_or_from_slice_get texts number it.0 [] it.2)) it.1
-
   -- each number is that of a text
   pub numbers_within : (key : ℕ) (numbers : List ℕ) (texts : List (List ℕ)) → AreDecided config lines failure response key CODES numbers texts → (code : ℕ) → code < length numbers → get_or numbers code 0 < length texts
   numbers_within key numbers texts decided code below =
@@ -72,25 +65,17 @@ module _ (config : Setup) (lines : List CarriedLine) (failure : Failure) (respon
       slice_get_within texts (get_or numbers code 0) it.0 it.2
 
   -- the rows of a key are those of its decisions
-  pub key_so : (key usual : ℕ) (numbers : List ℕ) (texts : List (List ℕ)) (rows : List Row) → AreDecided config lines failure response key CODES numbers texts → AreRowsOf numbers usual (length numbers) rows → IsUsual numbers usual
+  pub key_so : (key usual : ℕ) (numbers : List ℕ) (texts : List (List ℕ)) (rows : List Row) → AreDecided config lines failure response key CODES numbers texts → AreApart texts → AreRowsOf numbers usual (length numbers) rows → IsUsual numbers usual
       → IsKeyText config lines failure response key (key_rows_text (heading_of failure response key) texts usual rows)
-  key_so key usual numbers texts rows decided are most = record {
+  key_so key usual numbers texts rows decided apart are most = record {
     numbers = numbers;
     decided = decided;
     most = most;
     texts = texts;
     usual = usual;
     rows = rows;
-    named = λ code decision says.
-        let so = are.so code decision says in
-        subst (λ (number : ℕ). IsTextOf config lines (failure_of failure response key code) (text_at texts number)) so.1
-        (text_so (failure_of failure response key code) texts (number_at numbers code usual) (decided.each code usual (omega (arith, so.0, decided.count_is))));
-    others = λ code below unnamed.
-        let so = text_so (failure_of failure response key code) texts (number_at numbers code usual) (decided.each code usual below) in
-        elim (is_usual (number_at numbers code usual) usual) [
-          | inl same ↦ subst (λ (number : ℕ). IsTextOf config lines (failure_of failure response key code) (text_at texts number)) same so
-          | inr other ↦ absurd (unnamed (number_at numbers code usual) (are.all code (omega (arith, below, decided.count_is)) other))
-        ];
+    apart = apart;
+    are = subst (λ (below : ℕ). AreRowsOf numbers usual below rows) decided.count_is are;
     text_is = refl;
   }
 

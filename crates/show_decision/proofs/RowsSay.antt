@@ -1,6 +1,6 @@
 -- What rows say once one is added.
-use Rattle.std.proofs.Common.{◌≡◌, ◌∙◌, ◌<◌, ◌≤◌, ◌+◌, ◌/◌, ◌%◌, ◌⊎◌, ℕ, List, [], ◌∷◌, ◌++◌, arith, inl, inr, refl, subst, sym}
-use Rattle.show_decision.specs.Rows.{AddsCode, AreRowsOf, Covers, GoesOn, Says, number_at}
+use Rattle.std.proofs.Common.{◌≡◌, ◌≢◌, ◌∙◌, ◌<◌, ◌≤◌, ◌+◌, ◌*◌, ◌/◌, ◌%◌, ◌⊎◌, ℕ, List, [], ◌∷◌, ◌++◌, arith, inl, inr, refl, subst, sym}
+use Rattle.show_decision.specs.Rows.{AddsCode, AreRowsOf, Covers, GoesOn, Rise, Says, first_code, last_code, next_code, number_at}
 use Rattle.show_decision.specs.declared.rows.Row.{Row}
 
 say_before : (xs ys : List Row) (k d : ℕ) → Says xs k d → Says (xs ++ ys) k d
@@ -26,6 +26,34 @@ one_row code decision = record { asc = code / 256; first = code % 256; last = co
 same_code : (code k : ℕ) → k / 256 ≡ code / 256 → code % 256 ≤ k % 256 → k % 256 ≤ code % 256 → k ≡ code
 same_code code k asc least most = omega arith
 
+-- what comes after rows, if one more comes after them
+next_of_more : (rows : List Row) (row : Row) (after : ℕ) → next_code (rows ++ row ∷ []) after ≡ next_code rows (first_code row)
+next_of_more [] row after = refl
+next_of_more (x ∷ rows) row after = refl
+
+next_later : (rows : List Row) (last code after : ℕ) → last < next_code rows code → code ≤ after → last < next_code rows after
+next_later [] last code after before later = omega (arith, before, later)
+next_later (x ∷ rows) last code after before later = before
+
+-- rows that end below a code end below a later one
+rise_later : (rows : List Row) (code after : ℕ) → Rise rows code → code ≤ after → Rise rows after
+rise_later [] code after rise later = tt
+rise_later (x ∷ rows) code after rise later = (rise.0, next_later rows (last_code x) code after rise.1 later, rise_later rows code after rise.2 later)
+
+-- one row more after the others
+rise_more : (rows : List Row) (row : Row) (after : ℕ) → Rise rows (first_code row) → row.first ≤ row.last → last_code row < after → Rise (rows ++ row ∷ []) after
+rise_more [] row after rise some before = (some, before, tt)
+rise_more (x ∷ rows) row after rise some before =
+    (rise.0, subst (λ (next : ℕ). last_code x < next) (sym (next_of_more rows row after)) rise.1, rise_more rows row after rise.2 some before)
+
+-- the rows before the last one
+rise_front : (rows : List Row) (row : Row) (after : ℕ) → Rise (rows ++ row ∷ []) after → Rise rows (first_code row)
+rise_front [] row after rise = tt
+rise_front (x ∷ rows) row after rise = (rise.0, subst (λ (next : ℕ). last_code x < next) (next_of_more rows row after) rise.1, rise_front rows row after rise.2)
+
+code_is : (code : ℕ) → code / 256 * 256 + code % 256 ≡ code
+code_is code = omega arith
+
 -- a row of the one code comes after the others
 pub adds_row : (rows : List Row) (code decision : ℕ) → AddsCode rows code decision (rows ++ one_row code decision ∷ [])
 adds_row rows code decision = record {
@@ -35,6 +63,7 @@ adds_row rows code decision = record {
     | inl before ↦ inl before
     | inr it ↦ inr (same_code code k it.0.0 it.0.1 it.0.2, sym it.1)
   ];
+  rise = λ rise. rise_more rows (one_row code decision) (code + 1) (subst (Rise rows) (sym (code_is code)) rise) (omega arith) (omega (arith, code_is code));
 }
 
 at_most_or_next : (k last next : ℕ) → k ≤ next → last + 1 ≡ next → (k ≤ last) ⊎ (k ≡ next)
@@ -61,6 +90,7 @@ adds_to_last rows row code decision on =
         | inl before ↦ inl (say_before rows (row ∷ []) k d before)
         | inr it ↦ last_or_new rows row code decision k d on it.0 it.1
       ];
+      rise = λ rise. rise_more rows grown (code + 1) (rise_front rows row code rise) (omega (arith, on.some, on.next)) (omega (arith, on.asc, code_is code));
     }
 
 before_or_here : (k code : ℕ) → k < code + 1 → (k < code) ⊎ (k ≡ code)
@@ -68,8 +98,13 @@ before_or_here k code below = grind arith
 
 -- one code more of which another thing was decided
 pub more_rows : (decisions : List ℕ) (usual code : ℕ) (old new : List Row) → AreRowsOf decisions usual code old → AddsCode old code (number_at decisions code usual) new
-    → AreRowsOf decisions usual (code + 1) new
-more_rows decisions usual code old new are adds = record {
+    → number_at decisions code usual ≢ usual → AreRowsOf decisions usual (code + 1) new
+more_rows decisions usual code old new are adds is_other = record {
+  other = λ k d says. elim (adds.no_more k d says) [
+    | inl before ↦ are.other k d before
+    | inr it ↦ subst (λ (its : ℕ). its ≢ usual) (sym it.1) is_other
+  ];
+  rise = adds.rise are.rise;
   so = λ k d says. elim (adds.no_more k d says) [
     | inl before ↦ (omega (arith, (are.so k d before).0), (are.so k d before).1)
     | inr it ↦ (omega (arith, it.0), subst (λ (at : ℕ). number_at decisions at usual ≡ d) (sym it.0) (sym it.1))
@@ -83,6 +118,8 @@ more_rows decisions usual code old new are adds = record {
 -- one code more of which the usual thing was decided
 pub same_rows : (decisions : List ℕ) (usual code : ℕ) (rows : List Row) → AreRowsOf decisions usual code rows → number_at decisions code usual ≡ usual → AreRowsOf decisions usual (code + 1) rows
 same_rows decisions usual code rows are is = record {
+  other = are.other;
+  rise = rise_later rows code (code + 1) are.rise (omega arith);
   so = λ k d says. (omega (arith, (are.so k d says).0), (are.so k d says).1);
   all = λ k below other. elim (before_or_here k code below) [
     | inl before ↦ are.all k before other
@@ -93,6 +130,8 @@ same_rows decisions usual code rows are is = record {
 -- of no codes none
 pub no_rows : (decisions : List ℕ) (usual : ℕ) → AreRowsOf decisions usual 0 []
 no_rows decisions usual = record {
+  other = λ k d says. absurd says;
+  rise = tt;
   so = λ k d says. absurd says;
   all = λ k below other. absurd (omega (arith, below));
 }

@@ -1,6 +1,6 @@
 -- Rows of a table: each says what was decided of a range of codes. A code is an ASC and an ASCQ, as 256 times the one and the other, and a
 -- decision is its number.
-use Rattle.std.specs.Prelude.{◌≡◌, ◌≢◌, ◌<◌, ◌≤◌, ◌+◌, ◌/◌, ◌%◌, ◌==◌, ◌⊎◌, ℕ, List, [], ◌∷◌, if◌then◌else◌, length, slice_index, slice_index_or}
+use Rattle.std.specs.Prelude.{◌≡◌, ◌≢◌, ◌<◌, ◌≤◌, ◌+◌, ◌*◌, ◌/◌, ◌%◌, ◌==◌, ◌⊎◌, ℕ, List, [], ◌∷◌, if◌then◌else◌, length, slice_index, slice_index_or}
 use Rattle.show_decision.specs.declared.rows.Row.{Row}
 
 -- the code is one of the row
@@ -33,10 +33,28 @@ pub record AreCounts (decisions : List ℕ) (count : ℕ) (counts : List ℕ) : 
   pub count_is : length counts ≡ count
   pub each : (decision : ℕ) → decision < count → slice_index counts decision ≡ how_many decision decisions
 
--- The rows say of codes below that one what was decided of them, and of each of which it is not the usual one.
+-- the first code of a row, the last one, and that of the row that comes first, or of what comes after the rows
+abbrev pub first_code : Row → ℕ
+first_code row = row.asc * 256 + row.first
+
+abbrev pub last_code : Row → ℕ
+last_code row = row.asc * 256 + row.last
+
+abbrev pub next_code : List Row → (after : ℕ) → ℕ
+next_code [] after = after
+next_code (row ∷ rows) after = first_code row
+
+-- the rows are in the order of their codes, and each code is one of one row at most, below that one
+abbrev pub Rise : List Row → (below : ℕ) → Type 0
+Rise [] below = Unit {0}
+Rise (row ∷ rows) below = (row.first ≤ row.last) × (last_code row < next_code rows below) × Rise rows below
+
+-- The rows say of codes below that one what was decided of them: just of those of which it is not the usual one, in their order.
 pub record AreRowsOf (decisions : List ℕ) (usual below : ℕ) (rows : List Row) : Type 0 where
   pub so : (code decision : ℕ) → Says rows code decision → (code < below) × (number_at decisions code usual ≡ decision)
+  pub other : (code decision : ℕ) → Says rows code decision → decision ≢ usual
   pub all : (code : ℕ) → code < below → number_at decisions code usual ≢ usual → Says rows code (number_at decisions code usual)
+  pub rise : Rise rows below
 
 -- the code comes right after those of the row, and has its decision
 pub record GoesOn (row : Row) (code decision : ℕ) : Type 0 where
@@ -50,3 +68,4 @@ pub record AddsCode (old : List Row) (code decision : ℕ) (new : List Row) : Ty
   pub added : Says new code decision
   pub kept : (k d : ℕ) → Says old k d → Says new k d
   pub no_more : (k d : ℕ) → Says new k d → Says old k d ⊎ ((k ≡ code) × (d ≡ decision))
+  pub rise : Rise old code → Rise new (code + 1)

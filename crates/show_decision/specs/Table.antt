@@ -12,8 +12,8 @@ use Rattle.host_decision.specs.Asked.{AreLinesOf}
 use Rattle.host_decision.specs.Faults.{IsFault, IsPossible}
 use Rattle.host_decision.specs.declared.undecided.Undecided.{Undecided}
 use Rattle.host_decision.specs.declared.undecided.Undecided.TheVariants.{Sense}
-use Rattle.show_decision.specs.Numbered.{IsPushed, text_at}
-use Rattle.show_decision.specs.Rows.{IsUsual, Says, number_at}
+use Rattle.show_decision.specs.Numbered.{AreApart, IsPushed, text_at}
+use Rattle.show_decision.specs.Rows.{AreRowsOf, IsUsual, number_at}
 use Rattle.show_decision.specs.RowTexts.{key_rows_text}
 use Rattle.show_decision.specs.Sense.{IsKnown, sense_bytes}
 use Rattle.show_decision.specs.Told.{IsTextOf}
@@ -49,17 +49,18 @@ pub record AddsDecided (config : Setup) (lines : List CarriedLine) (failure : Fa
   pub is : IsTextOf config lines failure text
   pub pushed : IsPushed numbers texts text new_numbers new
 
--- The rows of a key. What a row of a range says of its codes is what is decided of them, and so is what the row of the key says of all codes
--- that no other one names: what is decided of most.
+-- The rows of a key. Each code has the number of what is decided of it, and each decision has one number. What is decided of most stands in the
+-- row of the key, which goes for all codes that no other row names. The others name, in the order of the codes, just those of which another thing
+-- is decided, each with that.
 pub record IsKeyText (config : Setup) (lines : List CarriedLine) (failure : Failure) (response key : ℕ) (text : List ℕ) : Type 0 where
   pub texts : List (List ℕ)
   pub usual : ℕ
   pub rows : List Row
   pub numbers : List ℕ
   pub decided : AreDecided config lines failure response key CODES numbers texts
+  pub apart : AreApart texts
   pub most : IsUsual numbers usual
-  pub named : (code decision : ℕ) → Says rows code decision → IsTextOf config lines (failure_of failure response key code) (text_at texts decision)
-  pub others : (code : ℕ) → code < CODES → ((decision : ℕ) → Says rows code decision → ⊥) → IsTextOf config lines (failure_of failure response key code) (text_at texts usual)
+  pub are : AreRowsOf numbers usual CODES rows
   pub text_is : text ≡ key_rows_text (heading_of failure response key) texts usual rows
 
 -- the rows of so many keys, one key after the other

@@ -4,6 +4,7 @@
 ghost use Rattle.std.specs.Prelude.{◌≡◌, ◌<◌, ℕ, List, IfErr, IfOk, OnOk, map, string_bytes};
 ghost use Rattle.std.specs.Io.KnownBytes.{Appends};
 ghost use Rattle.host_decision.specs.Asked.{AreLinesOf};
+ghost use Rattle.show_decision.specs.Numbered.{AreApart, AreFound};
 ghost use Rattle.show_decision.specs.Table.{AddsDecided, AreDecided, AreKeyTexts, HasTable, IsKeyText, IsTabled, IsUntabled, failure_of, heading_of, response_of};
 ghost use Rattle.show_decision.specs.Told.{IsTextOf};
 
@@ -121,7 +122,8 @@ impl<'a> Table<'a> {
 
     // What is decided of each code of a key.
     fn decisions_of(&self, key: u8) -> io::Result<Decisions>
-        ensures { IfOk result (λ it. AreDecided self.now.config.now self.now.lines.items self.now.failure self.now.response key CODES it.numbers.items
+        ensures apart { IfOk result (λ it. AreApart (map string_bytes it.texts.items)) }
+        ensures decided { IfOk result (λ it. AreDecided self.now.config.now self.now.lines.items self.now.failure self.now.response key CODES it.numbers.items
             (map string_bytes it.texts.items)) }
     {
         match self.decisions(key) {
@@ -132,7 +134,8 @@ impl<'a> Table<'a> {
     }
 
     fn decisions(&self, key: u8) -> Result<Decisions, DecisionError>
-        ensures { IfOk result (λ it. AreDecided self.now.config.now self.now.lines.items self.now.failure self.now.response key CODES it.numbers.items
+        ensures apart { IfOk result (λ it. AreApart (map string_bytes it.texts.items)) }
+        ensures decided { IfOk result (λ it. AreDecided self.now.config.now self.now.lines.items self.now.failure self.now.response key CODES it.numbers.items
             (map string_bytes it.texts.items)) }
     {
         let mut decisions = Decisions::new(self.alloc)?;
@@ -144,8 +147,10 @@ impl<'a> Table<'a> {
 
     // Adds what is decided of a code.
     fn add(&self, key: u8, code: usize, decisions: &mut Decisions) -> Result<(), DecisionError>
-        requires { code < CODES }
-        ensures { OnOk result (AddsDecided self.now.config.now self.now.lines.items (failure_of self.now.failure self.now.response key code)
+        requires few { code < CODES }
+        requires found { AreFound decisions.old.places (map string_bytes decisions.old.texts.items) }
+        ensures found { OnOk result (AreFound decisions.new.places (map string_bytes decisions.new.texts.items)) }
+        ensures adds { OnOk result (AddsDecided self.now.config.now self.now.lines.items (failure_of self.now.failure self.now.response key code)
             decisions.old.numbers.items (map string_bytes decisions.old.texts.items) decisions.new.numbers.items (map string_bytes decisions.new.texts.items)) }
     {
         let text = self.decided(key, code)?;

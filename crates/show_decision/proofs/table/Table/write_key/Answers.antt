@@ -18,7 +18,7 @@ most_frequent-requires-clause-each g c =
     let count : c.len.result ≡ length texts = omega (arith, c.len.ensures, decisions.texts.ok.0, length-map decisions.texts.items (string_bytes {Z = Global})) in
     subst (λ (numbers : List ℕ). (code : ℕ) → code < length numbers → get_or numbers code 0 < c.len.result) (sym c.deref.ensures.value)
     (subst (λ (many : ℕ). (code : ℕ) → code < length decisions.numbers.items → get_or decisions.numbers.items code 0 < many) (sym count)
-    (numbers_within it.config.now it.lines.items it.failure it.response c.args.key decisions.numbers.items texts c.in_ok-decisions.ensures))
+    (numbers_within it.config.now it.lines.items it.failure it.response c.args.key decisions.numbers.items texts c.in_ok-decisions.ensures.decided))
 
 pub returns : goal.returns
 returns g c =
@@ -36,7 +36,7 @@ returns g c =
     on_ok_weaker c.write_key_rows.result
     (λ (out : Appends old new (key_rows_text c.heading-heading.result texts usual c.deref-3.result.now)). (
       text,
-      key_so it.config.now it.lines.items it.failure it.response c.args.key usual numbers texts rows c.in_ok-decisions.ensures are most,
+      key_so it.config.now it.lines.items it.failure it.response c.args.key usual numbers texts rows c.in_ok-decisions.ensures.decided c.in_ok-decisions.ensures.apart are most,
       subst (λ (heading : Heading). Appends old new (key_rows_text heading texts usual rows)) c.heading-heading.ensures
           (subst (λ (its : List Row). Appends old new (key_rows_text c.heading-heading.result texts usual its)) c.deref-3.ensures.value out),
     )) c.write_key_rows.ensures

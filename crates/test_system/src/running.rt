@@ -226,7 +226,10 @@ impl MetricsFile for Again<'_> {
     }
 
     fn metrics_path(&self) -> &str {
-        self.metrics.unwrap_or("")
+        match self.metrics {
+            Some(path) => path,
+            None => "",
+        }
     }
 }
 

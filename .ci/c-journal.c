@@ -26,6 +26,8 @@ static const char two[] = "version = 2\ncontrollers = 1\n" QUEUE QUEUE PROGRAM;
 static const char one[] = "version = 2\ncontrollers = 1\n" QUEUE PROGRAM;
 
 static struct journal journal, second;
+static uint32_t advice, fate;
+static uint8_t code;
 static char seen[1 << 16];
 
 static void put(const char *path, const char *text, size_t length)
@@ -77,8 +79,8 @@ static void see(void *argument, const char *lines)
 static void work(camr_engine *engine)
 {
     uint32_t it;
-    WANT(camr_submit(engine, 0, 0, 1, &it) == CAMR_DONE && camr_submit(engine, 0, 0, 1, &it) == CAMR_DONE);
-    WANT(camr_submit(engine, 1, 0, 1, &it) == CAMR_DONE && camr_dispatch(engine, 1, &it) == CAMR_DONE && it == 3);
+    WANT(camr_submit(engine, 0, 0, 1, 0, &it) == CAMR_DONE && camr_submit(engine, 0, 0, 1, 0, &it) == CAMR_DONE);
+    WANT(camr_submit(engine, 1, 0, 1, 0, &it) == CAMR_DONE && camr_dispatch(engine, 1, &it, &advice) == CAMR_DONE && it == 3);
     WANT(camr_clock(engine, 1000, &it) == CAMR_DONE && camr_clock(engine, 999, &it) == CAMR_GOES_BACK);
     WANT(camr_guest_freeze(engine, 0, 7, &it) == CAMR_DONE && it == 1 && camr_guest_freeze(engine, 1, 8, &it) == CAMR_DONE);
     WANT(camr_guest_freeze_controller(engine, 0, 9, &it) == CAMR_DONE && it == 3 && camr_guest_release(engine, 2, &it) == CAMR_DONE);
@@ -208,7 +210,7 @@ static void has_runs(void)
     put("runs/000001.toml", two, sizeof two - 1);
     put("runs/000001.trace", runs, sizeof runs - 1);
     WANT(start("runs", NULL, &engine) == JOURNAL_DONE && journal.freeze_count == 0);
-    WANT(camr_take_run(engine, &run) == CAMR_DONE && camr_drive(engine, run, &r0, &ended) == CAMR_DONE && ended);
+    WANT(camr_take_run(engine, &run) == CAMR_DONE && camr_drive(engine, run, &r0, &ended, &fate, &code) == CAMR_DONE && ended);
     camr_run_free(run);
     WANT(camr_take_run(engine, &run) == CAMR_UNKNOWN);
     WANT(journal_rotate(&journal, &engine, NULL, 0, false, NULL, NULL) == JOURNAL_RUN_LIVE && !journal.is_broken && journal.number == 1);
@@ -216,7 +218,7 @@ static void has_runs(void)
     stop(engine);
     WANT(strstr(got("runs/000001.trace", &length), "end ") == NULL);
     WANT(start("runs", NULL, &engine) == JOURNAL_DONE && camr_resume(engine, 2, &run) == CAMR_DONE);
-    WANT(camr_drive(engine, run, &r0, &ended) == CAMR_DONE && ended);
+    WANT(camr_drive(engine, run, &r0, &ended, &fate, &code) == CAMR_DONE && ended);
     camr_run_free(run);
     WANT(journal_rotate(&journal, &engine, NULL, 0, false, NULL, NULL) == JOURNAL_DONE && journal.number == 2);
     stop(engine);
@@ -263,7 +265,7 @@ static void rotates(void)
     put("rotated/000004.trace.new", "camr-tr", 7);
     WANT(start("rotated", two, &engine) == JOURNAL_DONE && journal.begun == JOURNAL_FOLLOWED && journal.number == 4);
     WANT(journal.clock == 1000 && journal.freeze_count == 0);
-    WANT(camr_submit(engine, 1, 0, 1, &it) == CAMR_DONE && it == 3);
+    WANT(camr_submit(engine, 1, 0, 1, 0, &it) == CAMR_DONE && it == 3);
     WANT(journal_end(&journal, engine, NULL, NULL) == JOURNAL_DONE);
     stop(engine);
     WANT(start("rotated", one, &engine) == JOURNAL_DOES_NOT_FIT && start("rotated", NULL, &engine) == JOURNAL_DONE && journal.number == 5);
@@ -288,7 +290,7 @@ static void is_full(void)
     limit = before;
     for (limit.rlim_cur = 20; limit.rlim_cur < 400; limit.rlim_cur += 23) {
         WANT(setrlimit(RLIMIT_FSIZE, &limit) == 0);
-        do WANT(camr_dispatch(engine, 0, &it) == CAMR_NOTHING_WAITS);
+        do WANT(camr_dispatch(engine, 0, &it, &advice) == CAMR_NOTHING_WAITS);
         while (journal_keep(&journal, engine, NULL, NULL) == JOURNAL_DONE);
         WANT(journal.result == JOURNAL_FILE && journal.error == EFBIG && strncmp(told(), "file full/000001.trace: ", 24) == 0);
         WANT(journal_keep(&journal, engine, NULL, NULL) == JOURNAL_FILE && journal.length == limit.rlim_cur);
@@ -342,6 +344,35 @@ static void is_short_of_memory(void)
     }
 }
 
+/* What a submission is, what was advised, a withdrawal and first words outlast a crash and the next segment. */
+static void is_classed(void)
+{
+    static const char three[] = "version = 3\ncontrollers = 1\n" QUEUE "[[table]]\nlength = 2\nwords = [5]\n[[program]]\nname = \"p\"\nasm = \"\"\"\njeq r2, 0, on\n"
+                                "mov64 r1, r2\ncall 2\non:\nmov64 r1, 2\ncall 15\nmov64 r1, 1\ncall 4\nmov64 r0, 0\nexit\n\"\"\"\n";
+    camr_engine *engine;
+    camr_run *run;
+    uint32_t it;
+    uint64_t r0;
+    size_t length;
+    bool ended;
+    WANT(start("classed", three, &engine) == JOURNAL_DONE);
+    WANT(camr_submit(engine, 0, 0, 1, 0x28, &it) == CAMR_DONE && camr_submit(engine, 0, 1, 1, 0x2a, &it) == CAMR_DONE);
+    WANT(camr_dispatch(engine, 0, &it, &advice) == CAMR_DONE && it == 1 && advice == 0 && camr_withdraw(engine, 2) == CAMR_DONE);
+    WANT(camr_complete(engine, 1, CAMR_CMD_TIMEOUT, 0, NULL, 0, &run) == CAMR_DONE);
+    WANT(camr_drive(engine, run, &r0, &ended, &fate, &code) == CAMR_DONE && ended && fate == CAMR_REQUEUED && code == 0);
+    camr_run_free(run);
+    keep(engine);
+    stop(engine);
+    WANT(start("classed", NULL, &engine) == JOURNAL_DONE && journal.begun == JOURNAL_RECOVERED && camr_withdraw(engine, 2) == CAMR_UNKNOWN);
+    WANT(journal_rotate(&journal, &engine, one, sizeof one - 1, false, NULL, NULL) == JOURNAL_DOES_NOT_FIT && !journal.is_broken);
+    WANT(journal_rotate(&journal, &engine, NULL, 0, true, NULL, NULL) == JOURNAL_DONE && journal.number == 2);
+    WANT(strstr(got("classed/000002.trace", &length), "\nword 0 0 5\nccb 1 0 0 0 1 40 2 waiting\n") != NULL);
+    WANT(camr_dispatch(engine, 0, &it, &advice) == CAMR_DONE && it == 1 && advice == CAMR_ADVICE_START_UNIT);
+    WANT(camr_complete(engine, 1, CAMR_REQ_CMP, 0, NULL, 0, &run) == CAMR_DONE && run == NULL);
+    WANT(journal_end(&journal, engine, NULL, NULL) == JOURNAL_DONE);
+    stop(engine);
+}
+
 int main(int count, char **words)
 {
     WANT(count == 2 && chdir(words[1]) == 0 && signal(SIGXFSZ, SIG_IGN) != SIG_ERR);
@@ -354,5 +385,6 @@ int main(int count, char **words)
     is_full();
     is_shut();
     is_short_of_memory();
+    is_classed();
     return 0;
 }

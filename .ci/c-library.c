@@ -19,6 +19,10 @@ static void *tried_realloc(void *p, size_t n) { return is_refused() ? NULL : rea
 
 #define WANT(fact) do { if (!(fact)) { fprintf(stderr, "c-library.c:%d: not so: %s\n", __LINE__, #fact); exit(1); } } while (0)
 
+/* What a start reports, and what a run has done with its CCB. */
+static uint32_t advice, fate;
+static uint8_t code;
+
 static const char manifest[] =
     "version = 2\n"
     "controllers = 1\n"
@@ -59,7 +63,7 @@ static camr_run *failed(camr_engine *engine)
 {
     uint32_t ccb;
     camr_run *run;
-    WANT(camr_submit(engine, 0, 0, 1, &ccb) == CAMR_DONE && camr_dispatch(engine, 0, &ccb) == CAMR_DONE);
+    WANT(camr_submit(engine, 0, 0, 1, 0, &ccb) == CAMR_DONE && camr_dispatch(engine, 0, &ccb, &advice) == CAMR_DONE);
     WANT(camr_complete(engine, ccb, CAMR_CMD_TIMEOUT, 0, NULL, 0, &run) == CAMR_DONE && run != NULL);
     return run;
 }
@@ -75,10 +79,10 @@ static void recovers(void)
     size_t written;
     camr_totals_t totals;
     WANT(camr_run_numbers(run, &number, &freeze) == CAMR_DONE && number == 1 && freeze == 1);
-    WANT(camr_advance(engine, run, &r0, &ended) == CAMR_NOT_STRETCHED && !ended);
+    WANT(camr_advance(engine, run, &r0, &ended, &fate, &code) == CAMR_NOT_STRETCHED && !ended);
     WANT(camr_stretch(run) == CAMR_DONE && camr_stretch(run) == CAMR_DONE);
-    WANT(camr_advance(engine, run, &r0, &ended) == CAMR_DONE && !ended && r0 == 0);
-    WANT(camr_drive(engine, run, &r0, &ended) == CAMR_DONE && ended && r0 == 7);
+    WANT(camr_advance(engine, run, &r0, &ended, &fate, &code) == CAMR_DONE && !ended && r0 == 0);
+    WANT(camr_drive(engine, run, &r0, &ended, &fate, &code) == CAMR_DONE && ended && r0 == 7);
     WANT(camr_stretch(run) == CAMR_SPENT && camr_park(engine, run) == CAMR_SPENT);
     camr_run_free(run);
     WANT(camr_totals(engine, &totals) == CAMR_DONE && totals.history == 6 && totals.frozen == 0 && totals.active == 0 && totals.runs == 0);
@@ -149,7 +153,7 @@ static void cuts_sense(void)
     memcpy(want + at, after, sizeof after);
     for (size_t length = 64; length <= sizeof sense; length += 94) {
         camr_engine *engine = opened();
-        WANT(camr_submit(engine, 0, 0, 0, &ccb) == CAMR_DONE && camr_dispatch(engine, 0, &ccb) == CAMR_DONE);
+        WANT(camr_submit(engine, 0, 0, 0, 0, &ccb) == CAMR_DONE && camr_dispatch(engine, 0, &ccb, &advice) == CAMR_DONE);
         WANT(camr_complete(engine, ccb, CAMR_SCSI_STATUS_ERROR, 2, sense, length, &run) == CAMR_DONE && run != NULL);
         WANT(camr_trace(engine, 2, place, sizeof place, &written, &next) == CAMR_DONE && written == strlen(want));
         WANT(memcmp(place, want, written) == 0);
@@ -163,13 +167,13 @@ static void refuses(void)
     camr_engine *engine = opened();
     uint32_t it, ccb;
     camr_run *run;
-    WANT(camr_submit(engine, 1, 0, 0, &it) == CAMR_UNKNOWN && it == 0);
-    WANT(camr_dispatch(engine, 0, &it) == CAMR_NOTHING_WAITS);
+    WANT(camr_submit(engine, 1, 0, 0, 0, &it) == CAMR_UNKNOWN && it == 0);
+    WANT(camr_dispatch(engine, 0, &it, &advice) == CAMR_NOTHING_WAITS);
     WANT(camr_clock(engine, (uint64_t)1 << 63, &it) == CAMR_LIMIT);
     WANT(camr_clock(engine, 9, &it) == CAMR_DONE && it == 0 && camr_clock(engine, 8, &it) == CAMR_GOES_BACK);
-    WANT(camr_submit(engine, 0, 0, 0, &ccb) == CAMR_DONE && camr_dispatch(engine, 0, &ccb) == CAMR_DONE);
-    WANT(camr_submit(engine, 0, 0, 0, &it) == CAMR_DONE && it == 2);
-    WANT(camr_dispatch(engine, 0, &ccb) == CAMR_NO_OPENING);
+    WANT(camr_submit(engine, 0, 0, 0, 0, &ccb) == CAMR_DONE && camr_dispatch(engine, 0, &ccb, &advice) == CAMR_DONE);
+    WANT(camr_submit(engine, 0, 0, 0, 0, &it) == CAMR_DONE && it == 2);
+    WANT(camr_dispatch(engine, 0, &ccb, &advice) == CAMR_NO_OPENING);
     WANT(camr_complete(engine, 2, CAMR_REQ_CMP, 0, NULL, 0, &run) == CAMR_NOT_ACTIVE && run == NULL);
     WANT(camr_complete(engine, 3, CAMR_REQ_CMP, 0, NULL, 0, &run) == CAMR_UNKNOWN);
     WANT(camr_complete(engine, 1, 0, 0, NULL, 0, &run) == CAMR_NO_COMPLETION);
@@ -184,14 +188,14 @@ static void freezes(void)
     uint32_t ccb, one, two, left;
     bool is_due;
     uint64_t reading;
-    WANT(camr_submit(engine, 0, 0, 0, &ccb) == CAMR_DONE);
+    WANT(camr_submit(engine, 0, 0, 0, 0, &ccb) == CAMR_DONE);
     WANT(camr_guest_freeze(engine, 0, 5, &one) == CAMR_DONE && one == 1);
     WANT(camr_guest_freeze_controller(engine, 0, 5, &two) == CAMR_DONE && two == 2);
     WANT(camr_guest_freeze(engine, 9, 5, &left) == CAMR_UNKNOWN && left == 0);
-    WANT(camr_dispatch(engine, 0, &ccb) == CAMR_FROZEN);
+    WANT(camr_dispatch(engine, 0, &ccb, &advice) == CAMR_FROZEN);
     WANT(camr_guest_release(engine, 1, &left) == CAMR_DONE && left == 0);
     WANT(camr_guest_release(engine, 1, &left) == CAMR_NO_TOKEN);
-    WANT(camr_dispatch(engine, 0, &ccb) == CAMR_CONTROLLER_FROZEN);
+    WANT(camr_dispatch(engine, 0, &ccb, &advice) == CAMR_CONTROLLER_FROZEN);
     WANT(camr_next_due(engine, &is_due, &reading) == CAMR_DONE && !is_due);
     camr_close(engine);
 }
@@ -202,14 +206,14 @@ static void parks(void)
     camr_run *run = failed(engine), *again, *none;
     uint64_t r0;
     bool ended;
-    WANT(camr_stretch(run) == CAMR_DONE && camr_advance(other, run, &r0, &ended) == CAMR_NOT_OUT);
-    WANT(camr_drive(other, run, &r0, &ended) == CAMR_NOT_OUT && !ended && r0 == 0);
+    WANT(camr_stretch(run) == CAMR_DONE && camr_advance(other, run, &r0, &ended, &fate, &code) == CAMR_NOT_OUT);
+    WANT(camr_drive(other, run, &r0, &ended, &fate, &code) == CAMR_NOT_OUT && !ended && r0 == 0);
     WANT(camr_park(other, run) == CAMR_NOT_OUT && camr_park(engine, run) == CAMR_DONE);
-    WANT(camr_stretch(run) == CAMR_SPENT && camr_drive(engine, run, &r0, &ended) == CAMR_SPENT && !ended);
+    WANT(camr_stretch(run) == CAMR_SPENT && camr_drive(engine, run, &r0, &ended, &fate, &code) == CAMR_SPENT && !ended);
     camr_run_free(run);
     WANT(camr_resume(engine, 2, &none) == CAMR_UNKNOWN && none == NULL);
     WANT(camr_resume(engine, 1, &again) == CAMR_DONE && again != NULL);
-    WANT(camr_stretch(again) == CAMR_DONE && camr_drive(engine, again, &r0, &ended) == CAMR_DONE && ended && r0 == 7);
+    WANT(camr_stretch(again) == CAMR_DONE && camr_drive(engine, again, &r0, &ended, &fate, &code) == CAMR_DONE && ended && r0 == 7);
     camr_close(other);
     camr_close(engine);
     camr_run_free(again);
@@ -258,10 +262,10 @@ static camr_engine *held(void)
     camr_engine *engine = opened();
     camr_run *run;
     uint32_t it;
-    WANT(camr_submit(engine, 0, 0, 1, &it) == CAMR_DONE && camr_dispatch(engine, 0, &it) == CAMR_DONE && it == 1);
+    WANT(camr_submit(engine, 0, 0, 1, 0, &it) == CAMR_DONE && camr_dispatch(engine, 0, &it, &advice) == CAMR_DONE && it == 1);
     WANT(camr_complete(engine, 1, CAMR_REQ_CMP, 0, NULL, 0, &run) == CAMR_DONE && run == NULL);
-    WANT(camr_submit(engine, 0, 0, 1, &it) == CAMR_DONE && camr_dispatch(engine, 0, &it) == CAMR_DONE && it == 2);
-    WANT(camr_submit(engine, 0, 0, 0, &it) == CAMR_DONE && it == 3);
+    WANT(camr_submit(engine, 0, 0, 1, 0, &it) == CAMR_DONE && camr_dispatch(engine, 0, &it, &advice) == CAMR_DONE && it == 2);
+    WANT(camr_submit(engine, 0, 0, 0, 0, &it) == CAMR_DONE && it == 3);
     WANT(camr_guest_freeze(engine, 0, 5, &it) == CAMR_DONE && camr_guest_release(engine, 1, &it) == CAMR_DONE);
     WANT(camr_guest_freeze_controller(engine, 0, 6, &it) == CAMR_DONE && it == 2);
     WANT(camr_clock(engine, 9, &it) == CAMR_DONE);
@@ -297,15 +301,15 @@ static void goes_on(camr_engine *engine, uint32_t active, uint32_t waiting, uint
     uint64_t next;
     char place[64];
     size_t written;
-    WANT(camr_dispatch(engine, 0, &it) == CAMR_NO_OPENING);
+    WANT(camr_dispatch(engine, 0, &it, &advice) == CAMR_NO_OPENING);
     WANT(camr_carried(engine, 0, place, sizeof place, &written, &next) == CAMR_TAKEN && written == 0 && next == 0);
     WANT(camr_trace(engine, 0, place, sizeof place, &written, &next) == CAMR_DONE && memcmp(place, "dispatch 0 = Q3\n", written) == 0);
     WANT(camr_take(engine, place, sizeof place, &written) == CAMR_DONE && written == 16 && memcmp(place, "dispatch 0 = Q3\n", 16) == 0);
     WANT(camr_complete(engine, active, CAMR_REQ_CMP, 0, NULL, 0, &run) == CAMR_DONE && run == NULL);
-    WANT(camr_dispatch(engine, 0, &it) == CAMR_CONTROLLER_FROZEN);
+    WANT(camr_dispatch(engine, 0, &it, &advice) == CAMR_CONTROLLER_FROZEN);
     WANT(camr_guest_release(engine, freeze, &it) == CAMR_DONE && it == 0);
     WANT(camr_guest_release(engine, freeze, &it) == CAMR_NO_TOKEN);
-    WANT(camr_dispatch(engine, 0, &it) == CAMR_DONE && it == waiting);
+    WANT(camr_dispatch(engine, 0, &it, &advice) == CAMR_DONE && it == waiting);
 }
 
 static void follows(void)
@@ -342,7 +346,7 @@ static void follows_not(void)
     WANT(camr_succeed(&engine, "\xff", 1, false, NULL, 0) == CAMR_RUNS_LIVE);
     WANT(camr_park(engine, run) == CAMR_DONE && camr_succeed(&engine, NULL, 0, true, NULL, 0) == CAMR_RUNS_LIVE);
     camr_run_free(run);
-    WANT(camr_resume(engine, 1, &run) == CAMR_DONE && camr_drive(engine, run, &r0, &ended) == CAMR_DONE && ended);
+    WANT(camr_resume(engine, 1, &run) == CAMR_DONE && camr_drive(engine, run, &r0, &ended, &fate, &code) == CAMR_DONE && ended);
     camr_run_free(run);
     WANT(camr_succeed(&engine, NULL, 0, false, NULL, 0) == CAMR_DONE);
     camr_close(engine);
@@ -426,7 +430,7 @@ static void takes_run(camr_engine *engine, uint32_t number, uint32_t freeze)
     bool ended;
     WANT(camr_take_run(engine, &run) == CAMR_DONE && run != NULL);
     WANT(camr_run_numbers(run, &its_number, &its_freeze) == CAMR_DONE && its_number == number && its_freeze == freeze);
-    WANT(camr_drive(engine, run, &r0, &ended) == CAMR_DONE && ended && r0 == 7);
+    WANT(camr_drive(engine, run, &r0, &ended, &fate, &code) == CAMR_DONE && ended && r0 == 7 && fate == CAMR_REQUEUED && code == 0);
     camr_run_free(run);
 }
 
@@ -462,7 +466,7 @@ static void goes_on_after_a_crash(void)
     has_totals(engine, 9, 2, 0, 2);
     takes_run(engine, 2, 2);
     takes_no_run(engine);
-    WANT(camr_resume(engine, 1, &run) == CAMR_DONE && camr_drive(engine, run, &r0, &ended) == CAMR_DONE && ended);
+    WANT(camr_resume(engine, 1, &run) == CAMR_DONE && camr_drive(engine, run, &r0, &ended, &fate, &code) == CAMR_DONE && ended);
     camr_run_free(run);
     WANT(camr_guest_release(engine, 3, &it) == CAMR_DONE && it == 0 && camr_guest_release(engine, 3, &it) == CAMR_NO_TOKEN);
     has_totals(engine, 15, 0, 0, 0);
@@ -591,15 +595,15 @@ static void counts(void)
     WANT(camr_succeed(&engine, NULL, 0, true, NULL, 0) == CAMR_DONE && camr_succeed(&engine, manifest, sizeof manifest - 1, false, NULL, 0) == CAMR_DONE);
     has_lines(engine, (const char *const[]){
         "camr_records_total 10", "camr_ccbs_submitted_total{queue=\"0\"} 3", "camr_ccbs_active{queue=\"0\"} 1", "camr_freezes 1", "camr_clock_seconds 0.009", NULL});
-    WANT(camr_clock(engine, 20, &it) == CAMR_DONE && camr_guest_release(engine, 1, &it) == CAMR_DONE && camr_dispatch(engine, 7, &it) == CAMR_UNKNOWN);
+    WANT(camr_clock(engine, 20, &it) == CAMR_DONE && camr_guest_release(engine, 1, &it) == CAMR_DONE && camr_dispatch(engine, 7, &it, &advice) == CAMR_UNKNOWN);
     WANT(camr_complete(engine, 1, CAMR_SCSI_STATUS_ERROR, 2, "\x70\0\6", 3, &run) == CAMR_DONE && run != NULL);
     has_lines(engine, (const char *const[]){
         "camr_runs_live 1", "camr_queue_freezes{queue=\"0\"} 1", "camr_ccbs_completed_total{queue=\"0\",status=\"0c\"} 1", "camr_recoveries_total{queue=\"0\"} 1",
         "camr_controller_frozen_seconds_total{controller=\"0\"} 0.020", "camr_calls_refused_total{refusal=\"C1\"} 1", NULL});
-    WANT(camr_clock(engine, 1020, &it) == CAMR_DONE && camr_stretch(run) == CAMR_DONE && camr_advance(engine, run, &r0, &ended) == CAMR_DONE && !ended);
+    WANT(camr_clock(engine, 1020, &it) == CAMR_DONE && camr_stretch(run) == CAMR_DONE && camr_advance(engine, run, &r0, &ended, &fate, &code) == CAMR_DONE && !ended);
     WANT(camr_park(engine, run) == CAMR_DONE);
     camr_run_free(run);
-    WANT(camr_resume(engine, 1, &run) == CAMR_DONE && camr_drive(engine, run, &r0, &ended) == CAMR_DONE && ended);
+    WANT(camr_resume(engine, 1, &run) == CAMR_DONE && camr_drive(engine, run, &r0, &ended, &fate, &code) == CAMR_DONE && ended);
     camr_run_free(run);
     has_lines(engine, (const char *const[]){
         "camr_records_total 20", "camr_requeues_total{queue=\"0\"} 1", "camr_instructions_total{queue=\"0\"} 7", "camr_program_runs_total{program=\"p1\"} 1",
@@ -643,17 +647,17 @@ static void nulls_and_faults(void)
     bool ended;
     WANT(camr_open(manifest, 1, NULL, NULL, 0) == CAMR_NULL && camr_open(NULL, 1, &none, NULL, 0) == CAMR_NULL && none == NULL);
     WANT(camr_open(manifest, (size_t)PTRDIFF_MAX + 1, &none, NULL, 0) == CAMR_TOO_LONG);
-    WANT(camr_open("version = 3", 11, &none, fault, sizeof fault) == CAMR_FAULTY && none == NULL && strcmp(fault, "M2") == 0);
-    WANT(camr_open("version = 3", 11, &none, fault, 1) == CAMR_FAULTY && fault[0] == '\0');
+    WANT(camr_open("version = 4", 11, &none, fault, sizeof fault) == CAMR_FAULTY && none == NULL && strcmp(fault, "M2") == 0);
+    WANT(camr_open("version = 4", 11, &none, fault, 1) == CAMR_FAULTY && fault[0] == '\0');
     WANT(camr_open("\xff", 1, &none, NULL, 0) == CAMR_NOT_UTF8 && camr_open(NULL, 0, &none, NULL, 0) == CAMR_FAULTY);
-    WANT(camr_submit(NULL, 0, 0, 0, &it) == CAMR_NULL && camr_submit(engine, 0, 0, 0, NULL) == CAMR_NULL);
+    WANT(camr_submit(NULL, 0, 0, 0, 0, &it) == CAMR_NULL && camr_submit(engine, 0, 0, 0, 0, NULL) == CAMR_NULL);
     WANT(camr_complete(engine, 1, CAMR_REQ_CMP, 0, NULL, 1, &run) == CAMR_NULL && run == NULL);
     run = (camr_run *)fault, r0 = 9, ended = true;
     WANT(camr_complete(NULL, 1, CAMR_REQ_CMP, 0, NULL, 0, &run) == CAMR_NULL && run == NULL);
-    WANT(camr_drive(engine, NULL, &r0, &ended) == CAMR_NULL && r0 == 0 && !ended);
+    WANT(camr_drive(engine, NULL, &r0, &ended, &fate, &code) == CAMR_NULL && r0 == 0 && !ended);
     run = (camr_run *)fault;
     WANT(camr_resume(NULL, 1, &run) == CAMR_NULL && run == NULL);
-    WANT(camr_stretch(NULL) == CAMR_NULL && camr_advance(engine, NULL, &r0, &ended) == CAMR_NULL);
+    WANT(camr_stretch(NULL) == CAMR_NULL && camr_advance(engine, NULL, &r0, &ended, &fate, &code) == CAMR_NULL);
     WANT(camr_trace(engine, 0, NULL, 9, &written, &r0) == CAMR_NULL);
     written = 9;
     WANT(camr_metrics(NULL, fault, sizeof fault, &written) == CAMR_NULL && written == 0 && camr_metrics(engine, fault, sizeof fault, NULL) == CAMR_NULL);
@@ -663,6 +667,160 @@ static void nulls_and_faults(void)
     WANT(camr_result_text(25, fault, sizeof fault, &written) == CAMR_UNKNOWN && written == 0);
     camr_run_free(NULL);
     camr_close(NULL);
+    camr_close(engine);
+}
+
+/* Two queues of version 3: one policy advises the class of its CCB and requeues it, the other one finishes its CCB. */
+static const char classed[] =
+    "version = 3\n"
+    "controllers = 1\n"
+    "[[queue]]\n"
+    "openings = 1\n"
+    "controller = 0\n"
+    "program = \"again\"\n"
+    "[[queue]]\n"
+    "openings = 1\n"
+    "controller = 0\n"
+    "program = \"gone\"\n"
+    "[[program]]\n"
+    "name = \"again\"\n"
+    "asm = \"\"\"\n"
+    "ldxw r6, [r1+28]\n"
+    "jeq r2, 0, on\n"
+    "mov64 r1, r2\n"
+    "call 2\n"
+    "on:\n"
+    "mov64 r1, r6\n"
+    "call 15\n"
+    "mov64 r1, 1\n"
+    "call 4\n"
+    "mov64 r0, 0\n"
+    "exit\n"
+    "\"\"\"\n"
+    "[[program]]\n"
+    "name = \"gone\"\n"
+    "asm = \"\"\"\n"
+    "jeq r2, 0, on\n"
+    "mov64 r1, r2\n"
+    "call 2\n"
+    "on:\n"
+    "mov64 r1, 0x0b\n"
+    "call 5\n"
+    "mov64 r0, 0\n"
+    "exit\n"
+    "\"\"\"\n";
+
+/* Takes the run to its next stop, and the engine takes it over. */
+static bool advanced(camr_engine *engine, camr_run *run)
+{
+    uint64_t r0;
+    bool ended;
+    WANT(camr_stretch(run) == CAMR_DONE && camr_advance(engine, run, &r0, &ended, &fate, &code) == CAMR_DONE);
+    return ended;
+}
+
+static void classes_and_fates(void)
+{
+    camr_engine *engine, *other = opened();
+    camr_run *run;
+    uint32_t ccb, waiting;
+    uint64_t r0;
+    bool ended;
+    WANT(camr_open(classed, sizeof classed - 1, &engine, NULL, 0) == CAMR_DONE);
+    WANT(camr_submit(engine, 0, 0, 1, 0x28, &ccb) == CAMR_DONE && ccb == 1 && camr_submit(engine, 0, 1, 1, 0, &waiting) == CAMR_DONE);
+    WANT(camr_dispatch(engine, 0, &ccb, &advice) == CAMR_DONE && ccb == 1 && advice == 0);
+    WANT(camr_withdraw(engine, 1) == CAMR_NOT_ACTIVE && camr_withdraw(engine, 3) == CAMR_UNKNOWN && camr_withdraw(NULL, 1) == CAMR_NULL);
+    WANT(camr_withdraw(engine, waiting) == CAMR_DONE && camr_withdraw(engine, waiting) == CAMR_UNKNOWN && camr_withdraw(other, 1) == CAMR_UNKNOWN);
+    WANT(camr_complete(engine, ccb, CAMR_CMD_TIMEOUT, 0, NULL, 0, &run) == CAMR_DONE && run != NULL);
+    fate = 9, code = 9;
+    WANT(camr_advance(engine, run, &r0, &ended, &fate, &code) == CAMR_NOT_STRETCHED && fate == CAMR_KEPT && code == 0);
+    fate = 9, code = 9;
+    WANT(camr_drive(other, run, &r0, &ended, &fate, &code) == CAMR_NOT_OUT && fate == CAMR_KEPT && code == 0);
+    WANT(!advanced(engine, run) && fate == CAMR_KEPT && !advanced(engine, run) && fate == CAMR_KEPT);
+    WANT(!advanced(engine, run) && fate == CAMR_REQUEUED && code == 0);
+    WANT(camr_drive(other, run, &r0, &ended, &fate, &code) == CAMR_NOT_OUT && fate == CAMR_KEPT);
+    WANT(camr_park(engine, run) == CAMR_DONE);
+    WANT(camr_drive(engine, run, &r0, &ended, &fate, &code) == CAMR_SPENT && fate == CAMR_KEPT);
+    camr_run_free(run);
+    WANT(camr_resume(engine, 1, &run) == CAMR_DONE && camr_advance(engine, run, &r0, &ended, &fate, &code) == CAMR_NOT_STRETCHED && fate == CAMR_REQUEUED);
+    WANT(advanced(engine, run) && fate == CAMR_REQUEUED);
+    camr_run_free(run);
+    WANT(camr_dispatch(engine, 0, &ccb, &advice) == CAMR_DONE && ccb == 1 && advice == 0x28);
+    WANT(camr_submit(engine, 1, 0, 1, 0, &ccb) == CAMR_DONE && camr_dispatch(engine, 1, &ccb, &advice) == CAMR_DONE && advice == 0);
+    WANT(camr_complete(engine, ccb, CAMR_CMD_TIMEOUT, 0, NULL, 0, &run) == CAMR_DONE && run != NULL);
+    WANT(camr_drive(engine, run, &r0, &ended, &fate, &code) == CAMR_DONE && ended && fate == CAMR_FINISHED && code == 0x0b);
+    camr_run_free(run);
+    camr_close(other);
+    camr_close(engine);
+}
+
+/* The advice and the fate stay over a crash and a succession; a start reports an advice once, and a refused one none. */
+static void advice_stays(void)
+{
+    static const char front[] = "camr-trace 3\nsubmit 0 0 1 40 = ccb 1\nsubmit 0 1 1 0 = ccb 2\ndispatch 0 = ccb 1 advice 0\nwithdraw 2 = ok\n";
+    camr_engine *engine, *again;
+    camr_run *run;
+    char text[1024], place[512];
+    uint32_t ccb, numbers[2], states[2];
+    uint64_t r0, next;
+    size_t length, written, count;
+    bool ended;
+    WANT(camr_open(classed, sizeof classed - 1, &engine, NULL, 0) == CAMR_DONE);
+    WANT(camr_submit(engine, 0, 0, 1, 0x28, &ccb) == CAMR_DONE && camr_submit(engine, 0, 1, 1, 0, &ccb) == CAMR_DONE && ccb == 2);
+    WANT(camr_dispatch(engine, 0, &ccb, &advice) == CAMR_DONE && ccb == 1 && camr_withdraw(engine, 2) == CAMR_DONE);
+    WANT(camr_ccbs(engine, 0, numbers, states, 2, &count) == CAMR_DONE && count == 1 && numbers[0] == 1);
+    WANT(camr_trace(engine, 0, text, sizeof text, &length, &next) == CAMR_DONE && length == sizeof front - 1 && memcmp(text, front, length) == 0);
+    WANT(camr_complete(engine, 1, CAMR_CMD_TIMEOUT, 0, NULL, 0, &run) == CAMR_DONE && run != NULL);
+    WANT(camr_withdraw(engine, 1) == CAMR_NOT_ACTIVE); /* it is in recovery */
+    fate = CAMR_KEPT;
+    while (fate != CAMR_REQUEUED) WANT(!advanced(engine, run));
+    WANT(camr_trace(engine, 0, text, sizeof text, &length, &next) == CAMR_DONE);
+    camr_run_free(run);
+    camr_close(engine);
+    /* killed after the requeue and before the exit */
+    WANT(camr_recover(classed, sizeof classed - 1, text, length, &again, NULL, 0) == CAMR_DONE && camr_take_run(again, &run) == CAMR_DONE);
+    fate = 9;
+    WANT(camr_drive(again, run, &r0, &ended, &fate, &code) == CAMR_DONE && ended && fate == CAMR_REQUEUED && code == 0);
+    camr_run_free(run);
+    WANT(camr_succeed(&again, manifest, sizeof manifest - 1, false, NULL, 0) == CAMR_DOES_NOT_FIT);
+    WANT(camr_succeed(&again, NULL, 0, true, NULL, 0) == CAMR_DONE);
+    WANT(camr_carried(again, 0, place, sizeof place - 1, &written, &next) == CAMR_DONE);
+    place[written] = '\0';
+    WANT(strstr(place, "\nccb 1 0 0 0 1 40 40 waiting\n") != NULL);
+    ccb = advice = 9;
+    WANT(camr_dispatch(again, 1, &ccb, &advice) == CAMR_NOTHING_WAITS && ccb == 0 && advice == 0);
+    WANT(camr_dispatch(again, 0, &ccb, &advice) == CAMR_DONE && ccb == 1 && advice == 0x28);
+    ccb = advice = 9;
+    WANT(camr_dispatch(again, 0, &ccb, &advice) != CAMR_DONE && ccb == 0 && advice == 0);
+    WANT(camr_dispatch(again, 0, &ccb, NULL) == CAMR_NULL && camr_dispatch(again, 0, NULL, &advice) == CAMR_NULL);
+    WANT(camr_drive(again, NULL, &r0, &ended, NULL, &code) == CAMR_NULL && camr_drive(again, NULL, &r0, &ended, &fate, NULL) == CAMR_NULL);
+    camr_close(again);
+}
+
+/* What a run did is told as well where memory is refused, and never falls back. */
+static void fates_short_of_memory(void)
+{
+    camr_engine *engine;
+    camr_run *run;
+    camr_result result;
+    uint32_t ccb, before = CAMR_KEPT;
+    uint64_t r0;
+    bool ended;
+    long tries = 0;
+    WANT(camr_open(classed, sizeof classed - 1, &engine, NULL, 0) == CAMR_DONE);
+    WANT(camr_submit(engine, 0, 0, 1, 7, &ccb) == CAMR_DONE && camr_dispatch(engine, 0, &ccb, &advice) == CAMR_DONE);
+    WANT(camr_complete(engine, ccb, CAMR_CMD_TIMEOUT, 0, NULL, 0, &run) == CAMR_DONE && run != NULL);
+    do {
+        before_refusal = tries++, fate = 9, code = 9;
+        result = camr_drive(engine, run, &r0, &ended, &fate, &code);
+        before_refusal = -1;
+        WANT(result == CAMR_DONE || (result == CAMR_OUT_OF_MEMORY && !ended));
+        WANT(fate >= before && fate <= CAMR_REQUEUED && code == 0);
+        before = fate;
+    } while (result != CAMR_DONE);
+    WANT(tries > 1 && ended && fate == CAMR_REQUEUED);
+    WANT(camr_drive(engine, run, &r0, &ended, &fate, &code) == CAMR_SPENT && fate == CAMR_KEPT);
+    camr_run_free(run);
     camr_close(engine);
 }
 
@@ -682,5 +840,8 @@ int main(void)
     counts();
     nulls_and_faults();
     streams();
+    classes_and_fates();
+    advice_stays();
+    fates_short_of_memory();
     return 0;
 }

@@ -39,9 +39,9 @@ uint32_t camr_raw_open(const uint8_t *manifest, size_t length, camr_engine **eng
 
 void camr_raw_close(camr_engine **engine) { *engine = NULL; }
 
-uint32_t camr_raw_submit(camr_engine **engine, uint32_t queue, uint32_t priority, uint32_t retries, uint32_t *ccb)
+uint32_t camr_raw_submit(camr_engine **engine, uint32_t queue, uint32_t priority, uint32_t retries, uint32_t class_, uint32_t *ccb)
 {
-    (void)priority, (void)retries;
+    (void)priority, (void)retries, (void)class_;
     *ccb = (*engine)->next++;
     (*engine)->ccbs[*ccb % CCBS].queue = queue;
     (*engine)->ccbs[*ccb % CCBS].failures = 0;
@@ -49,14 +49,17 @@ uint32_t camr_raw_submit(camr_engine **engine, uint32_t queue, uint32_t priority
     return CAMR_DONE;
 }
 
-uint32_t camr_raw_dispatch(camr_engine **engine, uint32_t queue, uint32_t *ccb)
+uint32_t camr_raw_dispatch(camr_engine **engine, uint32_t queue, uint32_t *ccb, uint32_t *advice)
 {
     if ((*engine)->queues[queue].active == OPENINGS) return CAMR_NO_OPENING;
     *ccb = (*engine)->queues[queue].waiting[(*engine)->queues[queue].first++ % CCBS];
+    *advice = CAMR_ADVICE_NONE;
     (*engine)->queues[queue].active++;
     (*engine)->live++;
     return CAMR_DONE;
 }
+
+uint32_t camr_raw_withdraw(camr_engine **engine, uint32_t ccb) { return (void)engine, (void)ccb, CAMR_DONE; }
 
 uint32_t camr_raw_complete(camr_engine **engine, uint32_t ccb, uint8_t status, uint8_t scsi, const uint8_t *sense, size_t sense_length,
                            camr_run **run, bool *started)
@@ -71,10 +74,12 @@ uint32_t camr_raw_complete(camr_engine **engine, uint32_t ccb, uint8_t status, u
     return CAMR_DONE;
 }
 
-uint32_t camr_raw_drive(camr_engine **engine, camr_run **run, uint64_t *r0, bool *ended)
+uint32_t camr_raw_drive(camr_engine **engine, camr_run **run, uint64_t *r0, bool *ended, uint32_t *fate, uint8_t *code)
 {
     (*engine)->failed = ++(*engine)->ccbs[(*run)->ccb % CCBS].failures;
-    if ((*engine)->failed < FAILURES) wait_again(*engine, (*run)->ccb);
+    *fate = (*engine)->failed < FAILURES ? CAMR_REQUEUED : CAMR_FINISHED;
+    *code = *fate == CAMR_FINISHED ? CAMR_SCSI_STATUS_ERROR : 0;
+    if (*fate == CAMR_REQUEUED) wait_again(*engine, (*run)->ccb);
     (*engine)->records++;
     *r0 = 0;
     *ended = true;

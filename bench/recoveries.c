@@ -19,20 +19,22 @@ static double seconds(void)
 
 static bool recover(camr_engine *engine)
 {
-    uint32_t ccb;
+    uint32_t ccb, advice, fate;
+    uint8_t code;
     camr_run *run;
     uint64_t r0;
     bool ended;
-    if (camr_dispatch(engine, 0, &ccb) != CAMR_DONE) return false;
+    if (camr_dispatch(engine, 0, &ccb, &advice) != CAMR_DONE) return false;
     if (camr_complete(engine, ccb, CAMR_BUSY, 0x08, NULL, 0, &run) != CAMR_DONE || run == NULL) return false;
-    bool done = camr_drive(engine, run, &r0, &ended) == CAMR_DONE && ended;
+    bool done = camr_drive(engine, run, &r0, &ended, &fate, &code) == CAMR_DONE && ended;
     camr_run_free(run);
     return done;
 }
 
 static bool start(camr_engine *engine, uint32_t *ccb)
 {
-    return camr_submit(engine, 1, 0, 1, ccb) == CAMR_DONE && camr_dispatch(engine, 1, ccb) == CAMR_DONE;
+    uint32_t advice;
+    return camr_submit(engine, 1, 0, 1, 0, ccb) == CAMR_DONE && camr_dispatch(engine, 1, ccb, &advice) == CAMR_DONE;
 }
 
 static bool serve(camr_engine *engine)
@@ -59,7 +61,7 @@ int main(int argc, char **argv)
     camr_engine *engine;
     uint32_t ccb;
     if (camr_open(manifest, length, &engine, NULL, 0) != CAMR_DONE) return 1;
-    if (camr_submit(engine, 0, 0, UINT32_MAX, &ccb) != CAMR_DONE) return 1;
+    if (camr_submit(engine, 0, 0, UINT32_MAX, 0, &ccb) != CAMR_DONE) return 1;
     double begun = seconds();
     for (int count = 0; count < COMPLETIONS; count++)
         if (!recover(engine)) return 1;

@@ -6,14 +6,16 @@ _camr_options() {
     case $1 in
     run) echo '--workers --strict --watch --watch=lines --watch=terminal' ;;
     live) echo '--clock --step --ack --journal --sync --metrics' ;;
-    decide) echo '--retries --attempts --clock --word --all-sense' ;;
+    migrate) echo '--to' ;;
+    decide) echo '--retries --class --attempts --clock --word --all-sense' ;;
+    try) echo '--seed --trace' ;;
     show) echo '--ccb --queue --run --freeze --from --to --status --sense --refused --summary --json --svg --perfetto' ;;
     esac
     echo '--help -h'
 }
 
 _camr() {
-    local commands='asm dis check explain migrate run live replay audit show decide help'
+    local commands='asm dis check explain migrate run live replay audit show decide try help'
     local cur=${COMP_WORDS[COMP_CWORD]} prev=${COMP_WORDS[COMP_CWORD - 1]} command=${COMP_WORDS[1]} kind=-f
     # bash takes `=` for a word of its own, and offers what stands after it
     if [[ $cur == = ]]; then
@@ -44,11 +46,16 @@ _camr() {
         mapfile -t COMPREPLY < <(compgen -W 'any C1 C2 C3 C5 Q2 Q3 Q4 Q5' -- "$cur")
         return
         ;;
+    migrate/--to | migrate/--to=)
+        mapfile -t COMPREPLY < <(compgen -W '2 3' -- "$cur")
+        return
+        ;;
     show/--ccb* | show/--queue* | show/--run* | show/--freeze* | show/--from* | show/--to*) return ;;
     show/--status* | show/--sense*) return ;;
-    decide/--retries* | decide/--attempts* | decide/--clock* | decide/--word*) return ;;
+    decide/--retries* | decide/--class* | decide/--attempts* | decide/--clock* | decide/--word*) return ;;
     live/--journal*) kind=-d ;;
-    live/--metrics* | show/--svg* | show/--perfetto*) ;;
+    try/--seed*) return ;;
+    live/--metrics* | show/--svg* | show/--perfetto* | try/--trace*) ;;
     audit/*) kind=-d ;;
     esac
     if [[ $cur == -* ]]; then

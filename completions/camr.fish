@@ -1,12 +1,14 @@
 # Completion of camr for fish: its commands, their options with the values that these take, and files. `.ci/completions` compares it
 # with what `camr --help` and the help of each command say.
 
-set -l commands asm dis check explain migrate run live replay audit show decide help
+set -l commands asm dis check explain migrate run live replay audit show decide try help
 set -l none "not __fish_seen_subcommand_from $commands"
-set -l files "__fish_seen_subcommand_from asm dis check explain migrate run live replay show decide; and not __fish_seen_subcommand_from help; and not string match -q -- '--watch=*' (commandline -ct)"
+set -l files "__fish_seen_subcommand_from asm dis check explain migrate run live replay show decide try; and not __fish_seen_subcommand_from help; and not string match -q -- '--watch=*' (commandline -ct)"
+set -l migrate '__fish_seen_subcommand_from migrate; and not __fish_seen_subcommand_from help'
 set -l run '__fish_seen_subcommand_from run; and not __fish_seen_subcommand_from help'
 set -l live '__fish_seen_subcommand_from live; and not __fish_seen_subcommand_from help'
 set -l decide '__fish_seen_subcommand_from decide; and not __fish_seen_subcommand_from help'
+set -l try '__fish_seen_subcommand_from try; and not __fish_seen_subcommand_from help'
 set -l show '__fish_seen_subcommand_from show; and not __fish_seen_subcommand_from help'
 
 complete -c camr -f
@@ -18,15 +20,18 @@ complete -c camr -n "$none" -a asm -d 'Assemble the text of a program'
 complete -c camr -n "$none" -a dis -d 'Print the text of a program'
 complete -c camr -n "$none" -a check -d 'Verify the programs of a manifest'
 complete -c camr -n "$none" -a explain -d 'Say what a code means, or why a manifest, a scenario or a trace is refused'
-complete -c camr -n "$none" -a migrate -d 'Write a manifest with one controller over its queues'
+complete -c camr -n "$none" -a migrate -d 'Write a manifest anew in a later version'
 complete -c camr -n "$none" -a run -d 'Run a scenario and print its trace'
 complete -c camr -n "$none" -a live -d 'Carry out the lines of standard input as they come'
 complete -c camr -n "$none" -a replay -d 'Replay a trace and say whether it is lawful'
 complete -c camr -n "$none" -a audit -d 'Replay a journal and say whether it is lawful'
 complete -c camr -n "$none" -a show -d 'Print what happened in a trace'
 complete -c camr -n "$none" -a decide -d 'Say what a policy does with a failed command'
+complete -c camr -n "$none" -a try -d 'Try policies on devices, in virtual time'
 complete -c camr -n "$none" -a help -d 'Print the help, or that of a command'
 complete -c camr -n "__fish_seen_subcommand_from help" -a "$commands"
+
+complete -c camr -n "$migrate" -l to -x -a '2 3' -d 'The version to write'
 
 complete -c camr -n "$run" -l workers -x -a '(seq 16)' -d 'How many threads serve completions'
 complete -c camr -n "$run" -l strict -d 'Count the calls that were refused, and fail if any was'
@@ -56,7 +61,11 @@ complete -c camr -n "$show" -l svg -r -F -d 'Draw a picture in place of the acco
 complete -c camr -n "$show" -l perfetto -r -F -d 'Write trace events for Perfetto'
 
 complete -c camr -n "$decide" -l retries -x -d 'Retries that the command has left'
+complete -c camr -n "$decide" -l class -x -d 'What the command is'
 complete -c camr -n "$decide" -l attempts -x -d 'How often the command was started'
 complete -c camr -n "$decide" -l clock -x -d 'What the clock reads, in milliseconds'
 complete -c camr -n "$decide" -l word -x -d 'A word of a table, as 0:3=5'
 complete -c camr -n "$decide" -l all-sense -d 'Print a table of all sense data'
+
+complete -c camr -n "$try" -l seed -x -d 'Draw by that seed'
+complete -c camr -n "$try" -l trace -r -F -d 'Write the trace into that file'

@@ -10,7 +10,7 @@
  *     if (journal_start(&journal, "folder", manifest, length, true, &engine) != JOURNAL_DONE) ...journal_text says why
  *     ...after a crash or a shutdown: the runs, freezes and CCBs that were found
  *     ...calls of the engine, and journal_keep before anything of them gets out
- *     journal_end(&journal, engine);
+ *     journal_end(&journal, engine, NULL, NULL);
  *     journal_close(&journal);
  *     camr_close(engine);
  *
@@ -50,7 +50,8 @@ enum journal_result {
     JOURNAL_OTHER_MANIFEST,       /* J2: the manifest is not the one in force in the newest segment, which goes on */
     JOURNAL_IN_USE,               /* J3: another engine has the journal */
     JOURNAL_RUN_LIVE,             /* N3: a run is live, so no engine can follow */
-    JOURNAL_DOES_NOT_FIT,         /* N4: the manifest lacks a queue or a controller of what is left */
+    JOURNAL_DOES_NOT_FIT,         /* N4: the manifest lacks a queue or a controller of what is left, or a CCB that is left has a class or an advice
+                                     and the manifest is of version 1 or 2 */
     JOURNAL_FAULTY,               /* the manifest, or a file of the journal, has a fault: journal->fault says which */
     JOURNAL_FILE,                 /* a file cannot be read or written: journal->name says which, and journal->error why */
     JOURNAL_ENGINE                /* the engine refused a call: journal->refused is its result, as CAMR_OUT_OF_MEMORY */

@@ -65,7 +65,7 @@ enum {
     CAMR_OUT_OF_MEMORY = 1,       /* memory was refused */
     CAMR_UNKNOWN = 2,             /* C1, recorded: no such queue, controller, CCB or parked run */
     CAMR_LIMIT = 3,               /* C2, recorded: a limit is reached */
-    CAMR_NOT_ACTIVE = 4,          /* C3, recorded: the CCB is not active */
+    CAMR_NOT_ACTIVE = 4,          /* C3, recorded: the CCB is not active; or, for camr_withdraw, does not wait */
     CAMR_GOES_BACK = 5,           /* C5, recorded: the clock would go back */
     CAMR_FROZEN = 6,              /* Q2, recorded: the queue is frozen */
     CAMR_NO_OPENING = 7,          /* Q3, recorded: as many of its CCBs are active as the queue has openings */
@@ -85,7 +85,7 @@ enum {
     CAMR_TOO_LONG = 21,           /* a length is greater than that of any object */
     CAMR_TAKEN = 22,              /* the record was taken before */
     CAMR_RUNS_LIVE = 23,          /* a run is live: no engine can follow */
-    CAMR_DOES_NOT_FIT = 24        /* a live CCB or a freeze is of a queue or a controller that the new manifest does not have */
+    CAMR_DOES_NOT_FIT = 24        /* a live CCB or a freeze is of what the new manifest lacks: a queue, a controller, classes or advice */
 };
 
 /* What camr_ccbs reports of a live CCB. */
@@ -93,6 +93,28 @@ enum {
     CAMR_WAITING = 1,             /* it waits for its start */
     CAMR_ACTIVE = 2,              /* a device works on it */
     CAMR_IN_RECOVERY = 3          /* its completion failed, and a run decides what becomes of it */
+};
+
+/* What a run has done with its CCB. */
+enum {
+    CAMR_KEPT = 0,                /* it has not disposed of it yet */
+    CAMR_REQUEUED = 1,            /* the CCB waits again */
+    CAMR_FINISHED = 2             /* the CCB is finished, with a final code */
+};
+
+/* What the usual words of a policy's advice ask of the host, before the CCB is tried again. Words from CAMR_ADVICE_OF_HOST on are the
+ * host's own. */
+enum {
+    CAMR_ADVICE_NONE = 0,
+    CAMR_ADVICE_TEST_UNIT_READY = 1,
+    CAMR_ADVICE_START_UNIT = 2,
+    CAMR_ADVICE_REQUEST_SENSE = 3,
+    CAMR_ADVICE_ABORT = 4,
+    CAMR_ADVICE_LOGICAL_UNIT_RESET = 5,
+    CAMR_ADVICE_TARGET_RESET = 6,
+    CAMR_ADVICE_BUS_RESET = 7,
+    CAMR_ADVICE_RECONNECT = 8,
+    CAMR_ADVICE_OF_HOST = 65536
 };
 
 /* CAM statuses that a device may report. */
@@ -128,8 +150,9 @@ typedef struct camr_totals_t {
 uint32_t camr_raw_open(const uint8_t *manifest, size_t length, camr_engine **engine, uint8_t *fault, size_t fault_length,
                        size_t *written);
 void camr_raw_close(camr_engine **engine);
-uint32_t camr_raw_submit(camr_engine **engine, uint32_t queue, uint32_t priority, uint32_t retries, uint32_t *ccb);
-uint32_t camr_raw_dispatch(camr_engine **engine, uint32_t queue, uint32_t *ccb);
+uint32_t camr_raw_submit(camr_engine **engine, uint32_t queue, uint32_t priority, uint32_t retries, uint32_t class_, uint32_t *ccb);
+uint32_t camr_raw_dispatch(camr_engine **engine, uint32_t queue, uint32_t *ccb, uint32_t *advice);
+uint32_t camr_raw_withdraw(camr_engine **engine, uint32_t ccb);
 uint32_t camr_raw_complete(camr_engine **engine, uint32_t ccb, uint8_t status, uint8_t scsi, const uint8_t *sense,
                            size_t sense_length, camr_run **run, bool *started);
 uint32_t camr_raw_clock(camr_engine **engine, uint64_t reading, uint32_t *removed);
@@ -140,8 +163,8 @@ uint32_t camr_raw_guest_release(camr_engine **engine, uint32_t freeze, uint32_t 
 uint32_t camr_raw_park(camr_engine **engine, camr_run **run);
 uint32_t camr_raw_resume(camr_engine **engine, uint32_t number, camr_run **run, bool *resumed);
 uint32_t camr_raw_stretch(camr_run **run);
-uint32_t camr_raw_advance(camr_engine **engine, camr_run **run, uint64_t *r0, bool *ended);
-uint32_t camr_raw_drive(camr_engine **engine, camr_run **run, uint64_t *r0, bool *ended);
+uint32_t camr_raw_advance(camr_engine **engine, camr_run **run, uint64_t *r0, bool *ended, uint32_t *fate, uint8_t *code);
+uint32_t camr_raw_drive(camr_engine **engine, camr_run **run, uint64_t *r0, bool *ended, uint32_t *fate, uint8_t *code);
 void camr_raw_run_numbers(camr_run **run, uint32_t *number, uint32_t *freeze);
 void camr_raw_run_free(camr_run **run);
 void camr_raw_totals(camr_engine **engine, camr_totals_t *sums);
@@ -202,21 +225,33 @@ static inline void camr_close(camr_engine *engine)
 }
 
 /* Submits a CCB to a queue. *ccb is its number, from 1. The CCB with the lowest priority number starts first. The CCB may be tried again
- * `retries` times, which its policy reads. Results: CAMR_UNKNOWN, CAMR_LIMIT, CAMR_OUT_OF_MEMORY. */
-static inline camr_result camr_submit(camr_engine *engine, uint32_t queue, uint32_t priority, uint32_t retries, uint32_t *ccb)
+ * `retries` times, which its policy reads. `class_` is what the command is, as a number of the host's choice, say the SCSI operation code:
+ * its policy reads it. Below version 3 of the manifest it is taken as 0. Results: CAMR_UNKNOWN, CAMR_LIMIT, CAMR_OUT_OF_MEMORY. */
+static inline camr_result camr_submit(camr_engine *engine, uint32_t queue, uint32_t priority, uint32_t retries, uint32_t class_,
+                                      uint32_t *ccb)
 {
     if (ccb != NULL) *ccb = 0;
     if (engine == NULL || ccb == NULL) return CAMR_NULL;
-    return camr_raw_submit(&engine, queue, priority, retries, ccb);
+    return camr_raw_submit(&engine, queue, priority, retries, class_, ccb);
 }
 
-/* Starts the CCB of a queue that goes first. *ccb is its number. The device has it from now on, until camr_complete. Results:
+/* Starts the CCB of a queue that goes first. *ccb is its number. The device has it from now on, until camr_complete. *advice is what a
+ * policy advised since the start before, and 0 if it advised nothing: the host does it before it gives the command to the device. Results:
  * CAMR_UNKNOWN, CAMR_FROZEN, CAMR_NO_OPENING, CAMR_NOTHING_WAITS, CAMR_CONTROLLER_FROZEN, CAMR_OUT_OF_MEMORY. */
-static inline camr_result camr_dispatch(camr_engine *engine, uint32_t queue, uint32_t *ccb)
+static inline camr_result camr_dispatch(camr_engine *engine, uint32_t queue, uint32_t *ccb, uint32_t *advice)
 {
     if (ccb != NULL) *ccb = 0;
-    if (engine == NULL || ccb == NULL) return CAMR_NULL;
-    return camr_raw_dispatch(&engine, queue, ccb);
+    if (advice != NULL) *advice = 0;
+    if (engine == NULL || ccb == NULL || advice == NULL) return CAMR_NULL;
+    return camr_raw_dispatch(&engine, queue, ccb, advice);
+}
+
+/* Takes a CCB that waits out of its queue, say because its device is gone, also while the queue is frozen: it is finished with the code
+ * CAMR_REQ_ABORTED. A host completes an active CCB instead, and withdraws one in recovery once its run has requeued it. Below version 3 of
+ * the manifest there is no CCB to withdraw. Results: CAMR_UNKNOWN; CAMR_NOT_ACTIVE if the CCB does not wait; CAMR_OUT_OF_MEMORY. */
+static inline camr_result camr_withdraw(camr_engine *engine, uint32_t ccb)
+{
+    return engine == NULL ? (camr_result)CAMR_NULL : camr_raw_withdraw(&engine, ccb);
 }
 
 /*
@@ -375,7 +410,8 @@ static inline camr_result camr_metrics(camr_engine *engine, char *buffer, size_t
  * Ends an engine without a live run, and begins another one in its place, which takes over its live CCBs, its freezes, its openings, the
  * words of its tables, and its clock. *engine is then the handle of the new engine, and keeps the tokens of its guests' freezes. The
  * manifest of the new engine has `length` bytes; NULL is the one in force, and `length` is 0 then. A queue keeps its present openings if
- * both manifests give it the same number, and a table its words if both give it the same length; otherwise they are those of the new one.
+ * both manifests give it the same number, and a table its words if both give it the same length and the same first words; otherwise they
+ * are those of the new one.
  *
  * Without `fresh`, numbers go on from the greatest ones given. With it, the CCBs, and likewise the freezes, are numbered 1, 2, 3 and so on
  * in the order of their old numbers, and runs begin at 1: from then on calls name the new numbers. camr_carried reports them.
@@ -385,7 +421,8 @@ static inline camr_result camr_metrics(camr_engine *engine, char *buffer, size_t
  *
  * Results, of which the first that holds is returned: CAMR_RUNS_LIVE, also for a parked run, and then the manifest is not read;
  * CAMR_NOT_UTF8 and CAMR_FAULTY, as for camr_open, with the text of the fault in `fault`; CAMR_DOES_NOT_FIT if a live CCB or a freeze is of
- * a queue or a controller that the new manifest does not have, which the one in force always has; CAMR_OUT_OF_MEMORY. Whichever it is, the
+ * a queue or a controller that the new manifest does not have, or if that is of version 1 or 2 and a live CCB has a class or an advice (the
+ * one in force always fits); CAMR_OUT_OF_MEMORY. Whichever it is, the
  * engine is as before, and *engine is its handle.
  */
 static inline camr_result camr_succeed(camr_engine **engine, const char *manifest, size_t length, bool fresh, char *fault,
@@ -509,14 +546,18 @@ static inline camr_result camr_stretch(camr_run *run)
 }
 
 /* Presents a run at its stop to its engine, which takes it over: *r0 is R0 after the stop, and *ended says whether the run has ended. The
- * run goes on from there, or is spent. Results: CAMR_NOT_STRETCHED; CAMR_SPENT; CAMR_NOT_OUT if it is a run of another engine, and
- * CAMR_OUT_OF_MEMORY: with these two the run is back after its last stop, and is stretched again. */
-static inline camr_result camr_advance(camr_engine *engine, camr_run *run, uint64_t *r0, bool *ended)
+ * run goes on from there, or is spent. *fate is what the run has done with its CCB so far: CAMR_KEPT, CAMR_REQUEUED, or CAMR_FINISHED with
+ * the final code in *code, which is 0 otherwise. With CAMR_NOT_STRETCHED and CAMR_OUT_OF_MEMORY they are what the run did up to its last
+ * recorded stop. With CAMR_SPENT, CAMR_NOT_OUT and CAMR_NULL they are CAMR_KEPT and 0, and say nothing about the CCB. Results: CAMR_NOT_STRETCHED; CAMR_SPENT; CAMR_NOT_OUT if it is a run of another engine,
+ * and CAMR_OUT_OF_MEMORY: with these two the run is back after its last stop, and is stretched again. */
+static inline camr_result camr_advance(camr_engine *engine, camr_run *run, uint64_t *r0, bool *ended, uint32_t *fate, uint8_t *code)
 {
     if (r0 != NULL) *r0 = 0;
     if (ended != NULL) *ended = false;
-    if (engine == NULL || run == NULL || r0 == NULL || ended == NULL) return CAMR_NULL;
-    return camr_raw_advance(&engine, &run, r0, ended);
+    if (fate != NULL) *fate = CAMR_KEPT;
+    if (code != NULL) *code = 0;
+    if (engine == NULL || run == NULL || r0 == NULL || ended == NULL || fate == NULL || code == NULL) return CAMR_NULL;
+    return camr_raw_advance(&engine, &run, r0, ended, fate, code);
 }
 
 /*
@@ -524,13 +565,16 @@ static inline camr_result camr_advance(camr_engine *engine, camr_run *run, uint6
  * with the same records, but faster. A run that was stretched is stretched again. With every result other than CAMR_DONE *ended is
  * false. Results: CAMR_SPENT; CAMR_NOT_OUT if it is a run of another engine, which is back after its last stop; CAMR_OUT_OF_MEMORY: what
  * the run did up to its last stop is recorded, *r0 is R0 after that stop, or 0 if there was none, and the host calls again to go on.
+ * *fate and *code are what the run has done with its CCB so far, as of camr_advance.
  */
-static inline camr_result camr_drive(camr_engine *engine, camr_run *run, uint64_t *r0, bool *ended)
+static inline camr_result camr_drive(camr_engine *engine, camr_run *run, uint64_t *r0, bool *ended, uint32_t *fate, uint8_t *code)
 {
     if (r0 != NULL) *r0 = 0;
     if (ended != NULL) *ended = false;
-    if (engine == NULL || run == NULL || r0 == NULL || ended == NULL) return CAMR_NULL;
-    return camr_raw_drive(&engine, &run, r0, ended);
+    if (fate != NULL) *fate = CAMR_KEPT;
+    if (code != NULL) *code = 0;
+    if (engine == NULL || run == NULL || r0 == NULL || ended == NULL || fate == NULL || code == NULL) return CAMR_NULL;
+    return camr_raw_drive(&engine, &run, r0, ended, fate, code);
 }
 
 /* Parks a run: it takes no step, and keeps its freezes, until camr_resume is given its number. The handle is spent. What the run did since

@@ -53,21 +53,23 @@ static void print_trace(camr_engine *engine)
 
 int main(int count, char **words)
 {
-    uint32_t ccb;
+    uint32_t ccb, advice;
     camr_run *run = NULL;
     if (count != 2) {
         fprintf(stderr, "usage: recover MANIFEST\n");
         return 2;
     }
     camr_engine *engine = open_engine(words[1]);
-    expect(camr_submit(engine, 0, 10, 3, &ccb), "camr_submit");
-    expect(camr_dispatch(engine, 0, &ccb), "camr_dispatch");
+    expect(camr_submit(engine, 0, 10, 3, 0, &ccb), "camr_submit");
+    expect(camr_dispatch(engine, 0, &ccb, &advice), "camr_dispatch");
     /* here a transport gives the CCB to its device, which in this example does not answer in time */
     expect(camr_complete(engine, ccb, CAMR_CMD_TIMEOUT, 0, NULL, 0, &run), "camr_complete");
     if (run != NULL) {
         uint64_t r0;
         bool ended;
-        expect(camr_drive(engine, run, &r0, &ended), "camr_drive");
+        uint32_t fate;
+        uint8_t code;
+        expect(camr_drive(engine, run, &r0, &ended, &fate, &code), "camr_drive");
         camr_run_free(run);
     }
     print_trace(engine);

@@ -56,15 +56,17 @@ Run complete(const Engine &engine, uint32_t ccb, uint8_t status)
 
 void recover(const Engine &engine)
 {
-    uint32_t ccb = 0;
-    expect(camr_submit(engine.get(), 0, 10, 3, &ccb), "camr_submit");
-    expect(camr_dispatch(engine.get(), 0, &ccb), "camr_dispatch");
+    uint32_t ccb = 0, advice = 0;
+    expect(camr_submit(engine.get(), 0, 10, 3, 0, &ccb), "camr_submit");
+    expect(camr_dispatch(engine.get(), 0, &ccb, &advice), "camr_dispatch");
     // here a transport gives the CCB to its device, which in this example does not answer in time
     const Run run = complete(engine, ccb, CAMR_CMD_TIMEOUT);
     if (run) {
         uint64_t r0 = 0;
         bool ended = false;
-        expect(camr_drive(engine.get(), run.get(), &r0, &ended), "camr_drive");
+        uint32_t fate = CAMR_KEPT;
+        uint8_t code = 0;
+        expect(camr_drive(engine.get(), run.get(), &r0, &ended, &fate, &code), "camr_drive");
     }
 }
 

@@ -18,10 +18,10 @@ LENGTH = ctypes.c_size_t
 # The parameters of each call, as shared.c has them. Those that return nothing stand below.
 CALLS = {
     "host_open": [ctypes.c_char_p, LENGTH, ctypes.POINTER(HANDLE), ctypes.c_char_p, LENGTH],
-    "host_submit": [HANDLE, NUMBER, NUMBER, NUMBER, ctypes.POINTER(NUMBER)],
-    "host_dispatch": [HANDLE, NUMBER, ctypes.POINTER(NUMBER)],
+    "host_submit": [HANDLE, NUMBER, NUMBER, NUMBER, NUMBER, ctypes.POINTER(NUMBER)],
+    "host_dispatch": [HANDLE, NUMBER, ctypes.POINTER(NUMBER), ctypes.POINTER(NUMBER)],
     "host_complete": [HANDLE, NUMBER, ctypes.c_uint8, ctypes.c_uint8, ctypes.c_char_p, LENGTH, ctypes.POINTER(HANDLE)],
-    "host_drive": [HANDLE, HANDLE, ctypes.POINTER(ctypes.c_uint64), ctypes.POINTER(ctypes.c_bool)],
+    "host_drive": [HANDLE, HANDLE, ctypes.POINTER(ctypes.c_uint64), ctypes.POINTER(ctypes.c_bool), ctypes.POINTER(NUMBER), ctypes.POINTER(ctypes.c_uint8)],
     "host_take": [HANDLE, ctypes.c_char_p, LENGTH, ctypes.POINTER(LENGTH)],
     "host_trace_end": [HANDLE, ctypes.c_char_p, LENGTH, ctypes.POINTER(LENGTH)],
     "host_result_text": [NUMBER, ctypes.c_char_p, LENGTH, ctypes.POINTER(LENGTH)],
@@ -68,27 +68,30 @@ class Engine:
         self.expect(call(first, buffer, len(buffer), ctypes.byref(written)))
         return buffer.raw[: written.value].decode()
 
-    def submit(self, queue, priority, retries):
+    def submit(self, queue, priority, retries, class_=0):
         ccb = NUMBER()
-        self.expect(self.library.host_submit(self.handle, queue, priority, retries, ctypes.byref(ccb)))
+        self.expect(self.library.host_submit(self.handle, queue, priority, retries, class_, ctypes.byref(ccb)))
         return ccb.value
 
     def dispatch(self, queue):
-        ccb = NUMBER()
-        self.expect(self.library.host_dispatch(self.handle, queue, ctypes.byref(ccb)))
-        return ccb.value
+        """Starts the next CCB. Returns its number, and what a policy advised before this try."""
+        ccb, advice = NUMBER(), NUMBER()
+        self.expect(self.library.host_dispatch(self.handle, queue, ctypes.byref(ccb), ctypes.byref(advice)))
+        return ccb.value, advice.value
 
     def complete(self, ccb, status, scsi=0, sense=b""):
-        """Reports what became of a CCB, and drives the run of its policy, if one starts, to its end. Returns R0 at that."""
-        run, r0, ended = HANDLE(), ctypes.c_uint64(), ctypes.c_bool()
+        """Reports what became of a CCB, and drives the run of its policy, if one starts, to its end. Returns what that has done with the
+        CCB, and the final code if it has finished it."""
+        run, r0, ended, fate, code = HANDLE(), ctypes.c_uint64(), ctypes.c_bool(), NUMBER(), ctypes.c_uint8()
         self.expect(self.library.host_complete(self.handle, ccb, status, scsi, sense, len(sense), ctypes.byref(run)))
         if not run:
             return None
         try:
-            self.expect(self.library.host_drive(self.handle, run, ctypes.byref(r0), ctypes.byref(ended)))
+            told = (ctypes.byref(out) for out in (r0, ended, fate, code))
+            self.expect(self.library.host_drive(self.handle, run, *told))
         finally:
             self.library.host_run_free(run)
-        return r0.value
+        return fate.value, code.value
 
     def trace(self):
         """The lines that were not taken yet, and the sums."""
@@ -103,7 +106,7 @@ def main():
         manifest = file.read()
     with Engine(load(sys.argv[1]), manifest) as engine:
         engine.submit(queue=0, priority=10, retries=3)
-        ccb = engine.dispatch(queue=0)
+        ccb, _ = engine.dispatch(queue=0)
         # here a transport gives the CCB to its device, which in this example does not answer in time
         engine.complete(ccb, CAMR_CMD_TIMEOUT)
         sys.stdout.write(engine.trace())

@@ -16,12 +16,15 @@ SHARED camr_result host_open(const char *manifest, size_t length, camr_engine **
 
 SHARED void host_close(camr_engine *engine) { camr_close(engine); }
 
-SHARED camr_result host_submit(camr_engine *engine, uint32_t queue, uint32_t priority, uint32_t retries, uint32_t *ccb)
+SHARED camr_result host_submit(camr_engine *engine, uint32_t queue, uint32_t priority, uint32_t retries, uint32_t class_, uint32_t *ccb)
 {
-    return camr_submit(engine, queue, priority, retries, ccb);
+    return camr_submit(engine, queue, priority, retries, class_, ccb);
 }
 
-SHARED camr_result host_dispatch(camr_engine *engine, uint32_t queue, uint32_t *ccb) { return camr_dispatch(engine, queue, ccb); }
+SHARED camr_result host_dispatch(camr_engine *engine, uint32_t queue, uint32_t *ccb, uint32_t *advice)
+{
+    return camr_dispatch(engine, queue, ccb, advice);
+}
 
 SHARED camr_result host_complete(camr_engine *engine, uint32_t ccb, uint8_t status, uint8_t scsi, const void *sense, size_t length,
                                  camr_run **run)
@@ -29,9 +32,9 @@ SHARED camr_result host_complete(camr_engine *engine, uint32_t ccb, uint8_t stat
     return camr_complete(engine, ccb, status, scsi, sense, length, run);
 }
 
-SHARED camr_result host_drive(camr_engine *engine, camr_run *run, uint64_t *r0, bool *ended)
+SHARED camr_result host_drive(camr_engine *engine, camr_run *run, uint64_t *r0, bool *ended, uint32_t *fate, uint8_t *code)
 {
-    return camr_drive(engine, run, r0, ended);
+    return camr_drive(engine, run, r0, ended, fate, code);
 }
 
 SHARED void host_run_free(camr_run *run) { camr_run_free(run); }

@@ -8,8 +8,11 @@
  *   - a command that timed out is reported once its LUN is reset, and its neighbours with it;
  *   - a command that a lost connection took with it is reported once a new connection is there and every LUN is reset through it.
  *
- * The trace goes to the folder JOURNAL, and nothing goes to a disk before its lines are there; what a run decided is read from its lines.
- * What a command is, and what the blocks may hold, stands in the file JOURNAL.kept. After a crash the next start carries on from both.
+ * The class of a command is its operation code. What a policy advises comes before the command does: the command is held until its disk is
+ * ready, was reset, or has a new connection.
+ *
+ * The trace goes to the folder JOURNAL, and nothing goes to a disk before its lines are there. What a command is, and what the blocks may
+ * hold, stands in the file JOURNAL.kept. After a crash the next start carries on from both.
  * Status 0: nothing was read wrong, and nothing is left. met.h counts what was met.
  *
  *     transport MANIFEST JOURNAL PORTAL TARGET SECONDS
@@ -33,7 +36,7 @@ enum { MOST_PROBES = 60, MOST_CCBS = LUNS * COMMANDS, MOST_SEGMENT = 4 << 20 };
 
 /* What a command is. Those from BEYOND on are refused by a disk that is well. */
 enum kind { INQUIRE, CAPACITY, READ, WRITE, TEST, REGISTER, BEYOND, UNKNOWN_OPCODE, NACA, COMPARE, ABSENT, KINDS };
-enum state { IDLE, WAITING, IN_DEVICE };
+enum state { IDLE, WAITING, HELD, IN_DEVICE };
 
 /* Eight blocks of a disk: the generation that was surely written last, and the last that was tried. It holds one between them. If
    the first is 0 nothing is known, and it is written before it is read. */
@@ -55,14 +58,14 @@ struct command {
     struct slot *slot;
     struct place *place;
     struct scsi_task *task;         /* NULL once the connection has none of it any more */
-    uint64_t deadline;
+    uint64_t deadline, failed_at;
     unsigned char buffer[BYTES];
 };
 
 struct lun {
     unsigned number;
     unsigned waiting, active;
-    bool is_held;                   /* it refused a start, and nothing has changed since */
+    bool is_held, is_full;          /* it refused a start, and nothing has changed since; for want of an opening */
     enum kind stage;                /* INQUIRE, CAPACITY, and READ for all others */
     enum kind next_odd;
     uint64_t odd_at;
@@ -70,7 +73,7 @@ struct lun {
     bool reset_is_out, reset_asked;
     uint64_t reset_deadline;
     uint32_t probe_freeze;          /* while it is asked whether it is ready, the freeze of its queue */
-    bool probe_is_out, load_asked;
+    bool probe_is_out, probe_asked, load_asked;
     unsigned probes;
     uint64_t probe_at;
     struct place *places;
@@ -100,6 +103,9 @@ static struct {
     unsigned live;                  /* how many commands there are */
     struct lun luns[LUNS];
 } host;
+
+/* What the last run came to. */
+static struct { uint64_t r0; uint32_t fate; uint8_t code; bool ended; } told;
 
 /* Ends the program with a line of text. */
 #define end(...) ((void)fprintf(stderr, "transport: " __VA_ARGS__), (void)fputc('\n', stderr), exit(1))
@@ -162,29 +168,11 @@ static void judge(struct command *command)
     else host.kept->wrong++;
 }
 
-/* ---- the trace, and what runs decide ------------------------------------------------------------------------------------------ */
+/* ---- the trace, the clock and freezes ------------------------------------------------------------------------------------------ */
 
-/* What a run decided, by its lines in the trace. */
-struct decision {
-    unsigned code;                  /* the final code, or 0 if the command waits again */
-    char ask[9];                    /* four bytes for the transport, in hexadecimal */
-};
-
-static void read_lines(void *argument, const char *lines)
+static void follow_trace(void)
 {
-    struct decision *decision = argument;
-    for (; *lines != '\0'; lines = strchr(lines, '\n') + 1) {
-        unsigned helper;
-        char word[9] = "";
-        if (sscanf(lines, "advance %*u %*u helper %u %8s", &helper, word) < 1) continue;
-        if (helper == 5) decision->code = (unsigned)strtoul(word, NULL, 16);
-        if (helper == 10) memcpy(decision->ask, word, sizeof word);
-    }
-}
-
-static void follow_trace(struct decision *decision)
-{
-    expect_kept(journal_keep(&host.journal, host.engine, decision != NULL ? read_lines : NULL, decision));
+    expect_kept(journal_keep(&host.journal, host.engine, NULL, NULL));
 }
 
 static void read_clock(uint64_t now)
@@ -205,17 +193,19 @@ static void release(uint32_t *freeze)
 
 static void done(struct iscsi_context *link, int status, void *data, void *private);
 
+/* Of each kind of command its operation code, which is its class, the size of its CDB, and how many bytes go which way. */
+static const struct { uint8_t opcode, size; int length; enum scsi_xfer_dir direction; } rows[KINDS] = {
+    [INQUIRE] = {0x12, 6, 96, SCSI_XFER_READ},       [CAPACITY] = {0x25, 10, 8, SCSI_XFER_READ},
+    [READ] = {0x28, 10, BYTES, SCSI_XFER_READ},      [WRITE] = {0x2a, 10, BYTES, SCSI_XFER_WRITE},
+    [TEST] = {0x00, 6, 0, SCSI_XFER_NONE},           [REGISTER] = {0x5f, 10, 24, SCSI_XFER_WRITE},
+    [BEYOND] = {0x28, 10, BYTES, SCSI_XFER_READ},    [UNKNOWN_OPCODE] = {0xff, 6, 0, SCSI_XFER_NONE},
+    [NACA] = {0x00, 6, 0, SCSI_XFER_NONE},           [COMPARE] = {0x2f, 10, BYTES, SCSI_XFER_WRITE},
+    [ABSENT] = {0x00, 6, 0, SCSI_XFER_NONE},
+};
+
 /* The CDB of a command, its size, and how many bytes go to the device or come from it. */
 static enum scsi_xfer_dir describe(const struct command *command, unsigned char cdb[10], int *size, int *length)
 {
-    static const struct { uint8_t opcode, size; int length; enum scsi_xfer_dir direction; } rows[KINDS] = {
-        [INQUIRE] = {0x12, 6, 96, SCSI_XFER_READ},       [CAPACITY] = {0x25, 10, 8, SCSI_XFER_READ},
-        [READ] = {0x28, 10, BYTES, SCSI_XFER_READ},      [WRITE] = {0x2a, 10, BYTES, SCSI_XFER_WRITE},
-        [TEST] = {0x00, 6, 0, SCSI_XFER_NONE},           [REGISTER] = {0x5f, 10, 24, SCSI_XFER_WRITE},
-        [BEYOND] = {0x28, 10, BYTES, SCSI_XFER_READ},    [UNKNOWN_OPCODE] = {0xff, 6, 0, SCSI_XFER_NONE},
-        [NACA] = {0x00, 6, 0, SCSI_XFER_NONE},           [COMPARE] = {0x2f, 10, BYTES, SCSI_XFER_WRITE},
-        [ABSENT] = {0x00, 6, 0, SCSI_XFER_NONE},
-    };
     uint32_t block = command->place != NULL ? (uint32_t)(command->place - command->lun->places) * BLOCKS : 0;
     memset(cdb, 0, 10);
     cdb[0] = rows[command->kind].opcode;
@@ -245,27 +235,49 @@ static void give(struct command *command)
     command->deadline = milliseconds() + COMMAND_MS;
     command->task = scsi_create_task(size, cdb, direction, length);
     if (command->task == NULL) end("no memory");
-    if (direction == SCSI_XFER_READ) scsi_task_add_data_in_buffer(command->task, length, command->buffer);
+    if (direction == SCSI_XFER_READ && scsi_task_add_data_in_buffer(command->task, length, command->buffer) != 0) end("no memory");
     if (iscsi_scsi_command_async(host.link, lun, command->task, done, direction == SCSI_XFER_WRITE ? &data : NULL, command) == 0) return;
     scsi_free_scsi_task(command->task);
     command->task = NULL;
     host.is_lost = true;
 }
 
+/* Holds a command until what its policy advised is done. It is begun in the loop. */
+static void hold(struct command *command, uint32_t advice)
+{
+    struct lun *lun = command->lun;
+    command->state = HELD;
+    bool is_link = advice == CAMR_ADVICE_RECONNECT || advice == CAMR_ADVICE_TARGET_RESET || advice == CAMR_ADVICE_BUS_RESET;
+    if (advice == CAMR_ADVICE_LOGICAL_UNIT_RESET && command->failed_at >= lun->reset_deadline) lun->reset_asked = true;
+    if (is_link && command->failed_at >= host.link_at && !host.is_lost) host.is_lost = true, host.kept->met.links++;
+    if (advice == CAMR_ADVICE_START_UNIT) lun->load_asked = true;
+    if (advice == CAMR_ADVICE_START_UNIT || advice == CAMR_ADVICE_TEST_UNIT_READY) lun->probe_asked = true;
+}
+
+/* Gives those to the device that were held, if nothing more comes before them. */
+static void give_held(struct lun *lun)
+{
+    if (lun->reset_asked || lun->reset_freeze != 0 || lun->probe_asked || lun->probe_freeze != 0) return;
+    for (struct command *command = lun->commands; command < lun->commands + COMMANDS && !host.is_lost; command++)
+        if (command->state == HELD) give(command);
+}
+
 /* Starts what the queue may start. It is not asked again until something has changed. */
 static void start_commands(struct lun *lun)
 {
-    while (lun->waiting != 0 && lun->active < ACTIVE && !lun->is_held) {
-        uint32_t ccb;
-        camr_result result = camr_dispatch(host.engine, lun->number - FIRST_LUN, &ccb);
-        lun->is_held = result == CAMR_FROZEN || result == CAMR_CONTROLLER_FROZEN || result == CAMR_NO_OPENING;
+    while (lun->waiting != 0 && lun->active < ACTIVE && !lun->is_held && !host.is_lost) {
+        uint32_t ccb, advice;
+        camr_result result = camr_dispatch(host.engine, lun->number - FIRST_LUN, &ccb, &advice);
+        lun->is_full = result == CAMR_NO_OPENING;
+        lun->is_held = lun->is_full || result == CAMR_FROZEN || result == CAMR_CONTROLLER_FROZEN;
         if (lun->is_held) return;
         expect(result, "camr_dispatch");
         struct command *command = lun->commands;
-        while (command->slot->ccb != ccb) command++;
+        while (command < lun->commands + COMMANDS && command->slot->ccb != ccb) command++;
+        if (command == lun->commands + COMMANDS) end("CCB %" PRIu32 " is no command of this host", ccb);
         lun->waiting--;
         lun->active++;
-        give(command);
+        advice == CAMR_ADVICE_NONE ? give(command) : hold(command, advice);
     }
 }
 
@@ -306,7 +318,8 @@ static void submit(struct command *command)
     fill_command(command);
     command->slot->kind = command->kind;
     command->slot->place = command->place != NULL ? (uint32_t)(command->place - lun->places) : PLACES;
-    expect(camr_submit(host.engine, lun->number - FIRST_LUN, PRIORITY, RETRIES, &command->slot->ccb), "camr_submit");
+    uint8_t opcode = rows[command->kind].opcode;
+    expect(camr_submit(host.engine, lun->number - FIRST_LUN, PRIORITY, RETRIES, opcode, &command->slot->ccb), "camr_submit");
     command->state = WAITING;
     lun->waiting++;
     host.live++;
@@ -335,46 +348,28 @@ static void finish(struct command *command, unsigned code)
     command->slot->ccb = 0;
 }
 
-/* Carries out what a policy asked for: it is begun in the loop. */
-static void carry_out(struct lun *lun, const char *ask)
-{
-    bool is_load = strcmp(ask, "6c6f6164") == 0;                /* load */
-    if (strcmp(ask, "72736574") == 0) lun->reset_asked = true;  /* rset */
-    if (strcmp(ask, "6c696e6b") == 0 && host.stage == UP && !host.is_lost) host.is_lost = true, host.kept->met.links++; /* link */
-    if ((!is_load && strcmp(ask, "74657374") != 0) || lun->probe_freeze != 0) return; /* test */
-    expect(camr_guest_freeze(host.engine, lun->number - FIRST_LUN, GUEST_PROBE, &lun->probe_freeze), "camr_guest_freeze");
-    lun->load_asked = is_load;
-    lun->probe_is_out = false;
-    lun->probes = 0;
-    lun->probe_at = milliseconds();
-}
-
 /* Reports a command to the engine, and lets the policy decide if it failed. */
 static void report(struct command *command, uint8_t status, uint8_t scsi, const unsigned char *sense, size_t length)
 {
     struct lun *lun = command->lun;
-    struct decision decision = {0, ""};
     camr_run *run = NULL;
-    uint64_t r0;
-    bool ended;
     if (status != CAMR_REQ_CMP) {
         met_failure(&host.kept->met, status, scsi, sense, length);
         read_clock(milliseconds()); /* a timer counts from the last reading */
-        follow_trace(NULL);
+        follow_trace();
     }
     expect(camr_complete(host.engine, command->slot->ccb, status, scsi, sense, length, &run), "camr_complete");
-    lun->active--;
+    lun->active--, lun->is_held = lun->is_held && !lun->is_full;
     if (run == NULL) {
         finish(command, CAMR_REQ_CMP);
         return;
     }
-    expect(camr_drive(host.engine, run, &r0, &ended), "camr_drive");
+    expect(camr_drive(host.engine, run, &told.r0, &told.ended, &told.fate, &told.code), "camr_drive");
     camr_run_free(run);
-    follow_trace(&decision);
     lun->is_held = false;
-    if (decision.code != 0) finish(command, decision.code);
-    else command->state = WAITING, lun->waiting++;
-    carry_out(lun, decision.ask);
+    if (told.fate == CAMR_FINISHED) finish(command, told.code);
+    else if (told.fate == CAMR_REQUEUED) command->state = WAITING, lun->waiting++, command->failed_at = milliseconds();
+    else end("a run kept its command");
 }
 
 /* The connection has an answer, or none any more: what it cancels was cut off, and is reported when a new connection is there. */
@@ -409,14 +404,13 @@ static void lun_is_reset(struct iscsi_context *link, int status, void *data, voi
     if (host.cancels) return;
     if (status != SCSI_STATUS_GOOD || *(uint32_t *)data != ISCSI_TMR_FUNC_COMPLETE) host.is_lost = true;
     else if (host.stage == RESETTING) host.resets_left--;
-    else lun->reset_is_out = false;
+    else lun->reset_is_out = lun->probe_is_out = false; /* the probe went with the rest, and is not answered */
 }
 
-/* Whether the connection has nothing left to send. libiscsi lets a LUN RESET overtake what it has not sent. Nothing goes out here that is
-   not in the journal. */
+/* Whether the connection has nothing left to send, which a LUN RESET would overtake. Nothing goes out that is not in the journal. */
 static bool all_is_sent(void)
 {
-    follow_trace(NULL);
+    follow_trace();
     if (iscsi_service(host.link, POLLOUT) < 0) host.is_lost = true;
     return iscsi_out_queue_length(host.link) == 0;
 }
@@ -432,26 +426,28 @@ static void send_reset(struct lun *lun)
 static void report_all(struct lun *lun, uint8_t others)
 {
     for (struct command *command = lun->commands; command < lun->commands + COMMANDS; command++) {
-        if (command->state != IN_DEVICE) continue;
+        if (command->state != IN_DEVICE || (command->kind == ABSENT && others == CAMR_BDR_SENT)) continue;
         host.cancels = true;
         if (command->task != NULL && iscsi_scsi_cancel_task(host.link, command->task) != 0) host.is_lost = true;
         host.cancels = false;
         if (command->task != NULL) continue; /* it is half sent, and goes with the connection */
         report(command, command->timed_out ? CAMR_CMD_TIMEOUT : others, 0, NULL, 0);
     }
-    release(&lun->reset_freeze);
+    release(&lun->reset_freeze), lun->reset_deadline = milliseconds();
 }
 
 static void probed(struct iscsi_context *link, int status, void *data, void *private)
 {
     struct lun *lun = private;
+    struct scsi_task *task = data;
+    bool is_refused = status == SCSI_STATUS_CHECK_CONDITION && task != NULL && task->sense.key != SCSI_SENSE_UNIT_ATTENTION;
     (void)link;
-    if (data != NULL) scsi_free_scsi_task(data);
+    if (task != NULL) scsi_free_scsi_task(task);
     if (host.cancels) return;
     lun->probe_is_out = false;
     lun->probe_at = milliseconds() + PROBE_MS;
     if (status == SCSI_STATUS_GOOD && !lun->load_asked) release(&lun->probe_freeze);
-    lun->load_asked = false;
+    if (status == SCSI_STATUS_GOOD || is_refused) lun->load_asked = false;
 }
 
 /* Asks a disk to load its medium and to start, if that was asked for, and then whether it is ready, until it is. */
@@ -459,9 +455,9 @@ static void probe(struct lun *lun)
 {
     if (++lun->probes > MOST_PROBES) release(&lun->probe_freeze); /* its commands fail, and the policy decides */
     if (lun->probe_freeze == 0) return;
-    lun->probe_is_out = true;
+    lun->probe_is_out = true, lun->probe_at = milliseconds();
     *(lun->load_asked ? &host.kept->met.loads : &host.kept->met.tests) += 1;
-    struct scsi_task *task = lun->load_asked ? iscsi_startstopunit_task(host.link, (int)lun->number, 0, 0, 0, 0, 1, 1, probed, lun)
+    struct scsi_task *task = lun->load_asked ? iscsi_startstopunit_task(host.link, (int)lun->number, 1, 0, 0, 0, 1, 1, probed, lun)
                                              : iscsi_testunitready_task(host.link, (int)lun->number, probed, lun);
     if (task == NULL) host.is_lost = true;
 }
@@ -473,7 +469,8 @@ static void look_after(struct lun *lun, uint64_t now)
         if (command->state == IDLE) submit(command);
         if (command->state != IN_DEVICE || command->timed_out || now < command->deadline) continue;
         command->timed_out = true;
-        lun->reset_asked = lun->reset_asked || lun->reset_freeze == 0;
+        if (command->kind == ABSENT) host.is_lost = true; /* no reset of this LUN ends it */
+        else lun->reset_asked = lun->reset_asked || lun->reset_freeze == 0;
     }
     if (lun->reset_asked && lun->reset_freeze == 0) {
         expect(camr_guest_freeze(host.engine, lun->number - FIRST_LUN, GUEST_RESET, &lun->reset_freeze), "camr_guest_freeze");
@@ -486,8 +483,13 @@ static void look_after(struct lun *lun, uint64_t now)
     }
     if (lun->reset_freeze != 0 && !lun->reset_asked && !lun->reset_is_out) report_all(lun, CAMR_BDR_SENT);
     if (lun->reset_freeze != 0 && now >= lun->reset_deadline) host.is_lost = true;
+    if (lun->probe_asked && lun->probe_freeze == 0) {
+        expect(camr_guest_freeze(host.engine, lun->number - FIRST_LUN, GUEST_PROBE, &lun->probe_freeze), "camr_guest_freeze");
+        lun->probe_asked = false, lun->probes = 0, lun->probe_at = now;
+    }
     if (lun->probe_is_out && now >= lun->probe_at + RESET_MS) host.is_lost = true;
     if (lun->probe_freeze != 0 && !lun->probe_is_out && lun->reset_freeze == 0 && now >= lun->probe_at) probe(lun);
+    give_held(lun);
     start_commands(lun);
 }
 
@@ -549,7 +551,7 @@ static void look_after_link(uint64_t now)
         report_all(lun, CAMR_SCSI_BUS_RESET);
     }
     release(&host.link_freeze);
-    host.stage = UP;
+    host.stage = UP, host.link_at = milliseconds();
 }
 
 /* Waits for the connection, at most until the next timer is due. */
@@ -588,12 +590,11 @@ static void run_until(uint64_t last)
     uint64_t tick_at = 0, said_at = milliseconds();
     camr_totals_t totals;
     for (uint64_t now = milliseconds();; now = milliseconds()) {
-        serve_link(now);
-        look_after_link(milliseconds());
+        serve_link(now), look_after_link(milliseconds());
         if (now < tick_at) continue;
         tick_at = now + TICK_MS;
         for (struct lun *lun = host.luns; lun < host.luns + LUNS && host.stage == UP; lun++) look_after(lun, now);
-        follow_trace(NULL);
+        follow_trace();
         expect(camr_totals(host.engine, &totals), "camr_totals");
         if (host.journal.length > MOST_SEGMENT && totals.runs == 0)
             expect_kept(journal_rotate(&host.journal, &host.engine, NULL, 0, false, NULL, NULL));
@@ -646,17 +647,18 @@ static void carry_on(void)
 {
     static uint32_t numbers[MOST_CCBS], states[MOST_CCBS];
     camr_run *run;
-    uint64_t r0;
     size_t count;
-    bool ended;
     host.begun = milliseconds() - host.journal.clock;
-    for (; camr_take_run(host.engine, &run) == CAMR_DONE; camr_run_free(run)) expect(camr_drive(host.engine, run, &r0, &ended), "camr_drive");
+    for (; camr_take_run(host.engine, &run) == CAMR_DONE; camr_run_free(run))
+        expect(camr_drive(host.engine, run, &told.r0, &told.ended, &told.fate, &told.code), "camr_drive");
     expect(camr_ccbs(host.engine, 0, numbers, states, MOST_CCBS, &count), "camr_ccbs");
     for (struct lun *lun = host.luns; lun < host.luns + LUNS; lun++)
         for (unsigned at = 0; at < COMMANDS; at++) carry_command(&lun->commands[at], numbers, states, count);
-    for (size_t at = 0; at < count; at++) /* what is in no slot had succeeded, and only its line is missing */
-        if (numbers[at] != 0) expect(camr_complete(host.engine, numbers[at], CAMR_REQ_CMP, 0, NULL, 0, &run), "camr_complete");
+    for (size_t at = 0; at < count; at++) /* what is in no slot had come to its end, and only its lines are missing */
+        if (numbers[at] != 0 && states[at] == CAMR_WAITING) expect(camr_withdraw(host.engine, numbers[at]), "camr_withdraw");
+        else if (numbers[at] != 0) expect(camr_complete(host.engine, numbers[at], CAMR_REQ_CMP, 0, NULL, 0, &run), "camr_complete");
     for (const struct journal_freeze *its = host.journal.freezes; its < host.journal.freezes + host.journal.freeze_count; its++) {
+        if (its->guest < GUEST_LINK || its->guest > GUEST_PROBE || (!its->is_controller && its->place >= LUNS)) continue;
         struct lun *lun = &host.luns[its->is_controller ? 0 : its->place];
         *(its->guest == GUEST_LINK ? &host.link_freeze : its->guest == GUEST_RESET ? &lun->reset_freeze : &lun->probe_freeze) = its->freeze;
         lun->probes = MOST_PROBES;
@@ -667,10 +669,7 @@ static void carry_on(void)
 int main(int count, char **words)
 {
     unsigned long seconds = count == 6 ? strtoul(words[5], NULL, 10) : 0;
-    if (seconds == 0) {
-        fprintf(stderr, "usage: transport MANIFEST JOURNAL PORTAL TARGET SECONDS\n");
-        return 2;
-    }
+    if (seconds == 0) return fputs("usage: transport MANIFEST JOURNAL PORTAL TARGET SECONDS\n", stderr), 2;
     setvbuf(stdout, NULL, _IOLBF, 0);
     signal(SIGPIPE, SIG_IGN); /* libiscsi writes to a connection that may have ended */
     host.manifest = words[1], host.folder = words[2], host.portal = words[3], host.target = words[4];

@@ -20,8 +20,8 @@ struct context {
     u32 retries;      /* how many are left */
     u32 sense_length; /* how many sense bytes came, 0 to 64 */
     u32 attempts;     /* how often it was started */
-    u32 zero;
-    u8 sense[64];     /* the sense bytes, and zeros behind them */
+    u32 class;        /* what the command is, as the host submitted it; zero below version 3 of the manifest */
+    u8 sense[64];     /* the sense bytes, and zeros after them */
 };
 
 /* The status: its code, and the flags beside it. */
@@ -70,6 +70,22 @@ static u64 (*const queue_info)(void *to) = (void *)9;
 static u64 (*const trace)(const void *bytes, u64 length) = (void *)10;
 static u64 (*const now)(void) = (void *)11;
 static u64 (*const set_openings)(u64 openings) = (void *)12;
-/* In a manifest of version 2 alone. */
+/* From version 2 of the manifest on. */
 static u64 (*const freeze_controller)(void) = (void *)13;
 static u64 (*const controller_frozen)(void) = (void *)14;
+/* In version 3 alone. */
+static u64 (*const advise)(u64 word) = (void *)15;
+
+/* What a policy may advise the host to do before the next try. Words from ADVICE_OF_HOST on are the host's own. */
+enum {
+    ADVICE_NONE,
+    ADVICE_TEST_UNIT_READY,
+    ADVICE_START_UNIT,
+    ADVICE_REQUEST_SENSE,
+    ADVICE_ABORT,
+    ADVICE_LOGICAL_UNIT_RESET,
+    ADVICE_TARGET_RESET,
+    ADVICE_BUS_RESET,
+    ADVICE_RECONNECT,
+    ADVICE_OF_HOST = 65536
+};

@@ -82,12 +82,13 @@ static void start_commands(unsigned disk)
 {
     struct disk *its = &host.disks[disk];
     while (its->count < OPENINGS) {
-        uint32_t ccb;
-        camr_result result = camr_dispatch(host.engine, disk, &ccb);
+        uint32_t ccb, advice;
+        camr_result result = camr_dispatch(host.engine, disk, &ccb, &advice);
         /* the queue is frozen, has no opening, or none waits: it is tried again when something changes */
         its->may_wait = result != CAMR_NOTHING_WAITS;
         if (result == CAMR_FROZEN || result == CAMR_NO_OPENING || result == CAMR_NOTHING_WAITS) return;
         expect(result, "camr_dispatch");
+        /* These disks are simulated: what is advised is as if it were done. */
         its->commands[its->count++] = ccb;
     }
 }
@@ -98,10 +99,12 @@ static void recover(camr_run *run)
     bool ended = false;
     while (!ended) {
         uint64_t r0;
+        uint32_t fate;
+        uint8_t code;
         pthread_mutex_unlock(&host.lock);
         expect(camr_stretch(run), "camr_stretch");
         pthread_mutex_lock(&host.lock);
-        expect(camr_advance(host.engine, run, &r0, &ended), "camr_advance");
+        expect(camr_advance(host.engine, run, &r0, &ended, &fate, &code), "camr_advance");
     }
     camr_run_free(run);
     host.recoveries++;
@@ -140,7 +143,7 @@ static void submit_commands(unsigned disk, uint64_t *state)
     if (host.disks[disk].may_wait) return;
     for (unsigned count = 0; count < BATCH; count++) {
         uint32_t ccb;
-        expect(camr_submit(host.engine, disk, (uint32_t)(next_random(state) % 16), RETRIES, &ccb), "camr_submit");
+        expect(camr_submit(host.engine, disk, (uint32_t)(next_random(state) % 16), RETRIES, 0, &ccb), "camr_submit");
     }
     start_commands(disk);
 }

@@ -4,7 +4,6 @@
    Table 0 has 4,096 words: when a command failed for the first time, in milliseconds, beside its number. */
 #include "../../examples/policies/camr.h"
 #define APART static __attribute__((noinline))
-#define ASK(a, b, c, d) ((u32)(a) | (u32)(b) << 8 | (u32)(c) << 16 | (u32)(d) << 24)
 
 /* What is decided: how many milliseconds the queue stays frozen, at most 1,023, and these beside it. */
 enum { MILLISECONDS = 0x3ff, COUNTS = 1 << 10, FAILS = 1 << 11, SUCCEEDS = 1 << 12 };
@@ -222,12 +221,11 @@ APART u64 without_retries(const struct context *c)
 }
 
 /* Linux aborts the command, and then resets the device, the target, the bus and the host in turn until one helps. A policy can do none of
-   these: it asks its transport, by four bytes in the trace, for a reset of the device, and before the last retry for a new connection. */
+   these: it advises a reset of the device, and before the last retry a new connection. */
 APART u64 error_handler(const struct context *c)
 {
-    u32 word = c->retries == 1 ? ASK('l', 'i', 'n', 'k') : ASK('r', 's', 'e', 't');
     if (c->retries != 0)
-        trace(&word, sizeof word);
+        advise(c->retries == 1 ? ADVICE_RECONNECT : ADVICE_LOGICAL_UNIT_RESET);
     return ERROR_HANDLER;
 }
 

@@ -1,8 +1,7 @@
 /* Recovers the commands of a disk behind a network: which failures are tried again, after how long, and whether a retry counts.
-   README.md has the table. By four bytes in the trace it asks its transport for what a retry alone does not do. */
+   README.md has the table. It advises its transport of what has to come before the next try, where a retry alone would not do. */
 #include "../../examples/policies/camr.h"
 #define APART static __attribute__((noinline))
-#define ASK(a, b, c, d) ((u32)(a) | (u32)(b) << 8 | (u32)(c) << 16 | (u32)(d) << 24)
 
 /* What is decided of a failure: how many milliseconds its queue stays frozen, at most 1,023, and these beside it. */
 enum { MILLISECONDS = 0x3ff, COUNTS = 1 << 10, NO_RETRY_HELPS = 1 << 11, WAS_CARRIED_OUT = 1 << 12 };
@@ -20,7 +19,6 @@ APART u64 by_scsi_status(const struct context *c);
 APART u64 by_sense(const struct context *c);
 APART u64 by_key(u64 key);
 APART u64 not_ready(const struct context *c);
-APART void ask(u32 word);
 
 u64 policy(struct context *c, u64 freeze)
 {
@@ -58,7 +56,7 @@ APART u64 by_status(const struct context *c)
         return by_scsi_status(c);
     if (status == CAM_CMD_TIMEOUT) {
         if (c->retries == 1)
-            ask(ASK('l', 'i', 'n', 'k'));
+            advise(ADVICE_RECONNECT);
         return 100 | COUNTS;
     }
     if (status == CAM_BUSY)
@@ -81,7 +79,7 @@ APART u64 by_scsi_status(const struct context *c)
     if (c->scsi == SCSI_RESERVATION_CONFLICT)
         return 250 | COUNTS;
     if (c->scsi == SCSI_ACA_ACTIVE) {
-        ask(ASK('r', 's', 'e', 't'));
+        advise(ADVICE_LOGICAL_UNIT_RESET);
         return 20;
     }
     if (c->scsi == SCSI_TASK_ABORTED)
@@ -117,13 +115,8 @@ APART u64 by_key(u64 key)
 APART u64 not_ready(const struct context *c)
 {
     if (c->asc == 0x3a || (c->asc == 0x04 && c->ascq == 0x02))
-        ask(ASK('l', 'o', 'a', 'd'));
+        advise(ADVICE_START_UNIT);
     else
-        ask(ASK('t', 'e', 's', 't'));
+        advise(ADVICE_TEST_UNIT_READY);
     return 250 | COUNTS;
-}
-
-APART void ask(u32 word)
-{
-    trace(&word, sizeof word);
 }

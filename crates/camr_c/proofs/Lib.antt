@@ -1,3 +1,4 @@
 pub mod Refusing
+pub mod Reporting
 pub mod Steps
 pub mod Values

@@ -1,5 +1,5 @@
 -- What an export did: to the values behind its slots, and with the result that its number stands for.
-use Rattle.std.specs.Prelude.{◌≡◌, ℕ, Bool, true, false, List, Option, None, Some, SomeIff, Result, Ok, Err, drop, length, min, take}
+use Rattle.std.specs.Prelude.{◌≡◌, ◌≢◌, ℕ, Bool, true, false, List, Option, None, Some, SomeIff, Result, Ok, Err, drop, length, min, take}
 use Rattle.std.specs.Global.{Box}
 use Rattle.ccb.specs.declared.cam_status.CamStatus.{CamStatus}
 use Rattle.ccb.specs.Completion.{Outcome, IsCompletion}
@@ -9,12 +9,18 @@ use Rattle.ccb.specs.declared.place.Place.{Place}
 use Rattle.freeze_ledger.specs.Deadlines.{some_timer}
 use Rattle.engine_transport.specs.Freezing.{IsNextDue}
 use Rattle.world_calls.specs.declared.call.Call.{Call}
-use Rattle.world_calls.specs.declared.call.Call.TheVariants.{Complete}
+use Rattle.world_calls.specs.declared.call.Call.TheVariants.{Complete, Dispatch, Submit}
+use Rattle.world_calls.specs.declared.call_answer.CallAnswer.TheVariants as answers
+use Rattle.world_calls.specs.declared.record.Record.{Record}
+use Rattle.world_calls.specs.Answered.{started_answer}
+use Rattle.world_calls.specs.declared.trace.Version.TheVariants.{Three}
+use Rattle.world.specs.World.{class_kept, version_of}
 use Rattle.world_calls.specs.declared.call_answer.CallAnswer.{CallAnswer}
 use Rattle.world_calls.specs.declared.totals.Totals.{Totals}
 use Rattle.engine_carried.specs.declared.numbering.Numbering.{Numbering}
 use Rattle.engine_carried.specs.declared.numbering.Numbering.TheVariants.{Fresh, Same}
 use Rattle.engine_core.specs.EngineState.{EngineState}
+use Rattle.engine_core.specs.RunState.{RunState}
 use Rattle.manifest.specs.declared.fault.ManifestFault.{ManifestFault}
 use Rattle.host_embedding.specs.declared.call_result.CallResult.{CallResult}
 use Rattle.host_embedding.specs.declared.call_result.CallResult.TheVariants.{Done, OutOfMemory, NoCompletion, NotUtf8, Faulty}
@@ -23,6 +29,8 @@ use Rattle.host_embedding.specs.declared.run_handle.HeldRun.{HeldRun}
 use Rattle.host_embedding.specs.declared.run_handle.RunHandle.{RunHandle}
 use Rattle.host_embedding.specs.Calls.{IsCalled, IsCompleted, IsFrozen, IsReleased, IsResumed}
 use Rattle.host_embedding.specs.Counting.{CountsRecords, is_same_beside}
+use Rattle.host_embedding.specs.Fates.{TellsFate, number_of as fate_number, code_of as fate_code}
+use Rattle.host_embedding.specs.declared.fates.Fate.{Fate}
 use Rattle.host_embedding.specs.Held.{is_same_run}
 use Rattle.host_embedding.specs.Results.{number_of, text_of}
 use Rattle.host_opening.specs.declared.opening.OpenFault.{OpenFault}
@@ -95,6 +103,18 @@ abbrev pub Called : ℕ → EngineSlot → EngineSlot → CallAnswer → Call �
 Called number old new answer call =
     Did number (λ its. EngineCounts old.held new.held (λ before after. IsCalled its before after answer call))
 
+-- a submission, which says its class if CCBs have one
+abbrev pub Submitted : ℕ → EngineSlot → EngineSlot → (queue priority retries class ccb : ℕ) → Type 0
+Submitted number old new queue priority retries class ccb =
+    Did number (λ its. EngineCounts old.held new.held (λ before after. IsCalled its before after (answers.Ccb (record { 0 = ccb })) (Submit (record { 0 = queue }) priority retries (class_kept before.setup class))))
+
+-- a start, which is answered with its advice if CCBs have one, and has none otherwise
+abbrev pub Started : ℕ → EngineSlot → EngineSlot → (queue ccb advice : ℕ) → Type 0
+Started number old new queue ccb advice =
+    Did number (λ its. EngineCounts old.held new.held (λ before after.
+    IsCalled its before after (started_answer (version_of before.setup) (record { ccb = record { 0 = ccb }; advice = advice })) (Dispatch (record { 0 = queue }))
+    × (its ≡ Done → version_of before.setup ≢ Three → advice ≡ 0)))
+
 -- a guest freezes a place
 abbrev pub Frozen : ℕ → EngineSlot → EngineSlot → ℕ → Place → ℕ → Type 0
 Frozen number old new freeze place guest =
@@ -133,6 +153,10 @@ abbrev pub CalledWith : ℕ → EngineSlot → EngineSlot → RunSlot → RunSlo
 CalledWith number old new run again Told =
     Did number (λ its. EngineCounts old.held new.held (λ before after. Turns run.held again.held (λ was is.
     Told its before after was.held is.held × is_same_run was is)))
+
+-- what a run has done with its CCB is reported with this result, as numbers
+abbrev pub Reports : CallResult → Option RunState → List Record → (fate code : ℕ) → Type 0
+Reports its run history fate code = (what : Fate) × TellsFate its run history what × (fate ≡ fate_number what) × (code ≡ fate_code what)
 
 -- what a device reports by these numbers: a completion, where the code is a status's and there may be such a one
 abbrev pub ReportOf : Option CamStatus → ℕ → ℕ → List ℕ → Option Outcome → Type 0

@@ -3,12 +3,12 @@
 ghost use Rattle.std.specs.Prelude.{◌≡◌, ◌≢◌, ◌<◌, ◌≤◌, IsSome, None, Result, false, length};
 ghost use Rattle.std.specs.Global.{Box};
 ghost use Rattle.ccb.specs.declared.place.Place.TheVariants.{Device, Controller};
-ghost use Rattle.world_calls.specs.declared.call.Call.TheVariants.{Submit, Dispatch, Clock};
+ghost use Rattle.world_calls.specs.declared.call.Call.TheVariants.{Withdraw, Clock};
 ghost use Rattle.world_calls.specs.declared.call_answer.CallAnswer.TheVariants as answers;
 ghost use Rattle.world.specs.TotalsOf.{totals_in};
 ghost use Rattle.host_opening.specs.declared.opening.OpenFault.{OpenFault as TheFault};
 ghost use Rattle.host_opening.specs.Opened.{Opens};
-ghost use Rattle.camr_c.specs.Exports.{Called, Frozen, IsOpened, Released, Stays, TellsDue, sums_of};
+ghost use Rattle.camr_c.specs.Exports.{Called, Frozen, IsOpened, Released, Started, Stays, Submitted, TellsDue, sums_of};
 ghost use Rattle.host_embedding.specs.declared.call_result.TheConstants.{RESULTS};
 ghost use Rattle.host_embedding.specs.declared.hosted_engine.HostedEngine.{HostedEngine as TheEngine};
 
@@ -71,25 +71,43 @@ pub extern "C" fn camr_raw_submit(
     queue: u32,
     priority: u32,
     retries: u32,
+    class_: u32,
     ccb: &mut u32,
 ) -> u32
     requires { IsSome engine.old.held }
-    ensures did { Called result engine.old engine.new (answers.Ccb (record { 0 = ccb.new }))
-        (Submit (record { 0 = queue }) priority retries) }
+    ensures did { Submitted result engine.old engine.new queue priority retries class_ ccb.new }
     ensures few { result < RESULTS }
     ensures kept { result ≢ 0 → ccb.new ≡ ccb.old }
 {
-    engine.held().submit(queue, priority, retries, ccb).number()
+    engine
+        .held()
+        .submit(queue, priority, retries, class_, ccb)
+        .number()
 }
 
 #[unsafe(no_mangle)]
-pub extern "C" fn camr_raw_dispatch(engine: &mut EngineSlot, queue: u32, ccb: &mut u32) -> u32
+pub extern "C" fn camr_raw_dispatch(
+    engine: &mut EngineSlot,
+    queue: u32,
+    ccb: &mut u32,
+    advice: &mut u32,
+) -> u32
     requires { IsSome engine.old.held }
-    ensures did { Called result engine.old engine.new (answers.Ccb (record { 0 = ccb.new })) (Dispatch (record { 0 = queue })) }
+    ensures did { Started result engine.old engine.new queue ccb.new advice.new }
     ensures few { result < RESULTS }
-    ensures kept { result ≢ 0 → ccb.new ≡ ccb.old }
+    ensures kept { result ≢ 0 → (ccb.new ≡ ccb.old) × (advice.new ≡ advice.old) }
 {
-    engine.held().dispatch(queue, ccb).number()
+    engine.held().dispatch(queue, ccb, advice).number()
+}
+
+/// Withdraws a CCB that waits.
+#[unsafe(no_mangle)]
+pub extern "C" fn camr_raw_withdraw(engine: &mut EngineSlot, ccb: u32) -> u32
+    requires { IsSome engine.old.held }
+    ensures did { Called result engine.old engine.new answers.Ok (Withdraw (record { 0 = ccb })) }
+    ensures few { result < RESULTS }
+{
+    engine.held().withdraw(ccb).number()
 }
 
 #[unsafe(no_mangle)]

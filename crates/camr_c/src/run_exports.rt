@@ -4,14 +4,14 @@ ghost use Rattle.std.specs.Prelude.{◌≡◌, ◌≢◌, ◌<◌, false, IsSome
 ghost use Rattle.ccb.specs.Completion.{Outcome};
 ghost use Rattle.host_embedding.specs.Calls.{IsAdvanced, IsDriven, IsParked};
 ghost use Rattle.host_embedding.specs.Held.{is_same_run, out_of, IsStretched};
-ghost use Rattle.camr_c.specs.Exports.{Did, EngineCounts, Turns, Stays, CalledWith, IsReported, Completed, Resumed};
+ghost use Rattle.camr_c.specs.Exports.{Did, EngineCounts, Turns, Stays, CalledWith, IsReported, Completed, Reports, Resumed};
 ghost use Rattle.host_embedding.specs.declared.call_result.TheConstants.{RESULTS};
 
 use crate::engine_slot::EngineSlot;
 use crate::raw_box::RawBox;
 use crate::run_slot::RunSlot;
 use ccb::{CamStatus, CcbId, Completion};
-use host_embedding::CallResult;
+use host_embedding::{CallResult, Fate};
 use std::alloc::Global;
 
 // How many sense bytes a completion has at most.
@@ -76,38 +76,54 @@ pub extern "C" fn camr_raw_stretch(run: &mut RunSlot) -> u32
     run.held().stretch().number()
 }
 
+/// Takes over what a run did up to its next stop, and reports what it has done with its CCB.
+#[tactic(auto, using(crate::proofs::Reporting::advanced))]
 #[unsafe(no_mangle)]
 pub extern "C" fn camr_raw_advance(
     engine: &mut EngineSlot,
     run: &mut RunSlot,
     r0: &mut u64,
     ended: &mut bool,
+    fate: &mut u32,
+    code: &mut u8,
 ) -> u32
     requires engine { IsSome engine.old.held }
     requires run { IsSome run.old.held }
     ensures did { CalledWith result engine.old engine.new run.old run.new (λ its before after was is.
-        IsAdvanced its was is before after r0.new ended.new) }
+        IsAdvanced its was is before after r0.new ended.new × Reports its (out_of was) after.history fate.new code.new) }
     ensures few { result < RESULTS }
     ensures kept { result ≢ 0 → (r0.new ≡ r0.old) × (ended.new ≡ ended.old) }
 {
-    engine.held().advance(run.held(), r0, ended).number()
+    let mut its = Fate::Kept;
+    let result = engine.held().advance(run.held(), r0, ended, &mut its);
+    *fate = its.number();
+    *code = its.code();
+    result.number()
 }
 
+/// Takes a run to its end, and reports what it has done with its CCB.
+#[tactic(auto, using(crate::proofs::Reporting::driven))]
 #[unsafe(no_mangle)]
 pub extern "C" fn camr_raw_drive(
     engine: &mut EngineSlot,
     run: &mut RunSlot,
     r0: &mut u64,
     ended: &mut bool,
+    fate: &mut u32,
+    code: &mut u8,
 ) -> u32
     requires engine { IsSome engine.old.held }
     requires run { IsSome run.old.held }
     ensures did { CalledWith result engine.old engine.new run.old run.new (λ its before after was is.
-        IsDriven its (out_of was) is before after r0.new ended.new) }
+        IsDriven its (out_of was) is before after r0.new ended.new × Reports its (out_of was) after.history fate.new code.new) }
     ensures few { result < RESULTS }
     ensures unended { result ≢ 0 → ended.new ≡ false }
 {
-    engine.held().drive(run.held(), r0, ended).number()
+    let mut its = Fate::Kept;
+    let result = engine.held().drive(run.held(), r0, ended, &mut its);
+    *fate = its.number();
+    *code = its.code();
+    result.number()
 }
 
 #[unsafe(no_mangle)]

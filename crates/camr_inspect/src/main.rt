@@ -68,7 +68,7 @@ fn tells(plan: &Plan, err: &Stderr) -> bool {
         Plan::ExplainFile(..) | Plan::Show(..) | Plan::Summarise(..) | Plan::Draw(..) => {
             err.is_terminal()
         }
-        Plan::ExplainCode(_) | Plan::Explain(_) | Plan::Decide(..) => false,
+        Plan::ExplainCode(_) | Plan::Explain(_) | Plan::Decide(..) | Plan::Try(..) => false,
     }
 }
 
@@ -83,15 +83,43 @@ fn carry_out<
 {
     let path = match plan.output() {
         Some(path) if !is_stream(path) => path,
-        _ => return carry(rt, rt.alloc(), plan, inputs, notices, out, err),
+        _ => return carry_keeping(rt, plan, inputs, notices, out, err),
     };
     let mut bytes = Vec::new(rt.alloc());
-    let status = carry(rt, rt.alloc(), plan, inputs, notices, &mut bytes, err);
+    let status = carry_keeping(rt, plan, inputs, notices, &mut bytes, err);
     if status != 0 {
         return status;
     }
-    match replace(rt.alloc(), &mut Disk::new(rt), path, &bytes) {
-        Ok(()) => 0,
+    write_file(rt, path, &bytes, status, err)
+}
+
+// Carries the plan out, and puts what it keeps beside what goes out into its file, if it keeps anything.
+fn carry_keeping<
+    R: Runtime + Files<File = File> + RandomSource + AllocGlobal + Threads + Wait + Sync,
+    N: Notices + Sync,
+    W: Write,
+    E: Write,
+>(rt: &R, plan: &Plan, inputs: &[Vec<u8>], notices: &N, out: &mut W, err: &mut E) -> u8
+    requires { length inputs.now ≡ length (input_paths plan.now) }
+{
+    let mut kept = Vec::new(rt.alloc());
+    let status = carry(rt, rt.alloc(), plan, inputs, notices, out, &mut kept, err);
+    match plan.kept() {
+        Some(path) if status != 2 && !kept.is_empty() => write_file(rt, path, &kept, status, err),
+        _ => status,
+    }
+}
+
+// Puts these bytes into that file, and answers this status, or why the file cannot be written.
+fn write_file<R: Runtime + Files<File = File> + RandomSource + AllocGlobal + Wait, E: Write>(
+    rt: &R,
+    path: &str,
+    bytes: &[u8],
+    status: u8,
+    err: &mut E,
+) -> u8 {
+    match replace(rt.alloc(), &mut Disk::new(rt), path, bytes) {
+        Ok(()) => status,
         Err(error) => unread(&error, path).report(err),
     }
 }

@@ -8,6 +8,7 @@ use Rattle.freeze_ledger.specs.declared.freeze.Holder.{Holder}
 use Rattle.freeze_ledger.specs.declared.freeze.Holder.TheVariants as holders
 use Rattle.world_calls.specs.declared.carried_line.CarriedLine.{CarriedLine}
 use Rattle.world_calls.specs.declared.carried_line.CarriedLine.TheVariants as lines
+use Rattle.world_calls.specs.declared.trace.Version.{Version}
 use Rattle.trace_lines.specs.Texts.{number_text, long_number_text}
 use Rattle.std.specs.List.{list_all}
 use Rattle.trace_lines.specs.Reading.{is_black}
@@ -168,32 +169,33 @@ same_freeze one other e =
 same_parts : (one other : ℕ × ((List ℕ × ℕ) × Holder)) → Some one ≡ Some other → one ≡ other
 same_parts one other e = cc
 
-no_freeze_each : (text : List ℕ) (line : CarriedLine) → freeze_in text ≡ None → kind_of line ≡ kinds.Freeze → after_blanks (fields_of line) ≡ Some text → None ≡ Some line
-no_freeze_each text (lines.Freeze freeze) none k e = let there = freeze_back freeze text e in absurd cc
-no_freeze_each text line none k e = absurd cc
+module _ (version : Version) where
+  no_freeze_each : (text : List ℕ) (line : CarriedLine) → freeze_in text ≡ None → kind_of line ≡ kinds.Freeze → after_blanks (fields_of version line) ≡ Some text → None ≡ Some line
+  no_freeze_each text (lines.Freeze freeze) none k e = let there = freeze_back freeze text e in absurd cc
+  no_freeze_each text line none k e = absurd cc
 
-pub no_freeze_reads : (text : List ℕ) → freeze_in text ≡ None → ReadsFields kinds.Freeze text None
-no_freeze_reads text none = record { said = tt; back = λ line k f. no_freeze_each text line none k f }
+  pub no_freeze_reads : (text : List ℕ) → freeze_in text ≡ None → ReadsFields version kinds.Freeze text None
+  no_freeze_reads text none = record { said = tt; back = λ line k f. no_freeze_each text line none k f }
 
-freeze_each : (text : List ℕ) (read : Freeze) (line : CarriedLine) → freeze_in text ≡ Some (freeze_parts read) → kind_of line ≡ kinds.Freeze → after_blanks (fields_of line) ≡ Some text → Some (lines.Freeze read) ≡ Some line
-freeze_each text read (lines.Freeze freeze) is k e =
-    let parts : freeze_parts read ≡ freeze_parts freeze = same_parts (freeze_parts read) (freeze_parts freeze) (sym is ∙ freeze_back freeze text e) in
-    ap (λ (f : Freeze). Some (lines.Freeze f)) (same_freeze read freeze parts)
-freeze_each text read line is k e = absurd cc
+  freeze_each : (text : List ℕ) (read : Freeze) (line : CarriedLine) → freeze_in text ≡ Some (freeze_parts read) → kind_of line ≡ kinds.Freeze → after_blanks (fields_of version line) ≡ Some text → Some (lines.Freeze read) ≡ Some line
+  freeze_each text read (lines.Freeze freeze) is k e =
+      let parts : freeze_parts read ≡ freeze_parts freeze = same_parts (freeze_parts read) (freeze_parts freeze) (sym is ∙ freeze_back freeze text e) in
+      ap (λ (f : Freeze). Some (lines.Freeze f)) (same_freeze read freeze parts)
+  freeze_each text read line is k e = absurd cc
 
-pub freeze_reads : (text : List ℕ) (read : Freeze) → freeze_in text ≡ Some (freeze_parts read) → ReadsFields kinds.Freeze text (Some (lines.Freeze read))
-freeze_reads text read is = record { said = (refl, freeze_said text read is); back = λ line k f. freeze_each text read line is k f }
+  pub freeze_reads : (text : List ℕ) (read : Freeze) → freeze_in text ≡ Some (freeze_parts read) → ReadsFields version kinds.Freeze text (Some (lines.Freeze read))
+  freeze_reads text read is = record { said = (refl, freeze_said text read is); back = λ line k f. freeze_each text read line is k f }
 
--- a line of a freeze
-freeze_of : (text : List ℕ) (line : CarriedLine) → kind_of line ≡ kinds.Freeze → after_blanks (fields_of line) ≡ Some text → (freeze : Freeze) × (Some line ≡ Some (lines.Freeze freeze)) × (freeze_in text ≡ Some (freeze_parts freeze))
-freeze_of text (lines.Freeze freeze) k e = (freeze, refl, freeze_back freeze text e)
-freeze_of text line k e = absurd cc
+  -- a line of a freeze
+  freeze_of : (text : List ℕ) (line : CarriedLine) → kind_of line ≡ kinds.Freeze → after_blanks (fields_of version line) ≡ Some text → (freeze : Freeze) × (Some line ≡ Some (lines.Freeze freeze)) × (freeze_in text ≡ Some (freeze_parts freeze))
+  freeze_of text (lines.Freeze freeze) k e = (freeze, refl, freeze_back freeze text e)
+  freeze_of text line k e = absurd cc
 
--- two lines of a kind with the same fields are one
-pub same_fields : (kind : Kind) (one other : CarriedLine) (text : List ℕ) → kind_of one ≡ kind → kind_of other ≡ kind → after_blanks (fields_of one) ≡ Some text → after_blanks (fields_of other) ≡ Some text → one ≡ other
-same_fields kinds.Numbers one other text k l e f = same_line one other (sym (numbers_each text one k e) ∙ numbers_each text other l f)
-same_fields kinds.Clock one other text k l e f = same_line one other (sym (clock_each text one k e) ∙ clock_each text other l f)
-same_fields kinds.Openings one other text k l e f = same_line one other (sym (openings_each text one k e) ∙ openings_each text other l f)
-same_fields kinds.Word one other text k l e f = same_line one other (sym (word_each text one k e) ∙ word_each text other l f)
-same_fields kinds.Ccb one other text k l e f = same_line one other (sym (ccb_each text one k e) ∙ ccb_each text other l f)
-same_fields kinds.Freeze one other text k l e f = let first = freeze_of text one k e in same_line one other (first.1 ∙ freeze_each text first.0 other first.2 l f)
+  -- two lines of a kind with the same fields are one
+  pub same_fields : (kind : Kind) (one other : CarriedLine) (text : List ℕ) → kind_of one ≡ kind → kind_of other ≡ kind → after_blanks (fields_of version one) ≡ Some text → after_blanks (fields_of version other) ≡ Some text → one ≡ other
+  same_fields kinds.Numbers one other text k l e f = same_line one other (sym (numbers_each version text one k e) ∙ numbers_each version text other l f)
+  same_fields kinds.Clock one other text k l e f = same_line one other (sym (clock_each version text one k e) ∙ clock_each version text other l f)
+  same_fields kinds.Openings one other text k l e f = same_line one other (sym (openings_each version text one k e) ∙ openings_each version text other l f)
+  same_fields kinds.Word one other text k l e f = same_line one other (sym (word_each version text one k e) ∙ word_each version text other l f)
+  same_fields kinds.Ccb one other text k l e f = same_line one other (sym (ccb_each version text one k e) ∙ ccb_each version text other l f)
+  same_fields kinds.Freeze one other text k l e f = let first = freeze_of text one k e in same_line one other (first.1 ∙ freeze_each text first.0 other first.2 l f)

@@ -2,6 +2,7 @@ pub mod Cuts
 pub mod Numerals
 pub mod Fronts
 pub mod EachLine
+pub mod CcbLine
 pub mod FreezeLine
 pub mod Whole
 pub mod Appended

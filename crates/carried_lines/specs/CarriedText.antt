@@ -1,5 +1,5 @@
 -- How a carried line is spelled: its word, and its fields, each after one blank.
-use Rattle.std.specs.Prelude.{ℕ, Bool, true, false, Option, Some, None, List, [], ◌∷◌, ◌++◌, codes}
+use Rattle.std.specs.Prelude.{ℕ, ◌==◌, ◌&&◌, not, Bool, true, false, Option, Some, None, List, [], ◌∷◌, ◌++◌, codes, if◌then◌else◌}
 use Rattle.std.specs.Fmt.{option_append}
 use Rattle.ccb.specs.Places.{kind_word, number_of}
 use Rattle.ccb.specs.declared.place.Place.{Place}
@@ -9,7 +9,9 @@ use Rattle.freeze_ledger.specs.declared.freeze.Holder.TheVariants as holders
 use Rattle.world_calls.specs.declared.carried_line.CarriedCcb.{CarriedCcb}
 use Rattle.world_calls.specs.declared.carried_line.CarriedLine.{CarriedLine}
 use Rattle.world_calls.specs.declared.carried_line.CarriedLine.TheVariants as lines
+use Rattle.world_calls.specs.declared.trace.Version.{Version}
 use Rattle.trace_lines.specs.Texts.{number_text, long_number_text}
+use Rattle.trace_lines.specs.Versions.{has_classes}
 use Rattle.carried_lines.specs.declared.kind.Kind.{Kind}
 use Rattle.carried_lines.specs.declared.kind.Kind.TheVariants as kinds
 
@@ -41,11 +43,39 @@ abbrev pub state_word : Bool → List ℕ
 state_word true = codes "active"
 state_word false = codes "waiting"
 
--- the number of a CCB, its queue, its priority, the retries that are left, how often it was started, and whether it is active
-abbrev pub ccb_fields : CarriedCcb → List (Option (List ℕ))
-ccb_fields ccb =
+-- no class and no advice
+abbrev pub has_neither : ℕ → ℕ → Bool
+has_neither class advice = class == 0 && advice == 0
+
+-- the class and the advice, where CCBs have them; elsewhere nothing stands for 0 and 0, and other numbers have no text
+abbrev pub class_fields : Bool → ℕ → ℕ → List (Option (List ℕ))
+class_fields true class advice = number_text class ∷ number_text advice ∷ []
+class_fields false class advice = if has_neither class advice then [] else None ∷ []
+
+-- whether it is active, which is the last field
+abbrev pub state_fields : CarriedCcb → List (Option (List ℕ))
+state_fields ccb = Some (state_word ccb.is_active) ∷ []
+
+-- the number of a CCB, its queue, its priority, the retries that are left, how often it was started, its class and advice in a version that
+-- has them, and whether it is active
+abbrev pub ccb_fields_by : Bool → CarriedCcb → List (Option (List ℕ))
+ccb_fields_by there ccb =
+    number_text ccb.number.0 ∷ number_text ccb.queue.0 ∷ number_text ccb.priority ∷ number_text ccb.retries ∷ number_text ccb.attempts
+    ∷ (class_fields there ccb.class ccb.advice ++ state_fields ccb)
+
+abbrev pub ccb_fields : Version → CarriedCcb → List (Option (List ℕ))
+ccb_fields version ccb = ccb_fields_by (has_classes version) ccb
+
+-- the same with neither class nor advice, and with both
+abbrev pub plain_ccb_fields : CarriedCcb → List (Option (List ℕ))
+plain_ccb_fields ccb =
     number_text ccb.number.0 ∷ number_text ccb.queue.0 ∷ number_text ccb.priority ∷ number_text ccb.retries ∷ number_text ccb.attempts
     ∷ Some (state_word ccb.is_active) ∷ []
+
+abbrev pub classed_ccb_fields : CarriedCcb → List (Option (List ℕ))
+classed_ccb_fields ccb =
+    number_text ccb.number.0 ∷ number_text ccb.queue.0 ∷ number_text ccb.priority ∷ number_text ccb.retries ∷ number_text ccb.attempts
+    ∷ number_text ccb.class ∷ number_text ccb.advice ∷ Some (state_word ccb.is_active) ∷ []
 
 abbrev pub kind_of : CarriedLine → Kind
 kind_of (lines.Numbers ccb freeze run) = kinds.Numbers
@@ -64,24 +94,29 @@ kind_text kinds.Word = codes "word"
 kind_text kinds.Ccb = codes "ccb"
 kind_text kinds.Freeze = codes "freeze"
 
--- and its fields
-abbrev pub fields_of : CarriedLine → List (Option (List ℕ))
-fields_of (lines.Numbers ccb freeze run) = number_text ccb ∷ number_text freeze ∷ number_text run ∷ []
-fields_of (lines.Clock reading) = long_number_text reading ∷ []
-fields_of (lines.Openings queue openings) = number_text queue ∷ number_text openings ∷ []
-fields_of (lines.Word table index word) = number_text table ∷ number_text index ∷ long_number_text word ∷ []
-fields_of (lines.Ccb ccb) = ccb_fields ccb
-fields_of (lines.Freeze freeze) = freeze_fields freeze
+-- and its fields, in a version
+abbrev pub fields_of : Version → CarriedLine → List (Option (List ℕ))
+fields_of version (lines.Numbers ccb freeze run) = number_text ccb ∷ number_text freeze ∷ number_text run ∷ []
+fields_of version (lines.Clock reading) = long_number_text reading ∷ []
+fields_of version (lines.Openings queue openings) = number_text queue ∷ number_text openings ∷ []
+fields_of version (lines.Word table index word) = number_text table ∷ number_text index ∷ long_number_text word ∷ []
+fields_of version (lines.Ccb ccb) = ccb_fields version ccb
+fields_of version (lines.Freeze freeze) = freeze_fields freeze
 
--- the text of a line without its line feed, if it has one
-abbrev pub carried_text : CarriedLine → Option (List ℕ)
-carried_text line = option_append (Some (kind_text (kind_of line))) (after_blanks (fields_of line))
+-- the text of a line of a version without its line feed, if it has one
+abbrev pub carried_text : Version → CarriedLine → Option (List ℕ)
+carried_text version line = option_append (Some (kind_text (kind_of line))) (after_blanks (fields_of version line))
 
 abbrev pub is_by_run : Holder → Bool
 is_by_run (holders.Run run) = true
 is_by_run holder = false
 
--- the line says that a run holds a freeze, and so it has no text
-abbrev pub is_held_by_run : CarriedLine → Bool
-is_held_by_run (lines.Freeze freeze) = is_by_run freeze.holder
-is_held_by_run line = false
+-- the CCB has a class or an advice where none has
+abbrev pub is_classed : Version → CarriedCcb → Bool
+is_classed version ccb = not (has_classes version) && not (has_neither ccb.class ccb.advice)
+
+-- the line says that a run holds a freeze, or has a class or an advice in a version without them, and so it has no text
+abbrev pub is_unspelled : Version → CarriedLine → Bool
+is_unspelled version (lines.Freeze freeze) = is_by_run freeze.holder
+is_unspelled version (lines.Ccb ccb) = is_classed version ccb
+is_unspelled version line = false

@@ -7,6 +7,8 @@ use Rattle.freeze_ledger.specs.declared.freeze.Holder.{Holder}
 use Rattle.freeze_ledger.specs.declared.freeze.Holder.TheVariants as holders
 use Rattle.world_calls.specs.declared.carried_line.CarriedLine.{CarriedLine}
 use Rattle.world_calls.specs.declared.carried_line.CarriedLine.TheVariants as lines
+use Rattle.world_calls.specs.declared.trace.Version.{Version}
+use Rattle.trace_lines.specs.Versions.{has_classes}
 use Rattle.carried_lines.specs.CarriedText.{after_blanks, fields_of, kind_of, kind_text}
 use Rattle.carried_lines.specs.declared.kind.Kind.{Kind}
 use Rattle.carried_lines.specs.declared.kind.Kind.TheVariants as kinds
@@ -31,16 +33,22 @@ state_of word = if bytes_eq word (codes "active") then Some true else if bytes_e
 unfoldable pub state_in : List ℕ → Option Bool
 state_in text = field_in text >>= λ field. state_of field.0 >>= λ is_active. ended is_active field.1
 
-unfoldable pub ccb_in : List ℕ → Option CarriedLine
-ccb_in text =
+-- the class and the advice of a CCB, where CCBs have them, and what is after them
+unfoldable pub class_in : Bool → List ℕ → Option ((ℕ × ℕ) × List ℕ)
+class_in there text = if there then (number_in text >>= λ class. number_in class.1 >>= λ advice. Some ((class.0, advice.0), advice.1)) else Some ((0, 0), text)
+
+unfoldable pub ccb_in : Version → List ℕ → Option CarriedLine
+ccb_in version text =
     number_in text >>= λ number. number_in number.1 >>= λ queue. number_in queue.1 >>= λ priority. number_in priority.1 >>= λ retries.
-    number_in retries.1 >>= λ attempts. state_in attempts.1 >>= λ is_active.
+    number_in retries.1 >>= λ attempts. class_in (has_classes version) attempts.1 >>= λ class. state_in class.1 >>= λ is_active.
     Some (lines.Ccb (record {
       number = record { 0 = number.0 };
       queue = record { 0 = queue.0 };
       priority = priority.0;
       retries = retries.0;
+      class = class.0.0;
       attempts = attempts.0;
+      advice = class.0.1;
       is_active = is_active;
     }))
 
@@ -85,6 +93,6 @@ kind_named word =
     else (if bytes_eq (kind_text kinds.Freeze) word then Some kinds.Freeze else None)))))
 
 -- The fields of a line of the kind are read as that line, and what is read is a line of the kind with these fields.
-pub record ReadsFields (kind : Kind) (text : List ℕ) (read : Option CarriedLine) : Type 0 where
-  pub said : IfSome read (λ line. (kind_of line ≡ kind) × (after_blanks (fields_of line) ≡ Some text))
-  pub back : (line : CarriedLine) → kind_of line ≡ kind → after_blanks (fields_of line) ≡ Some text → read ≡ Some line
+pub record ReadsFields (version : Version) (kind : Kind) (text : List ℕ) (read : Option CarriedLine) : Type 0 where
+  pub said : IfSome read (λ line. (kind_of line ≡ kind) × (after_blanks (fields_of version line) ≡ Some text))
+  pub back : (line : CarriedLine) → kind_of line ≡ kind → after_blanks (fields_of version line) ≡ Some text → read ≡ Some line

@@ -12,5 +12,6 @@ pub fn continued_header(version: Version) -> &'static str
     match version {
         Version::One => "camr-trace 1 continued\n",
         Version::Two => "camr-trace 2 continued\n",
+        Version::Three => "camr-trace 3 continued\n",
     }
 }

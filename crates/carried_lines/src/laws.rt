@@ -2,7 +2,7 @@
 
 ghost use Rattle.carried_lines.specs.Laws.{LinesHaveOwnTexts, NoTextHasALineFeed, NoTextIsOfARecord, NoTextIsOfTheEnd};
 
-/// Two different lines have different texts.
+/// In a version two different lines have different texts.
 pub fn lines_have_own_texts()
     ensures { LinesHaveOwnTexts }
 {}

@@ -1,38 +1,40 @@
 // Reads a line by its word, one function for each word. It relies on `fields`.
 
 ghost use Rattle.std.specs.Prelude.{◌≡◌};
+ghost use Rattle.trace_lines.specs.Versions.{has_classes};
 ghost use Rattle.trace_lines.specs.Written.{Reads};
 ghost use Rattle.carried_lines.specs.CarriedText.{carried_text};
 ghost use Rattle.carried_lines.specs.FieldReading.{ReadsAs};
-ghost use Rattle.carried_lines.specs.LineReading.{ReadsFields, ccb_in, clock_in, freeze_in, freeze_parts, guest_in, holder_in, numbers_in, openings_in, place_in, place_named, place_parts, state_in, state_of, timer_in, word_in};
+ghost use Rattle.carried_lines.specs.LineReading.{ReadsFields, ccb_in, class_in, clock_in, freeze_in, freeze_parts, guest_in, holder_in, numbers_in, openings_in, place_in, place_named, place_parts, state_in, state_of, timer_in, word_in};
 
 use crate::fields::{field, first_word, long_number_field, number_field};
 use crate::kind::Kind;
 use ccb::{CcbId, Place, QueueId};
 use freeze_ledger::{Freeze, Holder};
-use world_calls::{CarriedCcb, CarriedLine};
+use trace_lines::has_classes;
+use world_calls::{CarriedCcb, CarriedLine, Version};
 
-/// Reads the line that has this text, which has no line feed: its word and its fields, with exactly one blank between any two of them, and
-/// numbers in decimal digits without a sign and without leading zeros. The result is `None` exactly if no line has this text. A word that
+/// Reads the line of a version that has this text, which has no line feed: its word and its fields, with exactly one blank between any two of them, and
+/// numbers in decimal digits without a sign and without leading zeros. The result is `None` exactly if no line of the version has this text. A word that
 /// is 0 is read as any other: `Order` refuses its line.
-pub fn read_carried(text: &str) -> Option<CarriedLine>
-    ensures { Reads carried_text text.now result }
+pub fn read_carried(version: Version, text: &str) -> Option<CarriedLine>
+    ensures { Reads (carried_text version) text.now result }
 {
     let (word, fields) = first_word(text);
     let kind = Kind::named(word)?;
-    read_fields(kind, fields)
+    read_fields(version, kind, fields)
 }
 
 // The line of a kind that has these fields.
-fn read_fields(kind: Kind, text: &str) -> Option<CarriedLine>
-    ensures { ReadsFields kind text.now result }
+fn read_fields(version: Version, kind: Kind, text: &str) -> Option<CarriedLine>
+    ensures { ReadsFields version kind text.now result }
 {
     match kind {
         Kind::Numbers => numbers(text),
         Kind::Clock => clock(text),
         Kind::Openings => openings(text),
         Kind::Word => table_word(text),
-        Kind::Ccb => ccb(text),
+        Kind::Ccb => ccb(version, text),
         Kind::Freeze => match freeze(text) {
             Some(freeze) => Some(CarriedLine::Freeze(freeze)),
             None => None,
@@ -90,23 +92,39 @@ fn table_word(text: &str) -> Option<CarriedLine>
 }
 
 #[tactic(auto, unfolding(crate::specs::LineReading::ccb_in))]
-fn ccb(text: &str) -> Option<CarriedLine>
-    ensures { result ≡ ccb_in text.now }
+fn ccb(version: Version, text: &str) -> Option<CarriedLine>
+    ensures { result ≡ ccb_in version text.now }
 {
     let (number, text) = number_field(text)?;
     let (queue, text) = number_field(text)?;
     let (priority, text) = number_field(text)?;
     let (retries, text) = number_field(text)?;
     let (attempts, text) = number_field(text)?;
+    let (class, advice, text) = class_field(version, text)?;
     let is_active = state(text)?;
     Some(CarriedLine::Ccb(CarriedCcb {
         number: CcbId(number),
         queue: QueueId(queue),
         priority,
         retries,
+        class,
         attempts,
+        advice,
         is_active,
     }))
+}
+
+// The class and the advice of a CCB, which are 0 in a version without them, and what is after them.
+#[tactic(auto, unfolding(crate::specs::LineReading::class_in))]
+fn class_field(version: Version, text: &str) -> Option<(u32, u32, &str)>
+    ensures { ReadsAs (λ x. ((x.0, x.1), x.2.now)) result (class_in (has_classes version) text.now) }
+{
+    if !has_classes(version) {
+        return Some((0, 0, text));
+    }
+    let (class, text) = number_field(text)?;
+    let (advice, text) = number_field(text)?;
+    Some((class, advice, text))
 }
 
 // Whether a device works on a CCB, which is the last field.

@@ -76,6 +76,6 @@ is_context ccb scsi few each =
     let made : IsBytes 96 (context_of ccb) =
     after 4 92 _ _ (word ccb.number.0) (after 4 88 _ _ (word ccb.queue.0) (after 4 84 _ _ (word (status_word_of ccb))
     (after 1 83 _ _ (byte _ scsi) (after 1 82 _ _ (byte _ sense.key) (after 1 81 _ _ (byte _ sense.asc) (after 1 80 _ _ (byte _ sense.ascq)
-    (after 4 76 _ _ (word ccb.retries) (after 4 72 _ _ (word (sense_of ccb.sense).len) (after 4 68 _ _ (word ccb.attempts) (after 4 64 _ _ (word 0)
+    (after 4 76 _ _ (word ccb.retries) (after 4 72 _ _ (word (sense_of ccb.sense).len) (after 4 68 _ _ (word ccb.attempts) (after 4 64 _ _ (word ccb.class)
     (after 64 0 _ _ (padded ccb.sense few each) none))))))))))) in
     record { size = made.size; each = made.each }

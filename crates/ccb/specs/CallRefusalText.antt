@@ -11,7 +11,7 @@ use denote.Enum.Declared.{tag_of}
 
 -- the calls that no refusal refuses
 abbrev pub no_calls : RefusedCalls
-no_calls = record { submit = false; dispatch = false; complete = false; freeze = false; clock = false; resume = false }
+no_calls = record { submit = false; dispatch = false; complete = false; withdraw = false; freeze = false; clock = false; resume = false }
 
 -- the row of no refusal
 abbrev pub no_row : RefusalRow

@@ -24,7 +24,7 @@ context_fields ccb =
     let sense = sense_of ccb.sense in
     Word ccb.number.0 ∷ Word ccb.queue.0 ∷ Word (status_word_of ccb)
     ∷ Byte ccb.scsi ∷ Byte sense.key ∷ Byte sense.asc ∷ Byte sense.ascq
-    ∷ Word ccb.retries ∷ Word sense.len ∷ Word ccb.attempts ∷ Word 0
+    ∷ Word ccb.retries ∷ Word sense.len ∷ Word ccb.attempts ∷ Word ccb.class
     ∷ Bytes (padded_bytes ccb.sense) ∷ []
 
 -- the fields, one after another

@@ -1,7 +1,7 @@
 // A CCB as the transport keeps it from its submission to its end, and what each step of its life
 // changes. It relies on the status codes, the flags and the place for sense bytes.
 ghost use Rattle.std.specs.Prelude.{◌≡◌};
-ghost use Rattle.ccb.specs.Ccb.{completed, flags_of, requeued, started, status_word_of, submitted};
+ghost use Rattle.ccb.specs.Ccb.{advised, completed, flags_of, requeued, started, status_word_of, submitted};
 
 use crate::cam_status::CamStatus;
 use crate::ccb_flags::CcbFlags;
@@ -22,8 +22,12 @@ pub struct Ccb {
     pub priority: u32,
     /// How often the CCB may still be tried again.
     pub retries: u32,
+    /// What the host said that the command is, say its SCSI opcode; 0 if it said nothing.
+    pub class: u32,
     /// How often it was started, up to the largest u32.
     pub attempts: u32,
+    /// What its policy advised the host to do before its next start; 0 if it advised nothing.
+    pub advice: u32,
     /// What the last completion said, or that the CCB is in progress.
     pub status: CamStatus,
     /// The SCSI status byte of the last completion, or 0.
@@ -36,15 +40,17 @@ pub struct Ccb {
 
 impl Ccb {
     /// A CCB that is submitted, and was not started yet.
-    pub fn new(number: CcbId, queue: QueueId, priority: u32, retries: u32) -> Self
-        ensures { result ≡ submitted number queue priority retries }
+    pub fn new(number: CcbId, queue: QueueId, priority: u32, retries: u32, class: u32) -> Self
+        ensures { result ≡ submitted number queue priority retries class }
     {
         Ccb {
             number,
             queue,
             priority,
             retries,
+            class,
             attempts: 0,
+            advice: 0,
             status: CamStatus::RequestInProgress,
             scsi: 0,
             sense: ShortBytes::none(),
@@ -52,11 +58,19 @@ impl Ccb {
         }
     }
 
-    /// Counts a start. The count stays at the largest u32 once it is there.
+    /// Counts a start. The count stays at the largest u32 once it is there. What was advised for this start is advised no more.
     pub fn start(&mut self)
         ensures { self.new ≡ started self.old }
     {
         self.attempts = self.attempts.saturating_add(1);
+        self.advice = 0;
+    }
+
+    /// Advises the host to do something before the next start, in place of what was advised before.
+    pub fn advise(&mut self, word: u32)
+        ensures { self.new ≡ advised self.old word }
+    {
+        self.advice = word;
     }
 
     /// Takes over what a completion brought, and whether a freeze of the queue was taken for it.
@@ -70,7 +84,7 @@ impl Ccb {
     }
 
     /// Makes the CCB wait again: so many retries are used up, as far as there are that many, and what
-    /// the completion brought is gone. Number, queue, priority and attempts stay.
+    /// the completion brought is gone. Number, queue, priority, class, attempts and advice stay.
     pub fn requeue(&mut self, used: u32)
         ensures { self.new ≡ requeued self.old used }
     {

@@ -21,7 +21,7 @@ pub const CONTEXT_BYTES: usize = 96;
 /// | 16 | u32 retries left |
 /// | 20 | u32 how many sense bytes came, 0 to 64 |
 /// | 24 | u32 attempts |
-/// | 28 | u32 zero |
+/// | 28 | u32 class |
 /// | 32 | 64 sense bytes, padded with zeros |
 ///
 /// Words are little-endian. Key, ASC and ASCQ are what `sense_record::read` answers of the sense
@@ -32,12 +32,12 @@ pub fn context(ccb: &Ccb) -> [u8; CONTEXT_BYTES]
     let sense = sense_record::read(ccb.sense.as_slice());
     let names = [ccb.number.0, ccb.queue.0, ccb.status_word()];
     let codes = [ccb.scsi, sense.key, sense.asc, sense.ascq];
-    let counts = [ccb.retries, sense.len as u32, ccb.attempts];
+    let counts = [ccb.retries, sense.len as u32, ccb.attempts, ccb.class];
 
     let mut bytes = [0; CONTEXT_BYTES];
     LittleEndian::write_u32_into(&names, &mut bytes[..12]);
     bytes[12..16].copy_from_slice(&codes);
-    LittleEndian::write_u32_into(&counts, &mut bytes[16..28]);
+    LittleEndian::write_u32_into(&counts, &mut bytes[16..32]);
     bytes[32..].copy_from_slice(ccb.sense.padded());
     bytes
 }

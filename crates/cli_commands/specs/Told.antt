@@ -29,6 +29,10 @@ use Rattle.world.specs.TotalsOf.{TotalsOf}
 use Rattle.cli_commands.specs.Refusals.{AreTold, refused_count}
 use Rattle.cli_commands.specs.declared.fault.Fault.{Fault}
 use Rattle.cli_commands.specs.declared.fault.Fault.TheVariants as fault
+use Rattle.world_calls.specs.declared.trace.Version.{Version}
+use Rattle.world_calls.specs.declared.trace.Version.TheVariants.{Two, Three}
+use Rattle.cli_line.specs.declared.plans.LaterVersion.{LaterVersion}
+use Rattle.cli_line.specs.declared.plans.LaterVersion.TheVariants as later
 use Rattle.cli_line.specs.declared.plans.Plan.{Plan}
 use Rattle.cli_line.specs.declared.plans.Plan.TheVariants.{Asm, Dis, Check, Migrate, Run, Strict, Live, Journal, Audit, Replay}
 
@@ -42,9 +46,14 @@ IsProgram bytes = (program : _) × Spells bytes program
 abbrev pub IsManifest : List ℕ → Type 0
 IsManifest bytes = (setup : _) × (programs : _) × Means bytes setup programs
 
--- they are a manifest that can be written anew with one controller
-abbrev pub IsMigratable : List ℕ → Type 0
-IsMigratable bytes = (migrated : List ℕ) × IsMigrated bytes migrated
+-- the version by that name of the command line
+abbrev pub version_named : LaterVersion → Version
+version_named later.Two = Two
+version_named later.Three = Three
+
+-- they are a manifest that can be written anew in that version
+abbrev pub IsMigratable : Version → List ℕ → Type 0
+IsMigratable to bytes = (migrated : List ℕ) × IsMigrated to bytes migrated
 
 -- they have a fault of such a one
 abbrev pub IsFaultyText : List ℕ → Type 0
@@ -56,15 +65,15 @@ IsFaultyProgram bytes = (fault : DecodeFault) × HasDecodeFault bytes fault
 abbrev pub IsFaultyManifest : List ℕ → Type 0
 IsFaultyManifest bytes = (fault : ManifestFault) × HasFault bytes fault
 
-abbrev pub IsFaultyMigration : List ℕ → Type 0
-IsFaultyMigration bytes = (fault : ManifestFault) × HasMigrationFault bytes fault
+abbrev pub IsFaultyMigration : Version → List ℕ → Type 0
+IsFaultyMigration to bytes = (fault : ManifestFault) × HasMigrationFault to bytes fault
 
 -- a plan's first file is what the plan asks for
 abbrev pub IsAsAsked : Plan → List ℕ → Type 0
 IsAsAsked (Asm text program) bytes = IsText bytes
 IsAsAsked (Dis program) bytes = IsProgram bytes
 IsAsAsked (Check manifest) bytes = IsManifest bytes
-IsAsAsked (Migrate manifest migrated) bytes = IsMigratable bytes
+IsAsAsked (Migrate to manifest migrated) bytes = IsMigratable (version_named to) bytes
 IsAsAsked (Run workers watch manifest scenario) bytes = IsManifest bytes
 IsAsAsked (Strict workers watch manifest scenario) bytes = IsManifest bytes
 IsAsAsked (Live manner manifest) bytes = IsManifest bytes
@@ -83,7 +92,7 @@ abbrev pub IsFaulty : Plan → List ℕ → Type 0
 IsFaulty (Asm text program) bytes = IsFaultyText bytes
 IsFaulty (Dis program) bytes = IsFaultyProgram bytes
 IsFaulty (Check manifest) bytes = IsFaultyManifest bytes
-IsFaulty (Migrate manifest migrated) bytes = IsFaultyMigration bytes
+IsFaulty (Migrate to manifest migrated) bytes = IsFaultyMigration (version_named to) bytes
 IsFaulty (Run workers watch manifest scenario) bytes = Unit {0}
 IsFaulty (Strict workers watch manifest scenario) bytes = Unit {0}
 IsFaulty (Live manner manifest) bytes = IsFaultyManifest bytes
@@ -126,20 +135,20 @@ IsPrinted trace old new = (text : List ℕ) × (trace_text trace ≡ Some text) 
 abbrev pub IsServing : List ℕ → Setup → Type 0
 IsServing manifest setup = (programs : _) × Means manifest setup programs
 
--- The text is a scenario.
-abbrev pub IsScenario : List ℕ → Type 0
-IsScenario text = (steps : List Step) × Say (lines_of text) steps
+-- The one text is a manifest, and the other a scenario of its version.
+abbrev pub IsScenario : List ℕ → List ℕ → Type 0
+IsScenario manifest text = (setup : _) × (programs : _) × (steps : List Step) × Means manifest setup programs × Say (version_of setup) (lines_of text) steps
 
 -- what a plan's second file is, beside the first, where the plan was carried out
 abbrev pub IsAccepted : Plan → List ℕ → List ℕ → Type 0
-IsAccepted (Run workers watch manifest scenario) first second = IsScenario second
-IsAccepted (Strict workers watch manifest scenario) first second = IsScenario second
+IsAccepted (Run workers watch manifest scenario) first second = IsScenario first second
+IsAccepted (Strict workers watch manifest scenario) first second = IsScenario first second
 IsAccepted (Replay manifest trace) first second = IsAcceptedTrace first second
 IsAccepted plan first second = Unit {0}
 
--- The text is a scenario, of which the trace is: its host's calls and what workers make.
+-- The text is a scenario of the trace's version, of which the trace is: its host's calls and what workers make.
 abbrev pub IsOfScenarioText : List ℕ → Trace → Type 0
-IsOfScenarioText text trace = (steps : List Step) × Say (lines_of text) steps × IsOfScenario steps trace.records.items
+IsOfScenarioText text trace = (steps : List Step) × Say trace.version (lines_of text) steps × IsOfScenario trace.version steps trace.records.items
 
 -- The one text says a program, and the bytes spell it; the bytes spell one, and the text is that of it.
 abbrev pub IsAssembled : List ℕ → List ℕ → Type 0
@@ -165,7 +174,7 @@ abbrev pub IsOutput : Plan → List ℕ → Option (List ℕ) → Option (List �
 IsOutput (Asm text program) input old new = PutsOut (IsAssembled input) old new
 IsOutput (Dis program) input old new = PutsOut (IsDisassembled input) old new
 IsOutput (Check manifest) input old new = Unit {0}
-IsOutput (Migrate manifest migrated) input old new = PutsOut (IsMigrated input) old new
+IsOutput (Migrate to manifest migrated) input old new = PutsOut (IsMigrated (version_named to) input) old new
 IsOutput (Run workers watch manifest scenario) input old new = PutsOut (IsTraceUnder input) old new
 IsOutput (Strict workers watch manifest scenario) input old new = PutsOut (IsTraceUnder input) old new
 IsOutput (Live manner manifest) input old new = PutsOut (IsIdleUnder input) old new
@@ -191,11 +200,15 @@ IsFaultyReplay manifest text fault =
 -- The one text is a manifest, and the other a scenario, on this line of which stands a release of a freeze that is not held then.
 abbrev pub IsUnheldRelease : List ℕ → List ℕ → ℕ → Type 0
 IsUnheldRelease manifest text line =
-    (setup : _) × (programs : _) × (steps : List Step) × Means manifest setup programs × Say (lines_of text) steps × IsUnheldThen setup steps line
+    (setup : _) × (programs : _) × (steps : List Step) × Means manifest setup programs × Say (version_of setup) (lines_of text) steps × IsUnheldThen setup steps line
 
--- a line of the text, at least, is none of a scenario
-abbrev pub IsFaultyScenario : List ℕ → Type 0
-IsFaultyScenario text = (line : ℕ) × IsFaultyLine text line
+-- The one text is a manifest, and this line of the other is the first that is none of a scenario of its version.
+abbrev pub IsFaultyLineUnder : List ℕ → List ℕ → ℕ → Type 0
+IsFaultyLineUnder manifest text line = (setup : _) × (programs : _) × Means manifest setup programs × IsFaultyLine (version_of setup) text line
+
+-- a line of the text, at least, is none of a scenario under that manifest
+abbrev pub IsFaultyScenario : List ℕ → List ℕ → Type 0
+IsFaultyScenario manifest text = (line : ℕ) × IsFaultyLineUnder manifest text line
 
 -- what is wrong with a manifest
 abbrev pub IsManifestFault : List ℕ → Fault → Type 0
@@ -209,7 +222,7 @@ IsTraceFault manifest text (fault.Replay f) = IsFaultyReplay manifest text f
 IsTraceFault manifest text other = IsManifestFault manifest other
 
 abbrev pub IsScenarioFault : List ℕ → List ℕ → Fault → Type 0
-IsScenarioFault manifest text (fault.Line line) = IsManifest manifest × IsFaultyLine text line
+IsScenarioFault manifest text (fault.Line line) = IsFaultyLineUnder manifest text line
 IsScenarioFault manifest text (fault.NotHeld line) = IsUnheldRelease manifest text line
 IsScenarioFault manifest text other = IsManifestFault manifest other
 
@@ -235,7 +248,7 @@ is_strict plan = false
 -- how many there are, and where the first stands.
 abbrev pub AreCounted : (manifest scenario : List ℕ) → (old new told-old told-new : Option (List ℕ)) → Type 0
 AreCounted manifest scenario old new told-old told-new =
-    (trace : Trace) × (steps : List Step) × IsOfManifest manifest trace × Say (lines_of scenario) steps × IsOfScenario steps trace.records.items
+    (trace : Trace) × (steps : List Step) × IsOfManifest manifest trace × Say trace.version (lines_of scenario) steps × IsOfScenario trace.version steps trace.records.items
     × IsPrinted trace old new × AreTold steps trace.records.items told-old told-new
 
 -- why a strict run ended with 1: it was not carried out, and nothing went out; or calls were refused

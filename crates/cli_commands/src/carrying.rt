@@ -12,7 +12,7 @@ ghost use Rattle.workers.specs.declared.serving.TheConstants.{MAX_WORKERS};
 ghost use Rattle.cli_commands.specs.Faults.{status_of};
 ghost use Rattle.cli_commands.specs.Told.{IsText, IsProgram, IsManifest, IsMigratable, needs_disk, IsFaultyText, IsFaultyProgram, IsFaultyManifest, IsFaultyMigration};
 ghost use Rattle.cli_commands.specs.Refusals.{AreTold, refused_count};
-ghost use Rattle.cli_commands.specs.Told.{IsAccepted, IsAsAsked, IsAssembled, IsDisassembled, IsFailed, IsFailedRun, IsFaulty, IsIdleUnder, IsOfManifest, IsOfScenarioText, IsOutput, IsPrinted, IsPutOut, IsRejected, IsRejectedScenario, IsScenario, IsScenarioFault, IsServing, IsTraceUnder, PutsOut, is_strict};
+ghost use Rattle.cli_commands.specs.Told.{IsAccepted, IsAsAsked, IsAssembled, IsDisassembled, IsFailed, IsFailedRun, IsFaulty, IsIdleUnder, IsOfManifest, IsOfScenarioText, IsOutput, IsPrinted, IsPutOut, IsRejected, IsRejectedScenario, IsScenario, IsScenarioFault, IsServing, IsTraceUnder, PutsOut, is_strict, version_named};
 
 use crate::fault::Fault;
 use crate::files::{text, unwritten, write};
@@ -22,7 +22,7 @@ use crate::replaying::print_verdict;
 use crate::verdicts;
 use bpf_asm::{assemble, disassemble};
 use bpf_decode::{decode, encode};
-use cli_line::Plan;
+use cli_line::{LaterVersion, Plan};
 use engine_core::Engine;
 use manifest::{Manifest, NamedProgram};
 use scenario::Scenario;
@@ -32,7 +32,7 @@ use std::io::Write;
 use std::sync::Wait;
 use std::thread::Threads;
 use workers::MAX_WORKERS;
-use world_calls::{Notices, Trace};
+use world_calls::{Notices, Trace, Version};
 
 /// Carries a plan out over the bytes of its input files, in the order of the line, and answers the status:
 /// 0 done; 1 refused; 2 for a file that is to be text and is not UTF-8, for want of memory, or where a writer fails. What is to
@@ -105,9 +105,9 @@ pub fn carry<N: Notices + Sync, R: Threads + Wait + Sync, W: Write, E: Write>(
             let trace = (trace.as_str(), inputs[1].as_slice());
             print_verdict(alloc, manifest, trace, notices, out, err)
         }
-        Plan::Migrate(manifest, _) => {
+        Plan::Migrate(to, manifest, _) => {
             let manifest = (manifest.as_str(), inputs[0].as_slice());
-            print_migrated(alloc, manifest, out, err)
+            print_migrated(alloc, version_named(*to), manifest, out, err)
         }
         Plan::Journal(..) => report_no_disk(err),
         Plan::Audit(_) => report_no_disk(err),
@@ -221,34 +221,45 @@ fn check<'a>(alloc: Global, file: (&'a str, &[u8])) -> Result<Manifest, Fault<'a
     Ok(manifest::read(alloc, text(file)?)?)
 }
 
-// Prints a manifest of version 1, a path and its bytes, as one of version 2, and answers the status.
+// The version by that name of the command line.
+fn version_named(to: LaterVersion) -> Version
+    ensures { result ≡ version_named to }
+{
+    match to {
+        LaterVersion::Two => Version::Two,
+        LaterVersion::Three => Version::Three,
+    }
+}
+
+// Prints a manifest of a lower version, a path and its bytes, as one of that version, and answers the status.
 fn print_migrated<W: Write, E: Write>(
     alloc: Global,
+    to: Version,
     manifest: (&str, &[u8]),
     out: &mut W,
     err: &mut E,
 ) -> u8
     ensures status { result ≤ 2 }
     ensures no_text { ¬ (IsUtf8 manifest.entry.1.now) → result ≡ 2 }
-    ensures done { result ≡ 0 → IsMigratable manifest.entry.1.now }
-    ensures output { result ≡ 0 → PutsOut (IsMigrated manifest.entry.1.now) (W.contents out.old) (W.contents out.new) }
-    ensures refused { result ≡ 1 → IsFaultyMigration manifest.entry.1.now }
+    ensures done { result ≡ 0 → IsMigratable to manifest.entry.1.now }
+    ensures output { result ≡ 0 → PutsOut (IsMigrated to manifest.entry.1.now) (W.contents out.old) (W.contents out.new) }
+    ensures refused { result ≡ 1 → IsFaultyMigration to manifest.entry.1.now }
     ensures nothing { result ≡ 1 → Keeps (W.contents out.old) (W.contents out.new) }
     ensures quiet { result ≡ 0 → Keeps (E.contents err.old) (E.contents err.new) }
 {
-    match migrated(alloc, manifest) {
+    match migrated(alloc, to, manifest) {
         Ok(text) => write(text.as_bytes(), out, err),
         Err(fault) => fault.report(err),
     }
 }
 
-// The text of version 2 for a manifest of version 1, a path and its bytes.
-fn migrated<'a>(alloc: Global, file: (&'a str, &[u8])) -> Result<String, Fault<'a>>
+// The text of that version for a manifest of a lower one, a path and its bytes.
+fn migrated<'a>(alloc: Global, to: Version, file: (&'a str, &[u8])) -> Result<String, Fault<'a>>
     ensures no_text { ¬ (IsUtf8 file.entry.1.now) → IsErrAnd result (λ e. status_of e ≡ 2) }
-    ensures migrated { IfOk result (λ text. IsMigrated file.entry.1.now (string_bytes text)) }
-    ensures fault { IfErr result (λ e. status_of e ≡ 1 → IsFaultyMigration file.entry.1.now) }
+    ensures migrated { IfOk result (λ text. IsMigrated to file.entry.1.now (string_bytes text)) }
+    ensures fault { IfErr result (λ e. status_of e ≡ 1 → IsFaultyMigration to file.entry.1.now) }
 {
-    Ok(manifest::migrate(alloc, text(file)?)?)
+    Ok(manifest::migrate(alloc, text(file)?, to)?)
 }
 
 // Prints the trace of a manifest and a scenario, each a path and its bytes, run by so many workers, and answers the status.
@@ -267,7 +278,7 @@ fn print_run<N: Notices + Sync, R: Threads + Wait + Sync, W: Write, E: Write>(
     ensures manifest { ¬ (IsUtf8 manifest.entry.1.now) → result ≡ 2 }
     ensures scenario { ¬ (IsUtf8 scenario.entry.1.now) → result ≡ 2 }
     ensures done { result ≡ 0 → IsManifest manifest.entry.1.now }
-    ensures accepted { result ≡ 0 → IsScenario scenario.entry.1.now }
+    ensures accepted { result ≡ 0 → IsScenario manifest.entry.1.now scenario.entry.1.now }
     ensures out { result ≡ 0 → (trace : _) × IsOfManifest manifest.entry.1.now trace × IsOfScenarioText scenario.entry.1.now trace × IsPrinted trace (W.contents out.old) (W.contents out.new) }
     ensures output { result ≡ 0 → PutsOut (IsTraceUnder manifest.entry.1.now) (W.contents out.old) (W.contents out.new) }
     ensures rejected { result ≡ 1 → IsRejectedScenario manifest.entry.1.now scenario.entry.1.now }
@@ -296,7 +307,7 @@ fn print_strict<N: Notices + Sync, R: Threads + Wait + Sync, W: Write, E: Write>
     ensures manifest { ¬ (IsUtf8 manifest.entry.1.now) → result ≡ 2 }
     ensures scenario { ¬ (IsUtf8 scenario.entry.1.now) → result ≡ 2 }
     ensures done { result ≡ 0 → IsManifest manifest.entry.1.now }
-    ensures accepted { result ≡ 0 → IsScenario scenario.entry.1.now }
+    ensures accepted { result ≡ 0 → IsScenario manifest.entry.1.now scenario.entry.1.now }
     ensures out { result ≡ 0 → (trace : _) × IsOfManifest manifest.entry.1.now trace × IsOfScenarioText scenario.entry.1.now trace × IsPrinted trace (W.contents out.old) (W.contents out.new) × (refused_count trace.records.items ≡ 0) }
     ensures output { result ≡ 0 → PutsOut (IsTraceUnder manifest.entry.1.now) (W.contents out.old) (W.contents out.new) }
     ensures quiet { result ≡ 0 → Keeps (E.contents err.old) (E.contents err.new) }
@@ -376,8 +387,8 @@ fn idle<'a>(alloc: Global, manifest: (&'a str, &[u8])) -> Result<Trace, Fault<'a
     }
 }
 
-// Writes the whole trace, and answers the status.
-fn write_trace<W: Write, E: Write>(trace: &Trace, out: &mut W, err: &mut E) -> u8
+/// Writes the whole trace, and answers the status.
+pub fn write_trace<W: Write, E: Write>(trace: &Trace, out: &mut W, err: &mut E) -> u8
     requires { AllHaveText trace.now.version trace.now.records.items }
     ensures status { (result ≢ 1) × (result ≤ 2) }
     ensures written { result ≡ 0 → IsPrinted trace.now (W.contents out.old) (W.contents out.new) }
@@ -415,7 +426,7 @@ pub fn run<'a, N: Notices + Sync, R: Threads + Wait + Sync>(
     ensures manifest { ¬ (IsUtf8 manifest.entry.1.now) → IsErrAnd result (λ e. status_of e ≡ 2) }
     ensures scenario { ¬ (IsUtf8 scenario.entry.1.now) → IsErrAnd result (λ e. status_of e ≡ 2) }
     ensures done { IfOk result (λ _. IsManifest manifest.entry.1.now) }
-    ensures accepted { IfOk result (λ _. IsScenario scenario.entry.1.now) }
+    ensures accepted { IfOk result (λ _. IsScenario manifest.entry.1.now scenario.entry.1.now) }
     ensures spelled { IfOk result (λ trace. AllHaveText trace.version trace.records.items) }
     ensures trace { IfOk result (λ trace. IsOfManifest manifest.entry.1.now trace) }
     ensures asked { IfOk result (λ trace. IsOfScenarioText scenario.entry.1.now trace) }
@@ -441,16 +452,18 @@ fn carried_out<'a, 'b, N: Notices + Sync, R: Threads + Wait + Sync>(
     ensures manifest { ¬ (IsUtf8 manifest.entry.1.now) → IsErrAnd result (λ e. status_of e ≡ 2) }
     ensures scenario { ¬ (IsUtf8 scenario.entry.1.now) → IsErrAnd result (λ e. status_of e ≡ 2) }
     ensures done { IfOk result (λ _. IsManifest manifest.entry.1.now) }
-    ensures said { IfOk result (λ its. Say (lines_of scenario.entry.1.now) its.0) }
+    ensures accepted { IfOk result (λ _. IsScenario manifest.entry.1.now scenario.entry.1.now) }
+    ensures said { IfOk result (λ its. Say its.1.version (lines_of scenario.entry.1.now) its.0) }
     ensures spelled { IfOk result (λ its. AllHaveText its.1.version its.1.records.items) }
     ensures trace { IfOk result (λ its. IsOfManifest manifest.entry.1.now its.1) }
-    ensures asked { IfOk result (λ its. IsOfScenario its.0 its.1.records.items) }
+    ensures asked { IfOk result (λ its. IsOfScenario its.1.version its.0 its.1.records.items) }
     ensures fault { IfErr result (λ e. status_of e ≡ 1 → IsScenarioFault manifest.entry.1.now scenario.entry.1.now e) }
 {
     let manifest = text(manifest)?;
     let scenario = text(scenario)?;
     let manifest = manifest::read(alloc, manifest)?;
-    let steps = scenario::read(alloc, scenario)?;
+    let version = Version::of(manifest.config.helpers());
+    let steps = scenario::read(alloc, version, scenario)?;
     let trace = host_scenario::run(rt, alloc, manifest.config, &steps, workers, notices)?;
     Ok((steps, trace))
 }

@@ -18,7 +18,7 @@ mod usage;
 mod verdicts;
 
 pub use auditing::audit_journal;
-pub use carrying::{carry, run};
+pub use carrying::{carry, run, write_trace};
 pub use fault::Fault;
 pub use files::{status, text, unwritten};
 pub use following::{GivenManifest, ManifestUnread};

@@ -171,3 +171,5 @@ module _ (name : Text) (rows : List Row) where
       (found_word (codes "MANIFEST") rows _ found.1.0, found_word (codes "TRACE") rows _ found.1.1, refl, refl)
   found_asked (plans.Decide extent question a) all found =
       moved name (codes "decide") rows file drawing drawing is_counted is_counted is_json is_json (plans.Decide extent question a) found.0 refl refl refl tt
+  found_asked (plans.Try seed trace a b) all found =
+      moved name (codes "try") rows file drawing drawing is_counted is_counted is_json is_json (plans.Try seed trace a b) found.0 refl refl refl tt

@@ -8,3 +8,4 @@ pub mod Spelled
 pub mod WordsOf
 pub mod Unread
 mod Once
+pub mod Seeds

@@ -18,6 +18,13 @@ asked_once : (plan : Plan) (asked : Asked) → ArePlain asked → IsAsked asked 
 asked_once (plans.ExplainCode code) asked plain is = omega arith
 asked_once (plans.Explain a) asked plain is = omega (arith, one_file (string_bytes a))
 asked_once (plans.Decide extent question a) asked plain is = omega (arith, one_file (string_bytes a))
+asked_once (plans.Try seed trace a b) (Explain word) plain is = absurd is
+asked_once (plans.Try seed trace a b) (ExplainFile manifest file) plain is = absurd is
+asked_once (plans.Try seed trace a b) (Show manifest also) plain is = absurd is
+asked_once (plans.Try seed trace a b) (ShowAsJson manifest also) plain is = absurd is
+asked_once (plans.Try seed trace a b) (Summarise manifest also) plain is = absurd is
+asked_once (plans.Try seed trace a b) (SummariseAsJson manifest also) plain is = absurd is
+asked_once (plans.Try seed trace a b) (Draw drawing output manifest also) plain is = absurd is
 asked_once (plans.ExplainFile a b) (ExplainFile manifest file) plain is = omega (arith, none_in_both (string_bytes a) (string_bytes b) manifest file is.0 is.1 plain.0 plain.1)
 asked_once (plans.Show form filter a b) (Show manifest trace) plain is = omega (arith, none_in_both (string_bytes a) (string_bytes b) manifest trace is.1 is.2 plain.0 plain.1)
 asked_once (plans.Show form filter a b) (ShowAsJson manifest trace) plain is = omega (arith, none_in_both (string_bytes a) (string_bytes b) manifest trace is.1 is.2 plain.0 plain.1)

@@ -20,6 +20,7 @@ pub record HasFailure (rows : List Row) (failure : Failure) : Type 0 where
   pub scsi : IsSpelled byte_text (codes "SCSI") rows failure.scsi
   pub sense : IsSpelled sense_text (codes "SENSE") rows failure.sense
   pub retries : IsSpelled number_text (codes "retries") rows failure.retries
+  pub class : IsSpelled number_text (codes "class") rows failure.class
   pub attempts : IsSpelled number_text (codes "attempts") rows failure.attempts
   pub clock : IsSpelled long_number_text (codes "clock") rows failure.clock
 

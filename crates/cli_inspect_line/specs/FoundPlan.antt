@@ -17,8 +17,9 @@ use Rattle.cli_inspect_line.specs.declared.plans.Drawing.TheVariants.{Svg, Perfe
 use Rattle.cli_inspect_line.specs.declared.plans.Form.{Form}
 use Rattle.cli_inspect_line.specs.declared.plans.Form.TheVariants.{Words, Json}
 use Rattle.cli_inspect_line.specs.declared.plans.Plan.{Plan}
-use Rattle.cli_inspect_line.specs.declared.plans.Plan.TheVariants.{ExplainCode, Explain, ExplainFile, Show, Summarise, Draw, Decide}
+use Rattle.cli_inspect_line.specs.declared.plans.Plan.TheVariants.{ExplainCode, Explain, ExplainFile, Show, Summarise, Draw, Decide, Try}
 use Rattle.cli_inspect_line.specs.declared.showing.TheConstants.{LAST_NUMBER, LAST_QUEUE, LAST_READING}
+use Rattle.cli_inspect_line.specs.Trying.{HasSeed, HasTrace, MakesTrial}
 use Rattle.explain_codes.specs.Names.{code_named}
 use Rattle.show_events.specs.declared.filter.Filter.{Filter}
 use Rattle.show_question.specs.declared.Question.{Question}
@@ -114,6 +115,9 @@ HasFoundBehind name rows (Draw drawing manifest trace output) =
     × (AsksSummary rows → ⊥) × AsksDrawing rows drawing (string_bytes output) × HasForm rows Words
 HasFoundBehind name rows (Decide extent question manifest) =
     (name ≡ codes "decide") × (first_of (codes "MANIFEST") rows ≡ Some (string_bytes manifest)) × HasQuestion rows question × HasExtent rows extent
+HasFoundBehind name rows (Try seed trace manifest disks) =
+    (name ≡ codes "try") × (first_of (codes "MANIFEST") rows ≡ Some (string_bytes manifest)) × (first_of (codes "DISKS") rows ≡ Some (string_bytes disks))
+    × HasSeed rows seed × HasTrace rows trace
 
 -- the words asked for something, and the plan is that
 abbrev pub HasFound : Option (Text × List Row) → Plan → Type 0
@@ -142,7 +146,8 @@ MakesQuestion rows = AreFound (codes "MANIFEST" ∷ []) rows × ((question : Que
 abbrev pub Suffices : Text → List Row → Type 0
 Suffices name rows = MatchBool (bytes_eq name (codes "show")) (MakesAccount rows)
     (MatchBool (bytes_eq name (codes "explain")) (AreFound (codes "WORD" ∷ []) rows)
-    (MatchBool (bytes_eq name (codes "decide")) (MakesQuestion rows) ⊥))
+    (MatchBool (bytes_eq name (codes "decide")) (MakesQuestion rows)
+    (MatchBool (bytes_eq name (codes "try")) (MakesTrial rows) ⊥)))
 
 -- what those rows ask for behind that word, and none only where they are not enough for a plan
 abbrev pub PlansBehind : Text → List Row → Option Plan → Type 0

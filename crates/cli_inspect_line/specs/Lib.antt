@@ -3,3 +3,4 @@ pub mod Files
 pub mod FoundPlan
 pub mod InspectLines
 pub mod ReportedWords
+pub mod Trying

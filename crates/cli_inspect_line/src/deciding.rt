@@ -73,6 +73,7 @@ fn failure_given(decide: &ArgMatches) -> Option<Failure>
     let scsi = byte_given(decide)?;
     let sense = sense_given(decide)?;
     let retries = number_given(decide, "retries")?;
+    let class = number_given(decide, "class")?;
     let attempts = number_given(decide, "attempts")?;
     let clock = clock_given(decide)?;
     Some(Failure {
@@ -81,6 +82,7 @@ fn failure_given(decide: &ArgMatches) -> Option<Failure>
         scsi,
         sense,
         retries,
+        class,
         attempts,
         clock,
     })
@@ -234,6 +236,9 @@ fn first_misspelt<'a>(decide: &ArgMatches<'a>) -> Misspelt<'a> {
 fn misspelt_option<'a>(decide: &ArgMatches<'a>) -> Misspelt<'a> {
     if number_given(decide, "retries").is_none() {
         return fault_at(decide, "retries", "--retries", NUMBER);
+    }
+    if number_given(decide, "class").is_none() {
+        return fault_at(decide, "class", "--class", NUMBER);
     }
     if number_given(decide, "attempts").is_none() {
         return fault_at(decide, "attempts", "--attempts", NUMBER);

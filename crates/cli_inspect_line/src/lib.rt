@@ -7,6 +7,7 @@ mod deciding;
 mod plans;
 mod reported;
 mod showing;
+mod trying;
 mod words;
 
 pub use plans::{Drawing, Extent, Form, Plan};

@@ -2,7 +2,7 @@
 // asked of codes, of traces and of policies, and on `cli_line` for what stands for standard input.
 
 ghost use Rattle.std.specs.Prelude.{◌≡◌, ◌<◌, ◌≤◌, [], Some, None, MatchOption, length, slice_index_or};
-ghost use Rattle.cli_inspect_line.specs.Files.{input_paths, output_path, stdin_reads};
+ghost use Rattle.cli_inspect_line.specs.Files.{input_paths, kept_path, output_path, seed_of, stdin_reads};
 
 use cli_line::reads_of;
 use explain_codes::Code;
@@ -53,6 +53,9 @@ pub enum Plan {
     Draw(Drawing, String, String, String),
     /// Says what a queue's policy does with a failed command: of what that is asked, what is asked, the manifest.
     Decide(Extent, Question, String),
+    /// Tries the policies of a manifest on devices: with that seed, or with the file's own; the file that gets the trace, if one does; the
+    /// manifest, and the devices.
+    Try(Option<u64>, Option<String>, String, String),
 }
 
 impl Plan {
@@ -63,7 +66,11 @@ impl Plan {
         match self {
             Plan::ExplainCode(_) => 0,
             Plan::Explain(_) | Plan::Decide(..) => 1,
-            Plan::ExplainFile(..) | Plan::Show(..) | Plan::Summarise(..) | Plan::Draw(..) => 2,
+            Plan::ExplainFile(..)
+            | Plan::Show(..)
+            | Plan::Summarise(..)
+            | Plan::Draw(..)
+            | Plan::Try(..) => 2,
         }
     }
 
@@ -79,14 +86,16 @@ impl Plan {
                 | Plan::Show(_, _, first, _)
                 | Plan::Summarise(_, first, _)
                 | Plan::Draw(_, first, _, _)
-                | Plan::Decide(_, _, first),
+                | Plan::Decide(_, _, first)
+                | Plan::Try(_, _, first, _),
                 0,
             ) => { first.as_str() }
             (
                 Plan::ExplainFile(_, second)
                 | Plan::Show(_, _, _, second)
                 | Plan::Summarise(_, _, second)
-                | Plan::Draw(_, _, second, _),
+                | Plan::Draw(_, _, second, _)
+                | Plan::Try(_, _, _, second),
                 1,
             ) => { second.as_str() }
             _ => "",
@@ -104,7 +113,28 @@ impl Plan {
             | Plan::ExplainFile(..)
             | Plan::Show(..)
             | Plan::Summarise(..)
-            | Plan::Decide(..) => None,
+            | Plan::Decide(..)
+            | Plan::Try(..) => None,
+        }
+    }
+
+    /// The path of the file that gets a trace beside what is printed, if one does.
+    pub fn kept(&self) -> Option<&str>
+        ensures { MatchOption result (kept_path self.now ≡ None) (λ path. kept_path self.now ≡ Some path.now) }
+    {
+        match self {
+            Plan::Try(_, Some(trace), _, _) => Some(trace.as_str()),
+            _ => None,
+        }
+    }
+
+    /// The seed that is given, if one is.
+    pub fn seed(&self) -> Option<u64>
+        ensures { result ≡ seed_of self.now }
+    {
+        match self {
+            Plan::Try(seed, _, _, _) => *seed,
+            _ => None,
         }
     }
 
@@ -119,6 +149,7 @@ impl Plan {
             Plan::Show(_, _, manifest, trace) => reads_of(manifest) + reads_of(trace),
             Plan::Summarise(_, manifest, trace) => reads_of(manifest) + reads_of(trace),
             Plan::Draw(_, manifest, trace, _) => reads_of(manifest) + reads_of(trace),
+            Plan::Try(_, _, manifest, disks) => reads_of(manifest) + reads_of(disks),
         }
     }
 }

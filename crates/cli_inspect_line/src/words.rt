@@ -1,5 +1,5 @@
 // The words after the program's name, read as a plan. It relies on `cli_line` for what `clap` makes of them, on `showing` for
-// those after `show`, and on `deciding` for those after `decide`.
+// those after `show`, on `deciding` for those after `decide`, and on `trying` for those after `try`.
 
 ghost use Rattle.std.specs.Prelude.{◌≡◌, ◌≤◌, [], IfErr, IfOk, codes, map, string_bytes};
 ghost use Rattle.clap.specs.Words.{fault_of, found_of, kind_of, rows_of, subcommand_of, subcommand_rows_of};
@@ -13,6 +13,7 @@ ghost use Rattle.cli_inspect_line.specs.InspectLines.{ArePlain, Asked, IsAsked, 
 use crate::deciding::{decide_fault, decide_plan};
 use crate::plans::Plan;
 use crate::showing::{show_fault, show_plan};
+use crate::trying::{try_fault, try_plan};
 use clap::error::ErrorKind;
 use clap::{ArgMatches, Error};
 use cli_line::{UsageFault, camr_command, matches, read_twice, spelled_out};
@@ -52,6 +53,7 @@ fn read_once(alloc: Global, plan: Plan) -> Result<Plan, UsageFault>
 fn word_of(plan: &Plan) -> &'static str {
     match plan {
         Plan::ExplainFile(..) => "explain",
+        Plan::Try(..) => "try",
         _ => "show",
     }
 }
@@ -91,6 +93,7 @@ fn plan_behind(alloc: Global, name: &str, found: &ArgMatches) -> Result<Option<P
         "explain" => explain_plan(alloc, found),
         "show" => show_plan(alloc, found),
         "decide" => decide_plan(alloc, found),
+        "try" => try_plan(alloc, found),
         _ => Ok(None),
     }
 }
@@ -140,6 +143,7 @@ fn no_plan(alloc: Global, matches: &ArgMatches) -> Error
     let fault = match matches.subcommand() {
         Some(("show", show)) => show_fault(alloc, show),
         Some(("decide", decide)) => decide_fault(alloc, decide),
+        Some(("try", tried)) => try_fault(alloc, tried),
         Some((name, _)) => other_program(alloc, name),
         None => other_program(alloc, ""),
     };

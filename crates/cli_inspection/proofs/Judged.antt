@@ -48,7 +48,7 @@ told_fault manifest file other told begins (inl same) is one =
     inr (begins, inl (subst (λ (f : Fault). IsScenarioFault manifest file f) (sym same) (is (sym (ap status_of same) ∙ one))))
 told_fault manifest file other told begins (inr line) is one =
     let at = subst (λ (f : Fault). IsScenarioFault manifest file f) line.1.1 (is (ap status_of line.1.1)) in
-    inr (begins, inr (line.0, at.0, (line.1.0, at.1)))
+    inr (begins, inr (line.0, (at.0, at.1, at.2), (line.1.0, at)))
 
 -- ---- what a written report tells, by the status
 

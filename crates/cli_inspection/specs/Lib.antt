@@ -1,1 +1,3 @@
+pub mod Configured
 pub mod Shown
+pub mod Trials

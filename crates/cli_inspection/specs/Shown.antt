@@ -8,16 +8,18 @@ use Rattle.cli_commands.specs.Told.{IsAcceptedTrace, IsFaultyManifest, IsManifes
 use Rattle.cli_commands.specs.declared.fault.Fault.{Fault}
 use Rattle.cli_commands.specs.declared.fault.Fault.TheVariants as faults
 use Rattle.trace.specs.declared.fault.TraceFault.TheVariants.{Header}
-use Rattle.manifest.specs.Meaning.{Means}
 use Rattle.world.specs.World.{Setup}
 use Rattle.show_question.specs.declared.Question.{Question}
 use Rattle.host_decision.specs.declared.undecided.Undecided.{Undecided}
 use Rattle.show_decision.specs.Table.{IsTabled}
 use Rattle.show_decision.specs.Told.{IsAnswered}
+use Rattle.cli_inspection.specs.Configured.{IsConfigured}
+use Rattle.cli_inspection.specs.Trials.{IsTriedOut}
+use Rattle.cli_inspect_line.specs.Files.{kept_path}
 use Rattle.cli_inspect_line.specs.declared.plans.Extent.{Extent}
 use Rattle.cli_inspect_line.specs.declared.plans.Extent.TheVariants.{One, AllSense}
 use Rattle.cli_inspect_line.specs.declared.plans.Plan.{Plan}
-use Rattle.cli_inspect_line.specs.declared.plans.Plan.TheVariants.{ExplainCode, Explain, ExplainFile, Show, Summarise, Draw, Decide}
+use Rattle.cli_inspect_line.specs.declared.plans.Plan.TheVariants.{ExplainCode, Explain, ExplainFile, Show, Summarise, Draw, Decide, Try}
 
 -- a plan's first file is what the plan asks for; for a code nothing is read
 abbrev pub IsAsAsked : Plan → List ℕ → Type 0
@@ -28,6 +30,7 @@ IsAsAsked (Show form filter manifest trace) bytes = IsManifest bytes
 IsAsAsked (Summarise form manifest trace) bytes = IsManifest bytes
 IsAsAsked (Draw drawing manifest trace output) bytes = IsManifest bytes
 IsAsAsked (Decide extent question manifest) bytes = IsManifest bytes
+IsAsAsked (Try seed trace manifest disks) bytes = IsManifest bytes
 
 -- it has a fault; where a trace is read too, the fault may be there
 abbrev pub IsFaulty : Plan → List ℕ → Type 0
@@ -38,6 +41,15 @@ IsFaulty (Show form filter manifest trace) bytes = Unit {0}
 IsFaulty (Summarise form manifest trace) bytes = Unit {0}
 IsFaulty (Draw drawing manifest trace output) bytes = Unit {0}
 IsFaulty (Decide extent question manifest) bytes = IsFaultyManifest bytes
+IsFaulty (Try seed trace manifest disks) bytes = Unit {0}
+
+-- the plan may have put something out although its status is 1: it explains why, or tells what a trial leaves
+abbrev pub may_put : Plan → Bool
+may_put (ExplainCode code) = true
+may_put (Explain manifest) = true
+may_put (ExplainFile manifest file) = true
+may_put (Try seed trace manifest disks) = true
+may_put plan = false
 
 -- the plan explains, so that it is on the output that it says why a file is refused
 abbrev pub explains : Plan → Bool
@@ -51,10 +63,6 @@ abbrev pub IsOutput : Plan → Option (List ℕ) → Option (List ℕ) → Type 
 IsOutput (ExplainFile manifest file) old new = PutsOut (λ output. output ≡ codes "accepted" ++ 10 ∷ []) old new
 IsOutput plan old new = Unit {0}
 
--- the bytes are a manifest of that configuration
-abbrev pub IsConfigured : List ℕ → Setup → Type 0
-IsConfigured bytes config = (programs : _) × Means bytes config programs
-
 -- what was printed of a question: what engines of the configuration decide of the one failure, or of all sense data
 abbrev pub IsPrinted : Extent → Setup → Question → (old new : Option (List ℕ)) → Option Undecided → Type 0
 IsPrinted One config question old new undecided = IsAnswered config question old new undecided
@@ -67,6 +75,12 @@ IsDecided extent question bytes old new = (config : Setup) × IsConfigured bytes
 abbrev pub IsPlanDecided : Plan → List ℕ → Option (List ℕ) → Option (List ℕ) → Type 0
 IsPlanDecided (Decide extent question manifest) bytes old new = IsDecided extent question bytes old new
 IsPlanDecided plan bytes old new = Unit {0}
+
+-- what was tried of a plan that tries the policies of a manifest, whose bytes these are, and what was kept of it
+abbrev pub IsPlanTried : Plan → List ℕ → (out-old out-new kept-old kept-new : Option (List ℕ)) → Type 0
+IsPlanTried (Try seed trace manifest disks) bytes out-old out-new kept-old kept-new =
+    IsTriedOut (kept_path (Try seed trace manifest disks)) bytes out-old out-new kept-old kept-new
+IsPlanTried plan bytes out-old out-new kept-old kept-new = Unit {0}
 
 -- whether nothing is read
 abbrev pub is_of_code : Plan → Bool
@@ -105,7 +119,7 @@ BeginsTrace text = StartsWith text (codes "camr-trace ")
 abbrev pub IsFileFault : List ℕ → List ℕ → Fault → Type 0
 IsFileFault manifest file fault =
     (BeginsTrace file × IsTraceFault manifest file fault)
-    ⊎ ((BeginsTrace file → ⊥) × (IsScenarioFault manifest file fault ⊎ ((fault ≡ faults.Trace Header) × IsManifest manifest × IsFaultyScenario file)))
+    ⊎ ((BeginsTrace file → ⊥) × (IsScenarioFault manifest file fault ⊎ ((fault ≡ faults.Trace Header) × IsManifest manifest × IsFaultyScenario manifest file)))
 
 -- a text went out that begins with the line of a fault of this kind
 abbrev pub PutsFault : (Fault → Type 0) → Option (List ℕ) → Option (List ℕ) → Type 0

@@ -5,12 +5,13 @@
 ghost use Rattle.std.specs.Prelude.{◌≡◌, ◌≢◌, ◌≤◌, Contains, Some, IsUtf8, false, length, slice_get, true};
 ghost use Rattle.std.specs.Io.KnownBytes.{Keeps};
 ghost use Rattle.cli_inspect_line.specs.Files.{input_paths};
-ghost use Rattle.cli_inspection.specs.Shown.{AreReported, IsAccepted, IsAsAsked, IsFaulty, IsOutput, IsPlanDecided, IsRejected, IsReported, explains, is_of_code};
+ghost use Rattle.cli_inspection.specs.Shown.{AreReported, IsAccepted, IsAsAsked, IsFaulty, IsOutput, IsPlanDecided, IsPlanTried, IsRejected, IsReported, explains, is_of_code, may_put};
 
 use crate::deciding::print_decided;
 use crate::explaining::print_explanation;
 use crate::judging::print_judged;
 use crate::tracing::{Told, print_traced};
+use crate::trying::print_tried;
 use cli_commands::status;
 use cli_inspect_line::Plan;
 use std::alloc::Global;
@@ -22,16 +23,18 @@ use world_calls::Notices;
 /// Carries a plan out over the bytes of its input files, in the order of the line, and answers the status: 0 done; 1 refused, or
 /// explained why; 2 for a file that is to be text and is not UTF-8, for a question that no engine of its manifest can take, for want of
 /// memory, or if a writer fails. What is to go out is
-/// written on `out`, also why a file is refused that is to be explained. Of any other fault one line is written on `err`, and a second
+/// written on `out`, also why a file is refused that is to be explained; the trace of a trial goes on `kept`, if the plan keeps one. A trial
+/// in which CCBs are left ends with status 1 too, and what it shows is out. Of any other fault one line is written on `err`, and a second
 /// one of an open trace that does not follow; nothing goes out. If `out` fails for want of memory that line is written too; some may be
 /// out then. How far a replay or a run is, is reported to `notices`.
-pub fn carry<N: Notices + Sync, R: Threads + Wait + Sync, W: Write, E: Write>(
+pub fn carry<N: Notices + Sync, R: Threads + Wait + Sync, W: Write, K: Write, E: Write>(
     rt: &R,
     alloc: Global,
     plan: &Plan,
     inputs: &[Vec<u8>],
     notices: &N,
     out: &mut W,
+    kept: &mut K,
     err: &mut E,
 ) -> u8
     requires { length inputs.now ≡ length (input_paths plan.now) }
@@ -45,6 +48,8 @@ pub fn carry<N: Notices + Sync, R: Threads + Wait + Sync, W: Write, E: Write>(
     ensures accepted { result ≡ 0 → (first second : _) → slice_get inputs.now 0 ≡ Some first → slice_get inputs.now 1 ≡ Some second → IsAccepted plan.now first.items second.items }
     // What is asked of a policy is answered by what a policy of the first file decides.
     ensures decided { result ≡ 0 → (input : _) → slice_get inputs.now 0 ≡ Some input → IsPlanDecided plan.now input.items (W.contents out.old) (W.contents out.new) }
+    // What is tried is a manifest, and what is kept of the trial is its trace.
+    ensures tried { result ≡ 0 → (input : _) → slice_get inputs.now 0 ≡ Some input → IsPlanTried plan.now input.items (W.contents out.old) (W.contents out.new) (K.contents kept.old) (K.contents kept.new) }
     // Refused only if it has a fault, or the file after it has one; a manifest that is to be explained is refused too.
     ensures refused { result ≡ 1 → (input : _) → slice_get inputs.now 0 ≡ Some input → IsFaulty plan.now input.items }
     // Of two files, refused only if one has a fault, or a line of the trace does not follow.
@@ -57,7 +62,7 @@ pub fn carry<N: Notices + Sync, R: Threads + Wait + Sync, W: Write, E: Write>(
     ensures reported { result ≡ 1 → (first second : _) → slice_get inputs.now 0 ≡ Some first → slice_get inputs.now 1 ≡ Some second → AreReported plan.now first.items second.items (W.contents out.old) (W.contents out.new) }
     // Why a file is refused that is to be explained is written on `out` alone, and that of any other on `err` alone.
     ensures explained { result ≡ 1 → explains plan.now ≡ true → Keeps (E.contents err.old) (E.contents err.new) }
-    ensures nothing { result ≡ 1 → explains plan.now ≡ false → Keeps (W.contents out.old) (W.contents out.new) }
+    ensures nothing { result ≡ 1 → may_put plan.now ≡ false → Keeps (W.contents out.old) (W.contents out.new) }
 {
     match plan {
         Plan::ExplainCode(code) => status(explain_codes::print(alloc, *code, out), err),
@@ -82,5 +87,6 @@ pub fn carry<N: Notices + Sync, R: Threads + Wait + Sync, W: Write, E: Write>(
             let manifest = (manifest.as_str(), inputs[0].as_slice());
             print_decided(alloc, *extent, question, manifest, out, err)
         }
+        Plan::Try(..) => print_tried(alloc, plan, inputs, out, kept, err),
     }
 }

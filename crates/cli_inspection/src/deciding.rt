@@ -5,7 +5,8 @@ ghost use Rattle.std.specs.Prelude.{◌≡◌, ◌≢◌, ◌≤◌, IfErr, IfOk
 ghost use Rattle.std.specs.Io.KnownBytes.{Keeps};
 ghost use Rattle.cli_commands.specs.Faults.{status_of};
 ghost use Rattle.cli_commands.specs.Told.{IsFaultyManifest, IsManifest};
-ghost use Rattle.cli_inspection.specs.Shown.{IsConfigured, IsDecided, IsPrinted};
+ghost use Rattle.cli_inspection.specs.Configured.{IsConfigured};
+ghost use Rattle.cli_inspection.specs.Shown.{IsDecided, IsPrinted};
 
 use crate::tracing::named;
 use base::OrMemory;

@@ -26,7 +26,7 @@ use std::io::Write;
 use std::sync::Wait;
 use std::thread::Threads;
 use trace::TraceFault;
-use world_calls::{Notices, Silent};
+use world_calls::{Notices, Silent, Version};
 
 /// Prints that a scenario or a trace is accepted over a manifest, or why it is refused, and answers the status. The plan has the two
 /// files, whose bytes are the inputs.
@@ -219,7 +219,10 @@ fn put_report<R: Threads + Wait + Sync>(
     let path = file.0;
     let text = str::from_utf8(file.1).unwrap_or("");
     match fault {
-        Fault::Line(number) => put_faulty_lines(alloc, path, text, *number, page),
+        Fault::Line(number) => {
+            let version = version_of(alloc, manifest)?;
+            put_faulty_lines(alloc, version, path, text, *number, page)
+        }
         Fault::NotHeld(number) => put_released(rt, alloc, manifest, (path, text), *number, page),
         Fault::Trace(fault) => put_formless(alloc, manifest, (path, text), *fault, page),
         Fault::Replay(fault) => {
@@ -260,6 +263,12 @@ fn put_formless(
     }
     let manifest = config_of(alloc, manifest)?;
     put_unended(alloc, trace.0, trace.1, &manifest.config, page)
+}
+
+// The version of the histories of a manifest's engines, which was accepted before.
+fn version_of(alloc: Global, manifest: (&str, &[u8])) -> Result<Version, AllocError> {
+    let manifest = config_of(alloc, manifest)?;
+    Ok(Version::of(manifest.config.helpers()))
 }
 
 // A manifest, a path and its bytes, which was accepted before: only memory may be refused for it.

@@ -9,6 +9,7 @@ use Rattle.clap.specs.Kinds.{Kinds, or_else}
 use Rattle.cli_line.specs.FileLines.{ArePlain, Asked, IsAsked, flagged, line_of, live_words}
 use Rattle.cli_line.specs.FileLines.Asked.{Asm, Dis, Check, Migrate, Live, Reopen, Journal, Audit, Replay}
 use Rattle.cli_line.specs.FoundPlan.{HasFound, MakesNoRun, PlansFound, Suffices}
+use Rattle.cli_line.specs.declared.plans.LaterVersion.TheVariants.{Two, Three}
 use Rattle.cli_line.specs.RunCommand.{camr_command}
 use Rattle.cli_line.specs.RunLine.{IsPlain, spelled_out}
 use Rattle.cli_line.proofs.AskedRows.{MeetsAsked, asked_in, found_asked}
@@ -24,7 +25,7 @@ abbrev word_of : Asked → Text
 word_of (Asm text program) = codes "asm"
 word_of (Dis program) = codes "dis"
 word_of (Check manifest) = codes "check"
-word_of (Migrate manifest migrated) = codes "migrate"
+word_of (Migrate to manifest migrated) = codes "migrate"
 word_of (Live is_clocked is_stepped is_told manifest) = codes "live"
 word_of (Reopen is_synced is_clocked is_stepped is_told folder) = codes "live"
 word_of (Journal is_synced is_clocked is_stepped is_told folder manifest) = codes "live"
@@ -39,7 +40,7 @@ unfolding walked
 is_word (Asm text program) = record { stops = refl; faultless = refl; found = refl; named = refl }
 is_word (Dis program) = record { stops = refl; faultless = refl; found = refl; named = refl }
 is_word (Check manifest) = record { stops = refl; faultless = refl; found = refl; named = refl }
-is_word (Migrate manifest migrated) = record { stops = refl; faultless = refl; found = refl; named = refl }
+is_word (Migrate to manifest migrated) = record { stops = refl; faultless = refl; found = refl; named = refl }
 is_word (Live is_clocked is_stepped is_told manifest) = record { stops = refl; faultless = refl; found = refl; named = refl }
 is_word (Reopen is_synced is_clocked is_stepped is_told folder) = record { stops = refl; faultless = refl; found = refl; named = refl }
 is_word (Journal is_synced is_clocked is_stepped is_told folder manifest) = record { stops = refl; faultless = refl; found = refl; named = refl }
@@ -154,6 +155,29 @@ trace_journal folder rest g end plain more =
     (walked_value live_shape.rules asks_journal (codes "journal") 1 folder plain)
     (turn_value live_shape asks_journal (codes "journal") 1 folder plain) more)
 
+-- ---- `--to` and its version
+
+abbrev migrate_shape : Shape
+migrate_shape = shape_of (codes "migrate")
+
+abbrev asks_to : Held
+asks_to = record (settled migrate_shape.rules nothing_held) { pending = Some (codes "to", []) }
+
+-- what is held after both
+abbrev to_held : Held
+to_held = (option_word (arg_by_id migrate_shape.rules (codes "to")) (codes "to") (codes "3") asks_to).0
+
+to_walked : walked migrate_shape.rules [] start (codes "--to") ≡ walk_at asks_to (option (codes "to")) 1
+unfolding walked
+to_walked = refl
+
+trace_to : (rest : List Text) (g : Kinds) (end : Walk) → Trace migrate_shape (walk_at to_held idle 1) rest g end → Trace migrate_shape start (codes "--to" ∷ codes "3" ∷ rest) (or_else [] g) end
+trace_to rest g end more =
+    trace_more start (walk_at asks_to (option (codes "to")) 1) end (codes "--to") (codes "3" ∷ rest) [] g to_walked refl
+    (trace_more (walk_at asks_to (option (codes "to")) 1) (walk_at to_held idle 1) end (codes "3") rest [] g
+    (walked_value migrate_shape.rules asks_to (codes "to") 1 (codes "3") refl)
+    (turn_value migrate_shape asks_to (codes "to") 1 (codes "3") refl) more)
+
 -- ---- the lines behind `live`
 
 -- the words after the folder
@@ -230,9 +254,12 @@ asked_clear (Dis program) plain = clear (Dis program) _ _ _
 asked_clear (Check manifest) plain = clear (Check manifest) _ _ _
     (trace_last nothing_held 1 manifest plain)
     refl refl ((manifest, refl), tt) refl (λ i. codes "check" ∷ plain_out manifest plain i ∷ [])
-asked_clear (Migrate manifest migrated) plain = clear (Migrate manifest migrated) _ _ _
+asked_clear (Migrate Two manifest migrated) plain = clear (Migrate Two manifest migrated) _ _ _
     (trace_both nothing_held manifest migrated refl plain.0 plain.1)
-    refl refl ((manifest, refl), ((migrated, refl), tt)) refl (λ i. codes "migrate" ∷ plain_out manifest plain.0 i ∷ plain_out migrated plain.1 i ∷ [])
+    refl refl (((manifest, refl), ((migrated, refl), tt)), (Two, refl)) refl (λ i. codes "migrate" ∷ plain_out manifest plain.0 i ∷ plain_out migrated plain.1 i ∷ [])
+asked_clear (Migrate Three manifest migrated) plain = clear (Migrate Three manifest migrated) (codes "--to" ∷ codes "3" ∷ manifest ∷ migrated ∷ []) _ _
+    (trace_to (manifest ∷ migrated ∷ []) _ _ (trace_both to_held manifest migrated refl plain.0 plain.1))
+    refl refl (((manifest, refl), ((migrated, refl), tt)), (Three, refl)) refl (λ i. codes "migrate" ∷ codes "--to" ∷ codes "3" ∷ plain_out manifest plain.0 i ∷ plain_out migrated plain.1 i ∷ [])
 asked_clear (Live true true true manifest) plain = live_clear true true true manifest plain refl refl (not_given refl, ((manifest, refl), tt))
 asked_clear (Live true true false manifest) plain = live_clear true true false manifest plain refl refl (not_given refl, ((manifest, refl), tt))
 asked_clear (Live true false true manifest) plain = live_clear true false true manifest plain refl refl (not_given refl, ((manifest, refl), tt))

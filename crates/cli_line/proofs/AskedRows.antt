@@ -7,6 +7,7 @@ use Rattle.clap.specs.Words.{Row, Text, first_of}
 use Rattle.cli_line.specs.FileLines.{Asked, IsAsked}
 use Rattle.cli_line.specs.FileLines.Asked.{Asm, Dis, Check, Migrate, Live, Reopen, Journal, Audit, Replay}
 use Rattle.cli_line.specs.FoundPlan.{HasFoundBehind}
+use Rattle.cli_line.specs.declared.plans.LaterVersion.TheVariants.{Two, Three}
 use Rattle.cli_line.specs.declared.plans.Manner.{Manner}
 use Rattle.cli_line.specs.declared.plans.Plan.{Plan}
 use Rattle.cli_line.specs.declared.plans.Plan.TheVariants as plans
@@ -28,13 +29,21 @@ live_in rows None (Some folder) None =
 live_in rows None (Some folder) (Some manifest) =
     Some (Journal (is_told (first_of (codes "sync") rows)) (is_told (first_of (codes "clock") rows)) (is_told (first_of (codes "step") rows)) (is_told (first_of (codes "ack") rows)) folder manifest)
 
+-- what is asked for behind `migrate`, by the word of the version
+abbrev pub migrated_in : Option Text → (manifest migrated : Text) → Option Asked
+migrated_in None manifest migrated = None
+migrated_in (Some word) manifest migrated =
+    if bytes_eq word (codes "2") then Some (Migrate Two manifest migrated)
+    else (if bytes_eq word (codes "3") then Some (Migrate Three manifest migrated)
+    else None)
+
 -- what is asked for
 abbrev pub asked_in : Text → List Row → Option Asked
 asked_in name rows =
     if bytes_eq name (codes "asm") then Some (Asm (word_at (codes "IN") rows) (word_at (codes "OUT") rows))
     else (if bytes_eq name (codes "dis") then Some (Dis (word_at (codes "FILE") rows))
     else (if bytes_eq name (codes "check") then Some (Check (word_at (codes "MANIFEST") rows))
-    else (if bytes_eq name (codes "migrate") then Some (Migrate (word_at (codes "IN") rows) (word_at (codes "OUT") rows))
+    else (if bytes_eq name (codes "migrate") then migrated_in (first_of (codes "to") rows) (word_at (codes "IN") rows) (word_at (codes "OUT") rows)
     else (if bytes_eq name (codes "live")
     then live_in rows (first_of (codes "metrics") rows) (first_of (codes "journal") rows) (first_of (codes "MANIFEST") rows)
     else (if bytes_eq name (codes "audit") then Some (Audit (word_at (codes "DIR") rows))
@@ -85,7 +94,12 @@ module _ (name : Text) (rows : List Row) where
   found_asked (plans.Run workers watch a b) found = by_word (codes "run") (plans.Run workers watch a b) found.0 tt
   found_asked (plans.Strict workers watch a b) found = by_word (codes "run") (plans.Strict workers watch a b) found.0 tt
   found_asked (plans.Asm a b) found = by_word (codes "asm") (plans.Asm a b) found.0 (found_word (codes "IN") rows _ found.1, found_word (codes "OUT") rows _ found.2)
-  found_asked (plans.Migrate a b) found = by_word (codes "migrate") (plans.Migrate a b) found.0 (found_word (codes "IN") rows _ found.1, found_word (codes "OUT") rows _ found.2)
+  found_asked (plans.Migrate Two a b) found = by_word (codes "migrate") (plans.Migrate Two a b) found.0
+      (subst (λ (o : Option Text). MeetsAsked (migrated_in o (word_at (codes "IN") rows) (word_at (codes "OUT") rows)) (plans.Migrate Two a b)) (sym found.1)
+      (refl, found_word (codes "IN") rows _ found.2, found_word (codes "OUT") rows _ found.3))
+  found_asked (plans.Migrate Three a b) found = by_word (codes "migrate") (plans.Migrate Three a b) found.0
+      (subst (λ (o : Option Text). MeetsAsked (migrated_in o (word_at (codes "IN") rows) (word_at (codes "OUT") rows)) (plans.Migrate Three a b)) (sym found.1)
+      (refl, found_word (codes "IN") rows _ found.2, found_word (codes "OUT") rows _ found.3))
   found_asked (plans.Dis a) found = by_word (codes "dis") (plans.Dis a) found.0 (found_word (codes "FILE") rows _ found.1)
   found_asked (plans.Check a) found = by_word (codes "check") (plans.Check a) found.0 (found_word (codes "MANIFEST") rows _ found.1)
   found_asked (plans.Live manner a) found = by_word (codes "live") (plans.Live manner a) found.0

@@ -5,8 +5,9 @@ use Rattle.std.specs.Borrow.{Bor}
 use Rattle.clap.specs.Words.{Row, Text, first_of, first_value, rows_of}
 use Rattle.clap.specs.declared.parser.matches.Found.{Found}
 use Rattle.clap.proofs.WalkLemmas.{first_value-rows}
-use Rattle.cli_line.specs.FoundPlan.{IsGiven, ReadsWatch, ReadsWorkers}
-use Rattle.cli_line.specs.RunLine.{IsLawfulNumber, Spells, SpellsNoLawfulNumber, watch_word}
+use Rattle.cli_line.specs.FoundPlan.{IsGiven, ReadsVersion, ReadsWatch, ReadsWorkers}
+use Rattle.cli_line.specs.RunLine.{IsLawfulNumber, Spells, SpellsNoLawfulNumber, version_word, watch_word}
+use Rattle.cli_line.specs.declared.plans.LaterVersion.{LaterVersion}
 use Rattle.cli_line.specs.declared.plans.Watch.{Watch}
 
 -- the text that `get_str` gives
@@ -39,6 +40,12 @@ pub watch_read : (rows : List Row) (word : Text) (o : Option Watch) → first_of
     → MatchOption o ((watch : Watch) → word ≡ watch_word watch → ⊥) (λ watch. word ≡ watch_word watch) → ReadsWatch rows o
 watch_read rows word (Some watch) is read = is ∙ ap Some read
 watch_read rows word None is none = λ watch found. none watch (ap (λ (x : Option Text). unwrap_or x word) (sym is ∙ found))
+
+-- what is read in the word that was given is the version
+pub version_read : (rows : List Row) (word : Text) (o : Option LaterVersion) → first_of (codes "to") rows ≡ Some word
+    → MatchOption o ((to : LaterVersion) → word ≡ version_word to → ⊥) (λ to. word ≡ version_word to) → ReadsVersion rows o
+version_read rows word (Some to) is read = is ∙ ap Some read
+version_read rows word None is none = λ to found. none to (ap (λ (x : Option Text). unwrap_or x word) (sym is ∙ found))
 
 -- nothing that `get_str` gives
 pub nothing_given : (f : Found) (id : Text) (o : Option (Bor (List ℕ))) → option_map (λ s. s.now) o ≡ first_value f id → o ≡ None → first_of id (rows_of f) ≡ None

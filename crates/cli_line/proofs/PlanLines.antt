@@ -30,7 +30,7 @@ module _ (words : List Text) (number manifest scenario : Text) (line : RunLine w
       run_found (Run workers watch a b) rows loose found = found.2
       run_found (Strict workers watch a b) rows loose found = absurd (not_given loose found.1)
       run_found (Asm text program) rows loose found = absurd (apart (codes "run") (codes "asm") refl found.0)
-      run_found (Migrate manifest migrated) rows loose found = absurd (apart (codes "run") (codes "migrate") refl found.0)
+      run_found (Migrate to manifest migrated) rows loose found = absurd (apart (codes "run") (codes "migrate") refl found.0)
       run_found (Dis program) rows loose found = absurd (apart (codes "run") (codes "dis") refl found.0)
       run_found (Check path) rows loose found = absurd (apart (codes "run") (codes "check") refl found.0)
       run_found (Live manner manifest) rows loose found = absurd (apart (codes "run") (codes "live") refl found.0)

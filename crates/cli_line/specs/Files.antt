@@ -12,7 +12,7 @@ given_paths (Some path) = string_bytes path ∷ []
 -- the paths of those that are read, in the order of the line; of a journal, those outside its folder
 abbrev pub input_paths : Plan → List (List ℕ)
 input_paths (Asm text program) = string_bytes text ∷ []
-input_paths (Migrate manifest migrated) = string_bytes manifest ∷ []
+input_paths (Migrate to manifest migrated) = string_bytes manifest ∷ []
 input_paths (Dis program) = string_bytes program ∷ []
 input_paths (Check manifest) = string_bytes manifest ∷ []
 input_paths (Run workers watch manifest scenario) = string_bytes manifest ∷ string_bytes scenario ∷ []
@@ -25,7 +25,7 @@ input_paths (Replay manifest trace) = string_bytes manifest ∷ string_bytes tra
 -- they are text, but for a program's bytes
 abbrev pub reads_text : Plan → Bool
 reads_text (Asm text program) = true
-reads_text (Migrate manifest migrated) = true
+reads_text (Migrate to manifest migrated) = true
 reads_text (Dis program) = false
 reads_text (Check manifest) = true
 reads_text (Run workers watch manifest scenario) = true
@@ -38,7 +38,7 @@ reads_text (Replay manifest trace) = true
 -- the path of the one that is written, if there is one
 abbrev pub output_path : Plan → Option (List ℕ)
 output_path (Asm text program) = Some (string_bytes program)
-output_path (Migrate manifest migrated) = Some (string_bytes migrated)
+output_path (Migrate to manifest migrated) = Some (string_bytes migrated)
 output_path (Dis program) = None
 output_path (Check manifest) = None
 output_path (Run workers watch manifest scenario) = None

@@ -6,8 +6,9 @@ use Rattle.clap.specs.declared.error.Error.{Error}
 use Rattle.cli_line.specs.Files.{stdin_reads}
 use Rattle.cli_line.specs.RunCommand.{camr_command}
 use Rattle.cli_line.specs.UsageFault.{IsValueFault}
-use Rattle.cli_line.specs.RunLine.{HasLawfulNumber, IsLawfulNumber, IsRun, IsStrictRun, Spells, watch_word}
+use Rattle.cli_line.specs.RunLine.{HasLawfulNumber, IsLawfulNumber, IsRun, IsStrictRun, Spells, version_word, watch_word}
 use Rattle.cli_line.specs.RunLine.{SpellsNoLawfulNumber}
+use Rattle.cli_line.specs.declared.plans.LaterVersion.{LaterVersion}
 use Rattle.cli_line.specs.declared.plans.Manner.{Manner}
 use Rattle.cli_line.specs.declared.plans.Plan.{Plan}
 use Rattle.cli_line.specs.declared.plans.Watch.{Watch}
@@ -43,8 +44,8 @@ HasFoundBehind name rows (Run workers watch a b) = (name ≡ codes "run") × (Is
 HasFoundBehind name rows (Strict workers watch a b) = (name ≡ codes "run") × IsGiven (codes "strict") rows × HasFoundIn IsStrictRun rows (Strict workers watch a b)
 HasFoundBehind name rows (Asm text program) =
     (name ≡ codes "asm") × (first_of (codes "IN") rows ≡ Some (string_bytes text)) × (first_of (codes "OUT") rows ≡ Some (string_bytes program))
-HasFoundBehind name rows (Migrate manifest migrated) =
-    (name ≡ codes "migrate") × (first_of (codes "IN") rows ≡ Some (string_bytes manifest)) × (first_of (codes "OUT") rows ≡ Some (string_bytes migrated))
+HasFoundBehind name rows (Migrate to manifest migrated) =
+    (name ≡ codes "migrate") × (first_of (codes "to") rows ≡ Some (version_word to)) × (first_of (codes "IN") rows ≡ Some (string_bytes manifest)) × (first_of (codes "OUT") rows ≡ Some (string_bytes migrated))
 HasFoundBehind name rows (Dis program) =
     (name ≡ codes "dis") × (first_of (codes "FILE") rows ≡ Some (string_bytes program))
 HasFoundBehind name rows (Check path) =
@@ -77,6 +78,11 @@ abbrev pub ReadsWatch : List Row → Option Watch → Type 0
 ReadsWatch rows (Some watch) = first_of (codes "watch") rows ≡ Some (watch_word watch)
 ReadsWatch rows None = (watch : Watch) → first_of (codes "watch") rows ≡ Some (watch_word watch) → ⊥
 
+-- the version that those rows give, and none only if they give it by no such word
+abbrev pub ReadsVersion : List Row → Option LaterVersion → Type 0
+ReadsVersion rows (Some to) = first_of (codes "to") rows ≡ Some (version_word to)
+ReadsVersion rows None = (to : LaterVersion) → first_of (codes "to") rows ≡ Some (version_word to) → ⊥
+
 -- a part of the run is missing from those rows
 abbrev pub MakesNoRun : List Row → Type 0
 MakesNoRun rows = (number manifest scenario : Text) (watch : Watch)
@@ -94,12 +100,11 @@ AreFound (id ∷ ids) rows = ((word : Text) × (first_of id rows ≡ Some word))
 abbrev pub paths_of : Text → Option (List Text)
 paths_of name =
     if bytes_eq name (codes "asm") then Some (codes "IN" ∷ codes "OUT" ∷ [])
-    else (if bytes_eq name (codes "migrate") then Some (codes "IN" ∷ codes "OUT" ∷ [])
     else (if bytes_eq name (codes "dis") then Some (codes "FILE" ∷ [])
     else (if bytes_eq name (codes "check") then Some (codes "MANIFEST" ∷ [])
     else (if bytes_eq name (codes "audit") then Some (codes "DIR" ∷ [])
     else (if bytes_eq name (codes "replay") then Some (codes "MANIFEST" ∷ codes "TRACE" ∷ [])
-    else None)))))
+    else None))))
 
 -- these are found, where it is known which have to be
 abbrev pub AllFound : Option (List Text) → List Row → Type 0
@@ -111,9 +116,14 @@ abbrev pub MakesLive : Option Text → List Row → Type 0
 MakesLive None rows = (IsGiven (codes "sync") rows → ⊥) × AreFound (codes "MANIFEST" ∷ []) rows
 MakesLive (Some folder) rows = Unit {0}
 
+-- those rows are enough behind `migrate`: there are both paths, and the version is one that there is
+abbrev pub MakesMigration : List Row → Type 0
+MakesMigration rows = AreFound (codes "IN" ∷ codes "OUT" ∷ []) rows × ((to : LaterVersion) × (first_of (codes "to") rows ≡ Some (version_word to)))
+
 -- those rows are enough for a plan behind that word
 abbrev pub Suffices : Text → List Row → Type 0
-Suffices name rows = MatchBool (bytes_eq name (codes "live")) (MakesLive (first_of (codes "journal") rows) rows) (AllFound (paths_of name) rows)
+Suffices name rows = MatchBool (bytes_eq name (codes "live")) (MakesLive (first_of (codes "journal") rows) rows)
+    (MatchBool (bytes_eq name (codes "migrate")) (MakesMigration rows) (AllFound (paths_of name) rows))
 
 -- they are none behind it
 abbrev pub MakesNone : Text → List Row → Type 0

@@ -56,9 +56,17 @@ dis_command = with_rule (new_app (codes "dis")) (path_rule (codes "FILE"))
 abbrev pub check_command : App
 check_command = with_rule (new_app (codes "check")) (path_rule (codes "MANIFEST"))
 
--- `migrate` with the manifest that it reads and the one that it writes
+-- an option of one word, which is that word if it is not given
+abbrev pub default_rule : (name word : Text) → Rule
+default_rule name word = record (new_rule name) {
+  long = Some name;
+  value_names = 1;
+  defaults = word ∷ [];
+}
+
+-- `migrate` with the version, which is 2 if it is not given, the manifest that it reads and the one that it writes
 abbrev pub migrate_command : App
-migrate_command = with_rule (with_rule (new_app (codes "migrate")) (path_rule (codes "IN"))) (path_rule (codes "OUT"))
+migrate_command = with_rule (with_rule (with_rule (new_app (codes "migrate")) (default_rule (codes "to") (codes "2"))) (path_rule (codes "IN"))) (path_rule (codes "OUT"))
 
 -- `replay` with its two paths in their order
 abbrev pub replay_command : App
@@ -101,14 +109,6 @@ drawn_command = with_rule (with_rule formed_command (option_rule (codes "svg")))
 abbrev pub show_command : App
 show_command = with_rule (with_rule drawn_command (path_rule (codes "MANIFEST"))) (path_rule (codes "TRACE"))
 
--- an option of one word, which is that word where it is not given
-abbrev pub default_rule : (name word : Text) → Rule
-default_rule name word = record (new_rule name) {
-  long = Some name;
-  value_names = 1;
-  defaults = word ∷ [];
-}
-
 -- an option of one word, which may be given more than once
 abbrev pub repeated_rule : Text → Rule
 repeated_rule name = record (new_rule name) {
@@ -122,9 +122,13 @@ abbrev pub standing_command : App
 standing_command = with_rule (with_rule (with_rule (new_app (codes "decide"))
     (default_rule (codes "retries") (codes "5"))) (default_rule (codes "attempts") (codes "1"))) (default_rule (codes "clock") (codes "0"))
 
+-- with that for the class of the command
+abbrev pub classed_command : App
+classed_command = with_rule standing_command (default_rule (codes "class") (codes "0"))
+
 -- with all its options
 abbrev pub wide_command : App
-wide_command = with_rule (with_rule standing_command (repeated_rule (codes "word"))) (flag_rule (codes "all-sense"))
+wide_command = with_rule (with_rule classed_command (repeated_rule (codes "word"))) (flag_rule (codes "all-sense"))
 
 -- with its manifest, its queue and its CAM status
 abbrev pub failing_command : App
@@ -141,6 +145,14 @@ manner_command = with_rule (with_rule (with_rule (new_app (codes "live")) (flag_
 -- with the journal's folder and its flag, the file for what is counted, and the manifest, which may be left out
 abbrev pub live_command : App
 live_command = with_rule (with_rule (with_rule (with_rule manner_command (option_rule (codes "journal"))) (flag_rule (codes "sync"))) (option_rule (codes "metrics"))) (new_rule (codes "MANIFEST"))
+
+-- `try` with its options
+abbrev pub seeded_command : App
+seeded_command = with_rule (with_rule (new_app (codes "try")) (option_rule (codes "seed"))) (option_rule (codes "trace"))
+
+-- with its two paths in their order
+abbrev pub try_command : App
+try_command = with_rule (with_rule seeded_command (path_rule (codes "MANIFEST"))) (path_rule (codes "DISKS"))
 
 -- `audit` with a journal's folder
 abbrev pub audit_command : App
@@ -181,9 +193,13 @@ traces_command = with_subcommand (with_subcommand runs_command replay_command.to
 abbrev pub shows_command : App
 shows_command = with_subcommand traces_command show_command.top
 
+-- with `decide` too
+abbrev pub decides_command : App
+decides_command = with_subcommand shows_command decide_command.top
+
 -- the whole command line
 abbrev pub camr_command : App
-camr_command = with_subcommand shows_command decide_command.top
+camr_command = with_subcommand decides_command try_command.top
 
 -- ---- what is made for `clap`
 

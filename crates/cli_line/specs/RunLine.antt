@@ -6,6 +6,8 @@ use Rattle.std.specs.Str.Parse.{IsNumeral, digits_value}
 use Rattle.clap.specs.Words.{Text, kind_of}
 use Rattle.clap.specs.declared.error.Error.{Error}
 use Rattle.clap.specs.declared.error.kind.ErrorKind.TheVariants as kind
+use Rattle.cli_line.specs.declared.plans.LaterVersion.{LaterVersion}
+use Rattle.cli_line.specs.declared.plans.LaterVersion.TheVariants.{Two, Three}
 use Rattle.cli_line.specs.declared.plans.Plan.{Plan}
 use Rattle.cli_line.specs.declared.plans.Plan.TheVariants.{Run, Strict}
 use Rattle.cli_line.specs.declared.plans.Watch.{Watch}
@@ -33,6 +35,11 @@ abbrev pub watch_word : Watch → Text
 watch_word Never = codes "never"
 watch_word Terminal = codes "terminal"
 watch_word Lines = codes "lines"
+
+-- the words by which the option says in which version a manifest is written anew
+abbrev pub version_word : LaterVersion → Text
+version_word Two = codes "2"
+version_word Three = codes "3"
 
 -- the lines that ask for a run with this number of workers, this manifest and this scenario; the
 -- number stands before, between or behind the paths, and is 1 where there is none

@@ -1,7 +1,7 @@
 // The subcommand `decide` as `clap` is given it. It relies on `usage` for words that have to be there.
 
 ghost use Rattle.std.specs.Prelude.{◌≡◌, IfOk};
-ghost use Rattle.cli_line.specs.RunCommand.{IsArgument, IsCommand, decide_command, default_rule, failing_command, repeated_rule, standing_command, wide_command};
+ghost use Rattle.cli_line.specs.RunCommand.{IsArgument, IsCommand, classed_command, decide_command, default_rule, failing_command, repeated_rule, standing_command, wide_command};
 
 use crate::show_usage::flag;
 use crate::usage::{manifest, path};
@@ -59,7 +59,21 @@ fn wide_command<'a>(alloc: Global) -> Result<Command<'a>, AllocError>
         "all-sense",
         "Prints a table of what is decided of all sense keys, ASC and ASCQ",
     );
-    standing_command(alloc)?.arg(word)?.arg(all)
+    classed_command(alloc)?.arg(word)?.arg(all)
+}
+
+// The subcommand with the option for what the command is, too.
+fn classed_command<'a>(alloc: Global) -> Result<Command<'a>, AllocError>
+    ensures { IfOk result (IsCommand classed_command) }
+{
+    let class = defaulting(
+        alloc,
+        "class",
+        "N",
+        "0",
+        "What the command is, as its submission says; in version 3",
+    );
+    standing_command(alloc)?.arg(class)
 }
 
 // The subcommand with the options for the command that fails, and for the clock.

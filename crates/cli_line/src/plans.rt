@@ -19,6 +19,15 @@ pub enum Watch {
     Lines,
 }
 
+/// The version that a manifest is written anew in: a later one than its own.
+#[derive(Clone, Copy, Debug, PartialEq, Eq)]
+pub enum LaterVersion {
+    /// With controllers.
+    Two,
+    /// With controllers, classes, advice and first words of tables.
+    Three,
+}
+
 /// How a live engine is asked, and where what is counted of it goes.
 #[derive(Debug, Drop)]
 pub struct Manner {
@@ -37,8 +46,8 @@ pub struct Manner {
 pub enum Plan {
     /// Assembles a text: the text's file, and the file that gets the bytes of its program.
     Asm(String, String),
-    /// Writes a manifest of version 1 anew, of version 2 with one controller: the manifest, and the file that gets it.
-    Migrate(String, String),
+    /// Writes a manifest anew in a later version: that version, the manifest, and the file that gets it.
+    Migrate(LaterVersion, String, String),
     /// Prints the text of a program's bytes.
     Dis(String),
     /// Verifies the programs of a manifest.
@@ -79,7 +88,7 @@ impl Plan {
         match (self, place) {
             (
                 Plan::Asm(first, _)
-                | Plan::Migrate(first, _)
+                | Plan::Migrate(_, first, _)
                 | Plan::Dis(first)
                 | Plan::Check(first)
                 | Plan::Run(_, _, first, _)
@@ -104,7 +113,7 @@ impl Plan {
         ensures { MatchOption result (output_path self.now ≡ None) (λ path. output_path self.now ≡ Some path.now) }
     {
         match self {
-            Plan::Asm(_, output) | Plan::Migrate(_, output) => Some(output.as_str()),
+            Plan::Asm(_, output) | Plan::Migrate(_, _, output) => Some(output.as_str()),
             Plan::Dis(_)
             | Plan::Check(_)
             | Plan::Run(..)
@@ -142,7 +151,7 @@ impl Plan {
             Plan::Strict(_, _, manifest, scenario) => reads_of(manifest) + reads_of(scenario),
             Plan::Replay(manifest, trace) => reads_of(manifest) + reads_of(trace),
             Plan::Asm(file, _) => reads_of(file),
-            Plan::Migrate(file, _) => reads_of(file),
+            Plan::Migrate(_, file, _) => reads_of(file),
             Plan::Dis(file) => reads_of(file),
             Plan::Check(file) => reads_of(file),
             Plan::Live(_, manifest) => 1 + reads_of(manifest),

@@ -1,21 +1,22 @@
 // The command line as `clap` is given it: its subcommands with their options and paths, and what help says of
-// them. It relies on `show_usage` for those of `show`, and on `decide_usage` for those of `decide`.
+// them. It relies on `show_usage` for those of `show`, on `decide_usage` for those of `decide`, and on `try_usage` for those of `try`.
 
 ghost use Rattle.std.specs.Prelude.{◌≡◌, IfOk, codes};
 ghost use Rattle.clap.specs.Words.{new_rule};
 ghost use Rattle.cli_line.specs.RunCommand.{IsArgument, IsCommand, camr_command};
-ghost use Rattle.cli_line.specs.RunCommand.{asm_command, audit_command, bare_command, check_command, dis_command, explain_command, manifests_command, migrate_command};
+ghost use Rattle.cli_line.specs.RunCommand.{asm_command, audit_command, bare_command, check_command, decides_command, default_rule, dis_command, explain_command, manifests_command, migrate_command};
 ghost use Rattle.cli_line.specs.RunCommand.{path_rule, programs_command, replay_command, run_command, run_options, runs_command, shows_command, texts_command, traces_command};
 ghost use Rattle.cli_line.specs.RunCommand.{watch_rule, workers_rule};
 
 use crate::decide_usage::decide_command;
 use crate::living::live_command;
 use crate::show_usage::{flag, show_command};
+use crate::try_usage::try_command;
 use clap::{Arg, Command, value_parser};
 use std::alloc::{AllocError, Global};
 
 /// What `--version` prints behind the program's name: its version, and the profile of its policies.
-const VERSION: &str = "0.1.0, policy profile 2";
+const VERSION: &str = "0.1.0, policy profile 3";
 
 /// What help has at its end.
 const EXAMPLE: &str = "\
@@ -25,6 +26,14 @@ Example:
 /// The whole command line.
 pub fn camr_command<'a>(alloc: Global) -> Result<Command<'a>, AllocError>
     ensures { IfOk result (IsCommand camr_command) }
+{
+    let tried = try_command(alloc)?;
+    decides_command(alloc)?.subcommand(tried)
+}
+
+// The command without the one that tries policies.
+fn decides_command<'a>(alloc: Global) -> Result<Command<'a>, AllocError>
+    ensures { IfOk result (IsCommand decides_command) }
 {
     let decide = decide_command(alloc)?;
     shows_command(alloc)?.subcommand(decide)
@@ -52,16 +61,18 @@ fn shown_run_command<'a>(alloc: Global) -> Result<Command<'a>, AllocError> {
     })
 }
 
-// The shown command with those that read a trace too, and with `decide`.
+// The shown command with those that read a trace too, and with `decide` and `try`.
 fn shown_traces_command<'a>(alloc: Global, runs: Command<'a>) -> Result<Command<'a>, AllocError> {
     let replay = replay_command(alloc)?;
     let audit = audit_command(alloc)?;
     let show = show_command(alloc)?;
     let decide = decide_command(alloc)?;
+    let tried = try_command(alloc)?;
     runs.subcommand(replay)?
         .subcommand(audit)?
         .subcommand(show)?
-        .subcommand(decide)
+        .subcommand(decide)?
+        .subcommand(tried)
 }
 
 // The command without those that tell what happened and what is decided.
@@ -182,17 +193,19 @@ pub(crate) fn explain_command<'a>(alloc: Global) -> Result<Command<'a>, AllocErr
         .arg(file)
 }
 
-fn migrate_command<'a>(alloc: Global) -> Result<Command<'a>, AllocError>
+/// The subcommand `migrate` by itself.
+pub(crate) fn migrate_command<'a>(alloc: Global) -> Result<Command<'a>, AllocError>
     ensures { IfOk result (IsCommand migrate_command) }
 {
     let old = path(
         alloc,
         "IN",
-        "A manifest of version 1; `-` is standard input",
+        "A manifest of a lower version; `-` is standard input",
     );
-    let migrated = path(alloc, "OUT", "The file that gets it as one of version 2");
+    let migrated = path(alloc, "OUT", "The file that gets it as one of that version");
     Command::new(alloc, "migrate")
-        .about("Writes a manifest with one controller over its queues")
+        .about("Writes a manifest anew in a later version")
+        .arg(later_version(alloc))?
         .arg(old)?
         .arg(migrated)
 }
@@ -253,6 +266,16 @@ fn workers<'a>(alloc: Global) -> Arg<'a>
         .value_parser(value_parser!(u8).range(1..=16))
         .default_value("1")
         .help("How many workers serve completions, 1 to 16")
+}
+
+fn later_version<'a>(alloc: Global) -> Arg<'a>
+    ensures { IsArgument (default_rule (codes "to") (codes "2")) result }
+{
+    Arg::new(alloc, "to")
+        .long("to")
+        .value_name("VERSION")
+        .default_value("2")
+        .help("The version: 2, which has controllers, or 3, which also has classes and advice")
 }
 
 fn watch<'a>(alloc: Global) -> Arg<'a>

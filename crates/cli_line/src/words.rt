@@ -5,17 +5,20 @@ ghost use Rattle.std.specs.Prelude.{◌≡◌, ◌≤◌, ◌⊎◌, [], IfErr, 
 ghost use Rattle.clap.specs.Words.{FailsBy, Text, fault_of, found_of, kind_of, rows_of};
 ghost use Rattle.clap.specs.Words.{subcommand_of, subcommand_rows_of};
 ghost use Rattle.cli_line.specs.Files.{stdin_reads};
-ghost use Rattle.cli_line.specs.FoundPlan.{HasFound, IsRefused, IsUnplanned, PlansBehind, PlansFound, ReadsWatch, ReadsWorkers};
+ghost use Rattle.cli_line.specs.FoundPlan.{HasFound, IsRefused, IsUnplanned, PlansBehind, PlansFound, ReadsVersion, ReadsWatch, ReadsWorkers};
 ghost use Rattle.cli_line.specs.FileLines.{ArePlain, Asked, IsAsked, line_of};
 ghost use Rattle.cli_line.specs.RunCommand.{camr_command};
 ghost use Rattle.cli_line.specs.RunLine.{GivesRun, HasLawfulNumber, IsLawfulNumber, IsPlain};
-ghost use Rattle.cli_line.specs.RunLine.{RunLine, Spells, SpellsNoLawfulNumber, spelled_out, watch_word};
+ghost use Rattle.cli_line.specs.RunLine.{RunLine, Spells, SpellsNoLawfulNumber, spelled_out, version_word, watch_word};
 ghost use Rattle.cli_line.specs.UsageFault.{Gives, IsValueFault};
 
 use crate::living::{is_given, live_command, live_plan};
-use crate::plans::{MAX_WORKERS, MIN_WORKERS, Plan, Watch};
+use crate::plans::{LaterVersion, MAX_WORKERS, MIN_WORKERS, Plan, Watch};
 use crate::show_usage::show_command;
-use crate::usage::{camr_command, explain_command, replay_command, run_command, shown_command};
+use crate::try_usage::try_command;
+use crate::usage::{
+    camr_command, explain_command, migrate_command, replay_command, run_command, shown_command,
+};
 use clap::error::ErrorKind;
 use clap::{ArgMatches, Command, Error};
 use cli_text_page::{ForeignText, escaped};
@@ -165,6 +168,7 @@ fn command_of<'a>(alloc: Global, subcommand: &str) -> Result<Command<'a>, AllocE
         "live" => live_command(alloc),
         "replay" => replay_command(alloc),
         "explain" => explain_command(alloc),
+        "try" => try_command(alloc),
         _ => show_command(alloc),
     }
 }
@@ -311,6 +315,9 @@ fn check_plan(alloc: Global, check: &ArgMatches) -> Result<Option<Plan>, AllocEr
 fn migrate_plan(alloc: Global, migrate: &ArgMatches) -> Result<Option<Plan>, AllocError>
     ensures { IfOk result (PlansBehind (codes "migrate") (rows_of (found_of migrate.now))) }
 {
+    let Some(to) = version_given(migrate) else {
+        return Ok(None);
+    };
     let Some(manifest) = migrate.get_str("IN") else {
         return Ok(None);
     };
@@ -319,7 +326,27 @@ fn migrate_plan(alloc: Global, migrate: &ArgMatches) -> Result<Option<Plan>, All
     };
     let manifest = String::from_str(alloc, manifest)?;
     let migrated = String::from_str(alloc, migrated)?;
-    Ok(Some(Plan::Migrate(manifest, migrated)))
+    Ok(Some(Plan::Migrate(to, manifest, migrated)))
+}
+
+fn version_given(migrate: &ArgMatches) -> Option<LaterVersion>
+    ensures { ReadsVersion (rows_of (found_of migrate.now)) result }
+{
+    let Some(word) = migrate.get_str("to") else {
+        return None;
+    };
+    version_in(word)
+}
+
+// The version that a manifest is written anew in, by the option's word.
+fn version_in(word: &str) -> Option<LaterVersion>
+    ensures { MatchOption result ((to : LaterVersion) → word.now ≡ version_word to → ⊥) (λ to. word.now ≡ version_word to) }
+{
+    match word {
+        "2" => Some(LaterVersion::Two),
+        "3" => Some(LaterVersion::Three),
+        _ => None,
+    }
 }
 
 // The plan of what clap found behind `replay`.
@@ -421,8 +448,9 @@ fn no_plan(alloc: Global, matches: &ArgMatches) -> Error
     ensures { IsValueFault result }
 {
     let fault = match matches.subcommand() {
-        Some((name @ ("explain" | "show" | "decide"), _)) => other_program(alloc, name),
+        Some((name @ ("explain" | "show" | "decide" | "try"), _)) => other_program(alloc, name),
         Some(("live", live)) => live_fault(alloc, live.get_str("MANIFEST").is_some()),
+        Some(("migrate", migrate)) => version_fault(alloc, migrate.get_str("to").unwrap_or("")),
         Some((_, run)) => option_fault(
             alloc,
             run.get_str("workers").unwrap_or(""),
@@ -456,6 +484,19 @@ fn live_fault(alloc: Global, has_manifest: bool) -> Result<Error, AllocError>
     live_command(alloc)?
         .bin_name("camr live")?
         .error(ErrorKind::ValueValidation, missing)
+}
+
+// The word of the option of `migrate` is no version that a manifest is written anew in.
+fn version_fault(alloc: Global, word: &str) -> Result<Error, AllocError>
+    ensures { IfOk result (λ e. kind_of e ≡ ErrorKind.ValueValidation) }
+{
+    let text = format!(in alloc;
+        "invalid value '{}' for '--to <VERSION>': it is `2` or `3`",
+        ForeignText(word)
+    )?;
+    migrate_command(alloc)?
+        .bin_name("camr migrate")?
+        .error(ErrorKind::ValueValidation, text.as_str())
 }
 
 // What is wrong with the word of an option of `run`: clap has refused each other that is no number from 1 to 16.

@@ -1,7 +1,7 @@
 -- A list of waiting CCBs in the order of their numbers: it has the members of the one without that order, in whatever order
 -- they stood there, and what one more and one fewer leave.
-use Rattle.std.proofs.Common.{◌≡◌, ℕ, zero, suc, ◌+◌, ◌<◌, ◌≤◌, List, [], ◌∷◌, ◌++◌, length, get_or, Bool, true, false, cond, ◌||◌, not, eqb, ltb, ◌⊎◌, inl, inr, refl, ap, sym, subst, ◌∙◌, arith}
-use Rattle.std.proofs.lemmas.Bool.{eq-eqb, eqb-false, ltb-true, ltb-false, or_parts, cond-true, cond-false, cond_both, not_from_true, not_from_false}
+use Rattle.std.proofs.Common.{◌≡◌, ℕ, zero, suc, ◌+◌, ◌<◌, ◌≤◌, List, [], ◌∷◌, ◌++◌, length, get_or, drop, Bool, true, false, cond, ◌||◌, not, eqb, ltb, ◌⊎◌, inl, inr, refl, ap, sym, subst, ◌∙◌, arith}
+use Rattle.std.proofs.lemmas.Bool.{eq-eqb, eqb-false, ne_eqb, ltb-true, ltb-false, or_parts, cond-true, cond-false, cond_both, not_from_true, not_from_false}
 use Rattle.std.proofs.lemmas.Bool.Decides.{eqb_tells}
 use Rattle.std.proofs.lemmas.List.Sums.{sum_by-cons}
 use Rattle.std.proofs.lemmas.List.Sorted.{IsPermutation-sym, IsPermutation-trans, IsPermutation-to_front, IsPermutation-cons, IsPermutation-swap_remove, sum_by-IsPermutation, Contains-permutation}
@@ -74,6 +74,22 @@ waits_with_pair n p (o ∷ os) =
     cond_both (ltb p.number.0 o.number.0) _ _ (λ (xs : List WaitingCcb). waits n xs ≡ (eqb p.number.0 n.0 || (eqb o.number.0 n.0 || waits n os)))
     (λ _. refl)
     (λ _. ap (λ b. eqb o.number.0 n.0 || b) (waits_with_pair n p os) ∙ or_swap (eqb o.number.0 n.0) (eqb p.number.0 n.0) (waits n os))
+
+-- one of them that has not this number, or none, is left out
+pub waits_from : (n : CcbId) (k : ℕ) (ps : List WaitingCcb) (p : WaitingCcb) → k < length ps → p ≡ get_or ps k p → (p.number.0 ≡ n.0 → ⊥) → waits n (drop k ps) ≡ true → waits n (drop (k + 1) ps) ≡ true
+waits_from n k [] p inside is apart h = absurd (omega arith)
+waits_from n zero (q ∷ qs) p inside is apart h =
+    let other : eqb q.number.0 n.0 ≡ false = ne_eqb _ _ (λ e. apart (ap (λ (o : WaitingCcb). o.number.0) is ∙ e)) in
+    sym (ap (λ b. b || waits n qs) other) ∙ h
+waits_from n (suc k) (q ∷ qs) p inside is apart h =
+    let next : suc (k + 1) ≡ suc k + 1 = omega arith in
+    subst (λ (m : ℕ). waits n (drop m (q ∷ qs)) ≡ true) next (waits_from n k qs p (omega arith) is apart h)
+
+pub waits_behind : (n : CcbId) (k : ℕ) (ps : List WaitingCcb) → length ps ≤ k → waits n (drop k ps) ≡ true → ⊥
+waits_behind n zero [] past h = let bad : false ≡ true = h in cc
+waits_behind n (suc k) [] past h = let bad : false ≡ true = h in cc
+waits_behind n zero (p ∷ ps) past h = omega arith
+waits_behind n (suc k) (p ∷ ps) past h = waits_behind n k ps (omega arith) h
 
 pub waits_in_order : (n : CcbId) (ps : List WaitingCcb) → waits n (in_order ps) ≡ waits n ps
 waits_in_order n [] = refl

@@ -1,11 +1,11 @@
 -- How waiting CCBs stand in a heap: what an exchange of one with the one above it leaves, and that the first is the least.
-use Rattle.std.proofs.Common.{◌≡◌, ℕ, zero, suc, ◌+◌, ◌-◌, ◌*◌, ◌/◌, ◌^◌, ◌<◌, ◌≤◌, ◌≢◌, List, [], ◌∷◌, length, get_or, inl, inr, refl, ap, sym, subst, ◌∙◌, arith}
+use Rattle.std.proofs.Common.{◌≡◌, ℕ, zero, suc, ◌+◌, ◌-◌, ◌*◌, ◌/◌, ◌^◌, ◌<◌, ◌≤◌, ◌≢◌, List, [], ◌∷◌, length, get_or, set, inl, inr, refl, ap, sym, subst, ◌∙◌, arith}
 use Rattle.std.proofs.lemmas.Bool.Decides.{eqb_tells}
-use Rattle.std.proofs.lemmas.List.{get_or_default}
+use Rattle.std.proofs.lemmas.List.{get_or_default, get_or-set_other, get_or-take, length-set, length-take-le}
 use Rattle.std.proofs.lemmas.List.Edits.{swapped_from_swap, length-swap}
 use Rattle.std.proofs.lemmas.Nat.{pow-add}
 use Rattle.std.proofs.Math.Nat.{pow-succ'}
-use Rattle.std.specs.List.{swap, All}
+use Rattle.std.specs.List.{swap, swap_remove, All}
 use Rattle.dev_queue.specs.declared.waiting_ccb.WaitingCcb.{WaitingCcb}
 use Rattle.dev_queue.specs.Waiting.{StartsFirst}
 use Rattle.dev_queue.specs.Heap.{IsUnder, IsHeap, IsFirstUnder, MayRise, MaySink}
@@ -75,6 +75,64 @@ risen xs ys here up may under inside before is =
             | inr e ↦
                 starts_as _ (get_or xs above d) _ (get_or xs place d) top (else d place e.1 (λ g. omega (arith, g)))
                 (starts_along _ (get_or xs up d) _ step (may.others up place d v (omega arith) e.1))
+          ];
+    }
+
+-- a heap is one but for any pair
+pub sinks_anywhere : (ps : List WaitingCcb) (here : ℕ) → IsHeap ps → MaySink ps here
+sinks_anywhere ps here h = record {
+  others = λ above place d u l ne. h above place d u l;
+  around = λ above place d u v l. starts_along _ (get_or ps here d) _ (h above here d u (omega arith)) (h here place d v l);
+}
+
+-- the first pair is gone, and the last one stands in its place
+pub sinks_on : (xs ys : List WaitingCcb) (x : WaitingCcb) → 0 < length xs → MaySink xs 0 → ys ≡ swap_remove xs 0 x → MaySink ys 0
+sinks_on xs ys x some may is =
+    let moved : List WaitingCcb = set xs 0 (get_or xs (length xs - 1) x) in
+    let long : length ys ≡ length xs - 1 = ap length is ∙ length-take-le (length xs - 1) moved (omega (arith, length-set xs 0 (get_or xs (length xs - 1) x))) in
+    let stays : (m : ℕ) (d : WaitingCcb) → m ≢ 0 → m < length ys → get_or ys m d ≡ get_or xs m d =
+    λ m d ne l. ap (λ ps. get_or ps m d) is ∙ (get_or-take (length xs - 1) moved m d (omega (arith, l, long)) ∙ get_or-set_other xs 0 m (get_or xs (length xs - 1) x) d ne) in
+    record {
+      others = λ above place d u l ne.
+          starts_as _ (get_or xs above d) _ (get_or xs place d) (stays above d ne (omega (arith, u.0, l))) (stays place d (λ e. omega (arith, u.0, e)) l)
+          (may.others above place d u (omega (arith, l, long)) ne);
+      around = λ above place d u v l. absurd (omega (arith, u.0));
+    }
+
+-- the pair here changes places with the one above it, which starts no later
+pub lifted_is : (xs ys : List WaitingCcb) (here up : ℕ) (d : WaitingCcb) → IsUnder up here → here < length xs → ys ≡ swap xs here up → get_or ys up d ≡ get_or xs here d
+lifted_is xs ys here up d under inside is = (swapped_from_swap xs ys here up d inside (omega arith) is).1
+
+pub lifted : (xs ys : List WaitingCcb) (here up : ℕ) → MaySink xs here → IsUnder up here → here < length xs → ys ≡ swap xs here up → MaySink ys up
+lifted xs ys here up may under inside is =
+    let long : length ys ≡ length xs = ap length is ∙ length-swap xs here up in
+    let swapped = λ (d : WaitingCcb). swapped_from_swap xs ys here up d inside (omega arith) is in
+    let at : (d : WaitingCcb) → get_or ys here d ≡ get_or xs up d = λ d. (swapped d).0 in
+    let over : (d : WaitingCcb) → get_or ys up d ≡ get_or xs here d = λ d. (swapped d).1 in
+    let else : (d : WaitingCcb) (m : ℕ) → m ≢ here → m ≢ up → get_or ys m d ≡ get_or xs m d = λ d. (swapped d).2 in
+    record {
+      others = λ above place d u l ne.
+          elim (eqb_tells above here) [
+            | inl e ↦
+                starts_as _ (get_or xs up d) _ (get_or xs place d) (ap (λ m. get_or ys m d) e.1 ∙ at d) (else d place (λ g. omega (arith, g, e.1)) (λ g. omega (arith, g, e.1)))
+                (may.around up place d under (omega (arith, e.1), omega (arith, e.1)) (omega arith))
+            | inr e ↦ elim (eqb_tells place up) [
+              | inl f ↦
+                  starts_as _ (get_or xs above d) _ (get_or xs here d) (else d above e.1 ne) (ap (λ m. get_or ys m d) f.1 ∙ over d)
+                  (starts_along _ (get_or xs up d) _ (may.others above up d (omega (arith, f.1), omega (arith, f.1)) (omega arith) e.1) (may.others up here d under inside (λ g. omega (arith, g))))
+              | inr f ↦
+                  starts_as _ (get_or xs above d) _ (get_or xs place d) (else d above e.1 ne) (else d place (λ g. ne (omega (arith, g))) f.1)
+                  (may.others above place d u (omega arith) e.1)
+            ]
+          ];
+      around = λ above place d u v l.
+          let top : get_or ys above d ≡ get_or xs above d = else d above (λ e. omega (arith, e)) (λ e. omega (arith, e)) in
+          let step : StartsFirst (get_or xs above d) (get_or xs up d) = may.others above up d u (omega arith) (λ e. omega (arith, e)) in
+          elim (eqb_tells place here) [
+            | inl e ↦ starts_as _ (get_or xs above d) _ (get_or xs up d) top (ap (λ m. get_or ys m d) e.1 ∙ at d) step
+            | inr e ↦
+                starts_as _ (get_or xs above d) _ (get_or xs place d) top (else d place e.1 (λ g. omega (arith, g)))
+                (starts_along _ (get_or xs up d) _ step (may.others up place d v (omega arith) (λ g. omega (arith, g))))
           ];
     }
 

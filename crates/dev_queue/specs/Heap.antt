@@ -1,5 +1,6 @@
 -- How waiting CCBs stand in a heap.
-use Rattle.std.specs.Prelude.{ℕ, ◌+◌, ◌*◌, ◌<◌, ◌≤◌, ◌≢◌, List, length, slice_index_or}
+use Rattle.std.specs.Prelude.{◌≡◌, ℕ, ◌+◌, ◌*◌, ◌<◌, ◌≤◌, ◌≢◌, List, length, slice_index_or}
+use Rattle.ccb.specs.declared.CcbId.{CcbId}
 use Rattle.dev_queue.specs.declared.waiting_ccb.WaitingCcb.{WaitingCcb}
 use Rattle.dev_queue.specs.Waiting.{StartsFirst}
 
@@ -12,6 +13,11 @@ abbrev pub IsHeap : List WaitingCcb → Type 0
 IsHeap pairs =
     (above place : ℕ) (d : WaitingCcb) → IsUnder above place → place < length pairs →
     StartsFirst (slice_index_or pairs above d) (slice_index_or pairs place d)
+
+-- the pair of this number stands at this place
+pub record StandsAt (pairs : List WaitingCcb) (number : CcbId) (place : ℕ) : Type 0 where
+  pub inside : place < length pairs
+  pub number_is : (d : WaitingCcb) → (slice_index_or pairs place d).number.0 ≡ number.0
 
 -- of the pairs under this place the one that starts first
 pub record IsFirstUnder (pairs : List WaitingCcb) (above first : ℕ) : Type 0 where

@@ -34,6 +34,10 @@ with_active state = record state { active = state.active + 1 }
 abbrev pub with_started : CcbId → QueueState → QueueState
 with_started number state = record state { waiting = without number state.waiting; active = state.active + 1 }
 
+-- the CCB of this number, which waited, is out
+abbrev pub with_withdrawn : CcbId → QueueState → QueueState
+with_withdrawn number state = record state { waiting = without number state.waiting }
+
 -- a CCB is active no more, and in recovery if it stays
 abbrev pub with_stopped : Bool → QueueState → QueueState
 with_stopped stays state =

@@ -1,10 +1,10 @@
 // One device queue: its waiting CCBs, two counts and its openings. It relies on `waiting_heap` for
 // the heap, on `frozen` for the count of freezes, and on `queue_fault`.
 
-ghost use Rattle.std.specs.Prelude.{◌≡◌, ◌<◌, ◌≤◌, false, length, IfOk, OnOk, OnErr};
+ghost use Rattle.std.specs.Prelude.{◌≡◌, ◌<◌, ◌≤◌, false, true, length, IfOk, OnOk, OnErr};
 ghost use Rattle.std.specs.Result.{result_err};
 ghost use Rattle.dev_queue.specs.Waiting.{IsLeastNumber, waits};
-ghost use Rattle.dev_queue.specs.State.{QueueState, empty_queue, live, with_active, with_waiting, with_started, with_stopped, with_left};
+ghost use Rattle.dev_queue.specs.State.{QueueState, empty_queue, live, with_active, with_waiting, with_started, with_withdrawn, with_stopped, with_left};
 ghost use Rattle.dev_queue.specs.Faults.{insert_fault, start_fault};
 
 use crate::frozen::Frozen;
@@ -122,6 +122,16 @@ impl DevQueue {
         Ok(pair.number)
     }
 
+    /// The waiting CCB of this number waits no more, and is out: its host does not want it. It asks for one that waits, and leaves
+    /// room for another one.
+    pub fn withdraw(&mut self, number: CcbId)
+        requires { waits number self.old.waiting ≡ true }
+        ensures withdrawn { self.new ≡ with_withdrawn number self.old }
+        ensures room { live self.new < MAX_LIVE }
+    {
+        self.waiting.take(number, &mut self.steps);
+    }
+
     /// An active CCB stops: it stays, in recovery, or is out. It asks for an active one.
     pub fn stop(&mut self, stays: bool)
         requires { 1 ≤ self.old.active }
@@ -169,8 +179,8 @@ impl DevQueue {
         self.waiting.waits(number)
     }
 
-    /// How many times the last `insert`, `start` or `put_back` that was not refused compared two waiting CCBs, 0 before
-    /// any: at most 16.
+    /// How many times the last `insert`, `start`, `withdraw` or `put_back` that was not refused compared two waiting CCBs, 0
+    /// before any: at most 16.
     pub fn steps(&self) -> u32
         ensures { result ≤ MAX_STEPS }
     {

@@ -2,10 +2,10 @@
 // and one or two more, and none of them starts before it. It relies on `starts_before` for which of two starts first, and
 // for the count of such comparisons.
 
-ghost use Rattle.std.specs.Prelude.{◌≡◌, ◌+◌, ◌-◌, ◌*◌, ◌<◌, ◌≤◌, [], false, length, slice_index_or, IfOk, IfSome, IfNone, OnSome};
+ghost use Rattle.std.specs.Prelude.{◌≡◌, ◌+◌, ◌-◌, ◌*◌, ◌<◌, ◌≤◌, [], true, false, length, slice_index_or, IfOk, IfSome, IfNone, OnSome};
 ghost use Rattle.std.specs.List.Sorted.{IsPermutation};
 ghost use Rattle.dev_queue.specs.declared.waiting_ccb.WaitingCcb.{WaitingCcb};
-ghost use Rattle.dev_queue.specs.Heap.{IsHeap, IsFirstUnder, MayRise, MaySink};
+ghost use Rattle.dev_queue.specs.Heap.{IsHeap, IsFirstUnder, MayRise, MaySink, StandsAt};
 ghost use Rattle.dev_queue.specs.Waiting.{IsLeast, with_pair, without, waits};
 
 use crate::dev_queue::{MAX_LIVE, MAX_STEPS};
@@ -27,6 +27,19 @@ fn has_number(pairs: &[WaitingCcb], number: CcbId) -> bool
     ensures { result ≡ waits number pairs.now }
 {
     pairs.iter().any(|pair| pair.number == number)
+}
+
+// Where the pair of this number stands, which is there. This walks through all of them.
+fn place_of(pairs: &[WaitingCcb], number: CcbId) -> usize
+    requires { waits number pairs.now ≡ true }
+    ensures { StandsAt pairs.now number result }
+{
+    for place in 0..pairs.len() {
+        if pairs[place].number == number {
+            return place;
+        }
+    }
+    unreachable!()
 }
 
 // Of the pairs under this place the one that starts first, if there are any.
@@ -92,6 +105,22 @@ fn rise(pairs: &mut [WaitingCcb], steps: &mut u32)
         }
         pairs.swap(place, above);
         place = above;
+    }
+}
+
+// The pair at this place goes up to the first one, whatever stands above it. Nothing is compared.
+fn lift(pairs: &mut [WaitingCcb], place: usize)
+    requires inside { place < length pairs.old }
+    requires heap { IsHeap pairs.old }
+    ensures moved { IsPermutation pairs.old pairs.new }
+    ensures others { MaySink pairs.new 0 }
+    ensures first { (d : WaitingCcb) → slice_index_or pairs.new 0 d ≡ slice_index_or pairs.old place d }
+{
+    let mut here = place;
+    while here > 0 {
+        let above = (here - 1) / 2;
+        pairs.swap(here, above);
+        here = above;
     }
 }
 
@@ -170,5 +199,19 @@ impl WaitingHeap {
         let least = self.pairs.swap_remove(0);
         sink(&mut self.pairs, steps);
         Some(least)
+    }
+
+    /// The waiting CCB of this number waits no more, and the comparisons are counted anew. It asks for one that waits.
+    pub(crate) fn take(&mut self, number: CcbId, steps: &mut u32)
+        requires { waits number self.old ≡ true }
+        ensures taken { self.new ≡ without number self.old }
+        ensures len { length self.new + 1 ≡ length self.old }
+        ensures counted { steps.new ≤ MAX_STEPS }
+    {
+        *steps = 0;
+        let place = place_of(&self.pairs, number);
+        lift(&mut self.pairs, place);
+        self.pairs.swap_remove(0);
+        sink(&mut self.pairs, steps);
     }
 }

@@ -1,7 +1,8 @@
 -- What the lines so far say is within all limits: before the first line, with each that may come next, and with the numbers at the end.
-use Rattle.std.proofs.Common.{◌≡◌, ℕ, zero, suc, ◌+◌, ◌<◌, ◌≤◌, ◌^◌, ◌⊎◌, List, [], ◌∷◌, ◌++◌, length, length-append, map, Bool, true, false, cond, eqb, leb, Option, Some, None, inl, inr, refl, sym, subst, ◌∙◌, arith}
-use Rattle.std.proofs.lemmas.Bool.{cases_Bool, cases_eq, eq-eqb, ne_eqb, leb-false}
-use Rattle.std.proofs.lemmas.List.Elements.{All-push}
+use Rattle.std.proofs.Common.{◌≡◌, ℕ, zero, suc, ◌+◌, ◌<◌, ◌≤◌, ◌^◌, ◌⊎◌, List, [], ◌∷◌, ◌++◌, length, length-append, map, Bool, true, false, not, ◌&&◌, ◌||◌, cond, eqb, leb, Option, Some, None, inl, inr, refl, sym, subst, ◌∙◌, arith}
+use Rattle.std.proofs.lemmas.Bool.{and_from, and_parts, cases_Bool, cases_eq, eq-eqb, eqb-true, ne_eqb, leb-false, or_left, or_right}
+use Rattle.std.specs.Prelude.{All}
+use Rattle.std.proofs.lemmas.List.Elements.{All-nil, All-push}
 use Rattle.std.proofs.lemmas.List.Sums.{sum_by_push}
 use Rattle.ccb.specs.Rising.{AreRising}
 use Rattle.ccb.specs.declared.place.Place.{Place}
@@ -10,14 +11,15 @@ use Rattle.ccb.specs.declared.call_refusal.CallRefusal.{CallRefusal}
 use Rattle.ccb.specs.declared.call_refusal.CallRefusal.TheVariants.{Limit, Unknown}
 use Rattle.freeze_ledger.specs.declared.freeze.Freeze.{Freeze}
 use Rattle.freeze_ledger.specs.Freezes.{frozen}
+use Rattle.table_store.proofs.Firsts.{all_with, lengths_with, zeros_with}
 use Rattle.world_calls.specs.declared.carried_line.CarriedCcb.{CarriedCcb}
 use Rattle.world_calls.specs.declared.carried_line.CarriedLine.TheVariants as lines
 use Rattle.world.specs.Beginning.{IsBeginning, IsCarriedCcb, IsCarriedFreeze}
 use Rattle.world.specs.Lawful.{IsLawful}
-use Rattle.world.specs.Limits.{AnswerLimits, CcbLimits, FreezeLimits, RunLimits}
+use Rattle.world.specs.Limits.{AnswerLimits, CcbLimits, FreezeLimits, IsPlain, KeepsLimits, RunLimits}
 use Rattle.world.specs.Lookups.{is_of, live_count}
 use Rattle.world.specs.Refusals.{is_unknown}
-use Rattle.world.specs.World.{LiveCcb, Setup, Transport, World, opening, queue_count}
+use Rattle.world.specs.World.{LiveCcb, Setup, Transport, World, has_classes, opening, queue_count}
 use Rattle.world.specs.declared.ccb_state.CcbState.TheVariants.{Active, Waiting}
 use Rattle.world.proofs.Lists.Entries.{freeze_key, frozen_push, same_frozen}
 use Rattle.world.proofs.Lists.Rising.{rising_push}
@@ -26,7 +28,7 @@ use Rattle.world.proofs.Steps.Moves.{ccb_key}
 use Rattle.world_laws.proofs.Kept.{opening_keeps_limits, room_from}
 use Rattle.engine_transport.specs.Carrying.{carried_of, carried_state}
 use Rattle.engine_transport.proofs.Listed.{rises_up}
-use Rattle.engine_beginning.specs.Begun.{BegunState, KeepsBegun, MayFollow, begun, finished, so_far, with_line}
+use Rattle.engine_beginning.specs.Begun.{BegunState, KeepsBegun, MayFollow, begun, finished, has_fit_words, so_far, with_line}
 
 -- ---- a part that stays
 
@@ -42,6 +44,7 @@ freezes_stay setup before after e g kept = record {
 ccbs_stay : (setup : Setup) (before after : World) → after.transport.live ≡ before.transport.live → after.transport.greatest_ccb ≡ before.transport.greatest_ccb → CcbLimits setup before → CcbLimits setup after
 ccbs_stay setup before after e g kept = record {
   queues = rw e kept.queues;
+  plain = λ without. rw e (kept.plain without);
   a_queue = λ queue. rw e (kept.a_queue queue);
   all = rw e kept.all;
   rising = rw (e, g) kept.rising;
@@ -53,9 +56,28 @@ runs_stay setup before after e g kept = record { queues = rw e kept.queues; cont
 
 -- ---- before the first line
 
-opening_is : (setup : Setup) → IsLawful setup → IsBeginning setup (opening setup)
+-- as the opening, but for its tables
+opened_limits : (setup : Setup) → IsLawful setup → KeepsLimits setup (so_far (begun setup))
+opened_limits setup lawful =
+    let first = opening_keeps_limits setup lawful in
+    let lengths = setup.limits.table_lengths in
+    record {
+      freezes = freezes_stay setup (opening setup) (so_far (begun setup)) refl refl first.freezes;
+      ccbs = ccbs_stay setup (opening setup) (so_far (begun setup)) refl refl first.ccbs;
+      runs = runs_stay setup (opening setup) (so_far (begun setup)) refl refl first.runs;
+      answers = record {
+        queues = first.answers.queues;
+        openings = first.answers.openings;
+        lengths = subst (λ (tables : List (List ℕ)). map (λ table. length table) tables ≡ lengths) (zeros_with lengths) (lengths_with lengths []);
+        words = subst (λ (tables : List (List ℕ)). All (λ table. All (λ word. word < 2 ^ 64) table) tables) (zeros_with lengths)
+            (all_with (λ word. word < 2 ^ 64) lengths [] (omega arith) (All-nil (λ words. All (λ word. word < 2 ^ 64) words)));
+        clock = first.answers.clock;
+      };
+    }
+
+opening_is : (setup : Setup) → IsLawful setup → IsBeginning setup (so_far (begun setup))
 opening_is setup lawful = record {
-  limits = opening_keeps_limits setup lawful;
+  limits = opened_limits setup lawful;
   ccbs = λ k d below. absurd (omega (arith, below));
   freezes = λ k d below. absurd (omega (arith, below));
   no_run = refl;
@@ -158,13 +180,51 @@ room_by setup transport it true b c known a_queue all none = absurd (let bad : S
 room_by setup transport it false true c known a_queue all none = absurd (let bad : Some Limit ≡ None = none in cc)
 room_by setup transport it false false true known a_queue all none = absurd (let bad : Some Limit ≡ None = none in cc)
 
+-- what a CCB that is taken says of its class and its advice
+or_none : (x : Bool) → (x || false) ≡ true → x ≡ true
+or_none true h = refl
+or_none false h = h
+
+fit_plain : (it : CarriedCcb) → has_fit_words false it ≡ true → (it.class ≡ 0) × (it.advice ≡ 0)
+fit_plain it fit =
+    let parts = and_parts (eqb it.class 0) (eqb it.advice 0 || false) fit in
+    (eqb-true _ _ parts.0, eqb-true _ _ (or_none (eqb it.advice 0) parts.1))
+
+-- nothing is advised for an active one
+fit_still : (has active : Bool) (advice : ℕ) → active ≡ true → (eqb advice 0 || (has && not active)) ≡ true → advice ≡ 0
+fit_still true true advice works fit = eqb-true _ _ (or_none (eqb advice 0) fit)
+fit_still false active advice works fit = eqb-true _ _ (or_none (eqb advice 0) fit)
+fit_still true false advice works fit = absurd (let bad : false ≡ true = works in cc)
+
+-- and what has to be so that one is
+fit_words : (has active : Bool) (class advice : ℕ) → (has ≡ false → (class ≡ 0) × (advice ≡ 0)) → (active ≡ true → advice ≡ 0) → ((has || eqb class 0) && (eqb advice 0 || (has && not active))) ≡ true
+fit_words true true class advice plain still = or_left (eqb advice 0) false (eq-eqb _ _ (still refl))
+fit_words true false class advice plain still = or_right (eqb advice 0) true refl
+fit_words false active class advice plain still =
+    let none = plain refl in
+    and_from (eqb class 0) (eqb advice 0 || false) (eq-eqb _ _ none.0) (or_left (eqb advice 0) false (eq-eqb _ _ none.1))
+
+pub fit_by : (has : Bool) (it : CarriedCcb) → (has ≡ false → (it.class ≡ 0) × (it.advice ≡ 0)) → (it.is_active ≡ true → it.advice ≡ 0) → has_fit_words has it ≡ true
+fit_by has it plain still = fit_words has it.is_active it.class it.advice plain still
+
+active_if : (b : Bool) → carried_state b ≡ Active → b ≡ true
+active_if true is = refl
+active_if false is = absurd (let bad : Waiting ≡ Active = is in cc)
+
 -- it waits or is active
 state_is : (b : Bool) → (carried_state b ≡ Waiting) ⊎ (carried_state b ≡ Active)
 state_is true = inr refl
 state_is false = inl refl
 
-carried_is : (it : CarriedCcb) → IsCarriedCcb (carried_of it)
-carried_is it = record { state = state_is it.is_active; status = refl; scsi = refl; sense = refl; freeze = refl }
+carried_is : (has : Bool) (it : CarriedCcb) → has_fit_words has it ≡ true → IsCarriedCcb (carried_of it)
+carried_is has it fit = record {
+  state = state_is it.is_active;
+  status = refl;
+  scsi = refl;
+  sense = refl;
+  freeze = refl;
+  advice = λ is. fit_still has it.is_active it.advice (active_if it.is_active is) (and_parts (has || eqb it.class 0) (eqb it.advice 0 || (has && not it.is_active)) fit).1;
+}
 
 -- the numbers of what was entered before rise up to the one before this
 pushed : {A : Type 0} (key : A → ℕ) (xs : List A) (high number : ℕ) (x : A) → AreRising 0 (map key xs) high → high < number → key x ≡ number → AreRising 0 (map key (xs ++ x ∷ [])) number
@@ -192,6 +252,7 @@ ccb_kept b it kept may =
           freezes = freezes_stay b.setup before after refl refl is.limits.freezes;
           ccbs = record {
             queues = All-push (λ (x : LiveCcb). x.ccb.queue.0 < queue_count b.setup) live (carried_of it) limits.queues (omega (arith, room.known, answers.queues));
+            plain = λ without. All-push IsPlain live (carried_of it) (limits.plain without) (fit_plain it (subst (λ (has : Bool). has_fit_words has it ≡ true) without may.3));
             a_queue = λ q. omega (arith, sum_by_push (λ (x : LiveCcb). cond (is_of q x) 1 0) live (carried_of it), one_more q);
             all = omega (arith, room.all, length-append live (carried_of it ∷ []));
             rising = pushed ccb_key live b.transport.greatest_ccb it.number.0 (carried_of it) limits.rising may.1.0 refl;
@@ -200,7 +261,7 @@ ccb_kept b it kept may =
           runs = runs_stay b.setup before after refl refl is.limits.runs;
           answers = record { queues = answers.queues; openings = answers.openings; lengths = answers.lengths; words = answers.words; clock = answers.clock };
         };
-        ccbs = All-push IsCarriedCcb live (carried_of it) is.ccbs (carried_is it);
+        ccbs = All-push IsCarriedCcb live (carried_of it) is.ccbs (carried_is (has_classes b.setup) it may.3);
         freezes = is.freezes;
         no_run = is.no_run;
         none_ended = refl;
@@ -273,6 +334,7 @@ finished_is b kept =
         };
         ccbs = record {
           queues = ccbs.queues;
+          plain = ccbs.plain;
           a_queue = ccbs.a_queue;
           all = ccbs.all;
           rising = rises_up 0 (map ccb_key b.transport.live) b.transport.greatest_ccb b.ccb ccbs.rising kept.entered.0;

@@ -130,7 +130,7 @@ active_is true = refl
 active_is false = refl
 
 ccb_line_is : (it : CarriedCcb) → lines.Ccb (ccb_in (carried_of it)) ≡ lines.Ccb it
-ccb_line_is it = λ i. lines.Ccb (record { number = it.number; queue = it.queue; priority = it.priority; retries = it.retries; attempts = it.attempts; is_active = active_is it.is_active i })
+ccb_line_is it = λ i. lines.Ccb (record { number = it.number; queue = it.queue; priority = it.priority; retries = it.retries; class = it.class; attempts = it.attempts; advice = it.advice; is_active = active_is it.is_active i })
 
 says_more : (b : BegunState) (xs : List CarriedLine) (line : CarriedLine) → Says b xs → IsRanged line → MayFollow b line → Says (with_line line b) (xs ++ line ∷ [])
 says_more b xs (lines.Numbers ccb freeze run) says ranged may =

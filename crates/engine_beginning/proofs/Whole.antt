@@ -1,5 +1,5 @@
 -- Each world that may be taken over is what its lines make: each of them may come next after those before it.
-use Rattle.std.proofs.Common.{◌≡◌, ℕ, ◌+◌, ◌<◌, ◌≤◌, ◌^◌, List, [], ◌∷◌, ◌++◌, length, length-append, map, set, replicate, Bool, false, cond, eqb, leb, None, inl, inr, refl, ap, sym, subst, ◌∙◌, arith, append_assoc, append-nil}
+use Rattle.std.proofs.Common.{◌≡◌, ℕ, ◌+◌, ◌<◌, ◌≤◌, ◌^◌, List, [], ◌∷◌, ◌++◌, length, length-append, map, set, replicate, Bool, true, false, cond, eqb, leb, None, inl, inr, refl, ap, sym, subst, ◌∙◌, arith, append_assoc, append-nil}
 use Rattle.std.specs.Prelude.{◌⊎◌, ◌||◌, All}
 use Rattle.std.proofs.lemmas.Bool.{cases_eq, cond-true, cond-false, eq-eqb, ne_eqb, lt-leb, or_from}
 use Rattle.std.proofs.lemmas.List.{length-map}
@@ -15,16 +15,18 @@ use Rattle.world_calls.specs.declared.carried_line.CarriedLine.{CarriedLine}
 use Rattle.world_calls.specs.declared.carried_line.CarriedLine.TheVariants as lines
 use Rattle.world.specs.Beginning.{IsBeginning, IsCarriedCcb, IsCarriedFreeze}
 use Rattle.world.specs.Lawful.{IsLawful}
+use Rattle.world.specs.Limits.{IsPlain}
 use Rattle.world.specs.Lookups.{is_active, is_of, live_count}
-use Rattle.world.specs.World.{LiveCcb, QueueSetup, Setup, Transport, World, opening, queue_count}
+use Rattle.world.specs.World.{LiveCcb, QueueSetup, Setup, Transport, World, has_classes, opening, queue_count}
 use Rattle.world.specs.declared.ccb_state.CcbState.{CcbState}
-use Rattle.world.specs.declared.ccb_state.CcbState.TheVariants.{Active, Waiting}
+use Rattle.world.specs.declared.ccb_state.CcbState.TheVariants.{Active, InRecovery, Waiting}
 use Rattle.world.proofs.Lists.Entries.{freeze_key}
 use Rattle.world.proofs.Lists.Rising.{rising_high}
 use Rattle.world.proofs.Steps.Moves.{ccb_key}
 use Rattle.engine_transport.specs.Carrying.{carried_of, carried_state, carry_refusal}
 use Rattle.engine_beginning.specs.Begun.{BegunState, IsComplete, MayFollow, begun, finished, with_line}
 use Rattle.engine_beginning.specs.Lines.{IsFront, LinesAreExact, Takes, ccb_in, ccb_lines, freeze_lines, lines_of, openings_from, tables_from, words_from}
+use Rattle.engine_beginning.proofs.Keeping.{fit_by}
 
 least : (a b : ℕ) → a ≡ b → b ≤ a
 least a b is = omega (arith, is)
@@ -211,6 +213,11 @@ state_back : (s : CcbState) → (s ≡ Waiting) ⊎ (s ≡ Active) → carried_s
 state_back s (inl waits) = ap (λ (x : CcbState). carried_state (is_active x)) waits ∙ sym waits
 state_back s (inr works) = ap (λ (x : CcbState). carried_state (is_active x)) works ∙ sym works
 
+active_back : (s : CcbState) → is_active s ≡ true → s ≡ Active
+active_back Waiting works = absurd (let bad : false ≡ true = works in cc)
+active_back Active works = refl
+active_back InRecovery works = absurd (let bad : false ≡ true = works in cc)
+
 ccb_back : (c : LiveCcb) → IsCarriedCcb c → carried_of (ccb_in c) ≡ c
 ccb_back c is = λ i. record {
   ccb = record c.ccb { status = sym is.status i; scsi = sym is.scsi i; sense = sym is.sense i; freeze_taken = sym is.freeze i };
@@ -239,9 +246,9 @@ room_for transport done more c is known few all =
     ∙ (cond-false (leb 256 (live_count q transport.live)) _ _ (lt-leb _ _ (omega (arith, here, few, sum_by-append counts done (c ∷ more), sum_by-cons counts c more, own)))
     ∙ cond-false (leb 4096 (length transport.live)) _ _ (lt-leb _ _ (omega (arith, long, all, length-append done (c ∷ more)))))
 
-ccbs_all : (b : BegunState) (done more : List LiveCcb) (high : ℕ) → IsComplete b → b.after ≤ 5 → b.transport.live ≡ done → AreRising b.transport.greatest_ccb (map ccb_key more) high → high ≤ b.ccb → All IsCarriedCcb more → All (λ (x : LiveCcb). x.ccb.queue.0 < length b.transport.openings) more
+ccbs_all : (b : BegunState) (done more : List LiveCcb) (high : ℕ) → IsComplete b → b.after ≤ 5 → b.transport.live ≡ done → AreRising b.transport.greatest_ccb (map ccb_key more) high → high ≤ b.ccb → All IsCarriedCcb more → (has_classes b.setup ≡ false → All IsPlain more) → All (λ (x : LiveCcb). x.ccb.queue.0 < length b.transport.openings) more
     → ((q : ℕ) → live_count q (done ++ more) ≤ 256) → length (done ++ more) ≤ 4096 → CcbsLead b more (done ++ more)
-ccbs_all b done [] high complete after is rising below carried known few all = (
+ccbs_all b done [] high complete after is rising below carried plain known few all = (
   b,
   refl,
   record {
@@ -249,17 +256,18 @@ ccbs_all b done [] high complete after is rising below carried known few all = (
     same = λ i. with_live b b.after ((is ∙ sym (append-nil done)) i) b.transport.greatest_ccb;
   },
 )
-ccbs_all b done (c ∷ more) high complete after is rising below carried known few all =
+ccbs_all b done (c ∷ more) high complete after is rising below carried plain known few all =
     let line : CarriedLine = lines.Ccb (ccb_in c) in
     let next : BegunState = with_line line b in
     let joined : (done ++ c ∷ []) ++ more ≡ done ++ c ∷ more = append_assoc done (c ∷ []) more in
     let live : next.transport.live ≡ done ++ c ∷ [] = (λ i. is i ++ ccb_back c (All-head IsCarriedCcb c more carried) i ∷ []) in
     let room = room_for b.transport done more c is (All-head (λ (x : LiveCcb). x.ccb.queue.0 < length b.transport.openings) c more known) (few c.ccb.queue.0) all in
-    let rest = ccbs_all next (done ++ c ∷ []) more high complete (omega arith) live rising.1 below (All-tail IsCarriedCcb c more carried) (All-tail (λ (x : LiveCcb). x.ccb.queue.0 < length b.transport.openings) c more known)
+    let fit = fit_by (has_classes b.setup) (ccb_in c) (λ without. All-head IsPlain c more (plain without)) (λ works. (All-head IsCarriedCcb c more carried).advice (active_back c.state works)) in
+    let rest = ccbs_all next (done ++ c ∷ []) more high complete (omega arith) live rising.1 below (All-tail IsCarriedCcb c more carried) (λ without. All-tail IsPlain c more (plain without)) (All-tail (λ (x : LiveCcb). x.ccb.queue.0 < length b.transport.openings) c more known)
     (λ q. subst (λ (xs : List LiveCcb). live_count q xs ≤ 256) (sym joined) (few q)) (subst (λ (xs : List LiveCcb). length xs ≤ 4096) (sym joined) all) in
     let high_is = rising_high (ccb_key c) (map ccb_key more) high rising.1 in (
       rest.0,
-      (tt, ((complete, after), (rising.0, omega (arith, high_is, below)), room), rest.1),
+      (tt, ((complete, after), (rising.0, omega (arith, high_is, below)), room, fit), rest.1),
       record {
         after = rest.2.after;
         same = rest.2.same ∙ ap (λ (xs : List LiveCcb). with_live b rest.0.after xs rest.0.transport.greatest_ccb) joined;
@@ -426,7 +434,8 @@ by_ccbs setup world b is k after first none =
     let known : All (λ (x : LiveCcb). x.ccb.queue.0 < length b.transport.openings) world.transport.live =
     subst (λ (n : ℕ). All (λ (x : LiveCcb). x.ccb.queue.0 < n) world.transport.live) (sym (ap length k.openings ∙ limits.answers.queues)) limits.ccbs.queues in
     let all = ccbs_all b [] world.transport.live world.transport.greatest_ccb (all_opened setup world b [] [] world.runs.tables k) (omega (arith, after)) k.live_are
-    (subst (λ (n : ℕ). AreRising n (map ccb_key world.transport.live) world.transport.greatest_ccb) (sym first) limits.ccbs.rising) (least b.ccb world.transport.greatest_ccb k.ccb) is.ccbs known limits.ccbs.a_queue limits.ccbs.all in
+    (subst (λ (n : ℕ). AreRising n (map ccb_key world.transport.live) world.transport.greatest_ccb) (sym first) limits.ccbs.rising) (least b.ccb world.transport.greatest_ccb k.ccb) is.ccbs
+    (subst (λ (s : Setup). has_classes s ≡ false → All IsPlain world.transport.live) (sym k.setup_is) limits.ccbs.plain) known limits.ccbs.a_queue limits.ccbs.all in
     entered_ends setup world b all.0 is k none all.1 all.2
 
 worded_ends : (setup : Setup) (world : World) (a b : BegunState) (tables : List (List ℕ)) → IsBeginning setup world → Known setup world a [] [] tables → a.transport.greatest_ccb ≡ 0 → a.transport.greatest_freeze ≡ 0 → Takes a (tables_from 0 world.runs.tables) b → TablesDone a b world.runs.tables

@@ -1,15 +1,16 @@
 -- The lines of what an engine takes over, as far as they came: which line may come next, and what it makes of an engine that was opened.
-use Rattle.std.specs.Prelude.{◌≡◌, ℕ, ◌+◌, ◌<◌, ◌≤◌, false, true, ◌||◌, [], slice_set, Option, Some, None}
+use Rattle.std.specs.Prelude.{◌≡◌, ℕ, ◌+◌, ◌<◌, ◌≤◌, ◌==◌, Bool, false, true, not, ◌&&◌, ◌||◌, [], slice_set, Option, Some, None}
 use Rattle.freeze_ledger.specs.declared.freeze.Freeze.{Freeze}
 use Rattle.freeze_ledger.specs.Freezes.{meets_limit}
 use Rattle.table_store.specs.Tables.{HasWord, with_word}
+use Rattle.world_calls.specs.declared.carried_line.CarriedCcb.{CarriedCcb}
 use Rattle.world_calls.specs.declared.carried_line.CarriedLine.{CarriedLine}
 use Rattle.world_calls.specs.declared.carried_line.CarriedLine.TheVariants as lines
 use Rattle.world.specs.Beginning.{IsBeginning}
 use Rattle.world.specs.Capacities.{last_number, last_reading, most_openings}
 use Rattle.world.specs.FreezeSteps.{is_guest, is_timer}
 use Rattle.world.specs.Refusals.{is_unknown}
-use Rattle.world.specs.World.{Setup, Transport, World, opening, queue_count}
+use Rattle.world.specs.World.{Setup, Transport, World, has_classes, opening, queue_count}
 use Rattle.engine_runs.specs.RunsState.{RunsState, no_runs}
 use Rattle.engine_transport.specs.Carrying.{carry_refusal, with_carried_ccb, with_carried_freeze}
 
@@ -44,7 +45,7 @@ begun_as setup after ccb freeze run opened table index transport runs = record {
   runs = runs;
 }
 
--- before the first line
+-- before the first line: the tables start at 0, whatever their first words are
 abbrev pub begun : Setup → BegunState
 begun setup = begun_as setup 0 0 0 0 0 0 0 (opening setup).transport (no_runs setup.limits.table_lengths)
 
@@ -56,6 +57,10 @@ IsComplete state = state.opened ≡ queue_count state.setup
 abbrev pub IsNextKey : BegunState → (table index : ℕ) → Type 0
 IsNextKey state table index = (state.table ≤ table) × (state.table ≡ table → state.index ≤ index)
 
+-- if CCBs have no class it is 0, and so is the advice; that of an active one is 0 too, since its start reported it
+abbrev pub has_fit_words : Bool → CarriedCcb → Bool
+has_fit_words has ccb = (has || ccb.class == 0) && (ccb.advice == 0 || (has && not ccb.is_active))
+
 -- The line may come next: its kind is in order, its key is above that of the line before it, and what it says is within all limits.
 abbrev pub MayFollow : BegunState → CarriedLine → Type 0
 MayFollow state (lines.Numbers ccb freeze run) = state.after ≡ 0
@@ -66,6 +71,7 @@ MayFollow state (lines.Word table index word) =
     (IsComplete state × (state.after ≤ 4)) × (0 < word) × IsNextKey state table index × HasWord state.runs.runs.tables table index
 MayFollow state (lines.Ccb ccb) =
     (IsComplete state × (state.after ≤ 5)) × ((state.transport.greatest_ccb < ccb.number.0) × (ccb.number.0 ≤ state.ccb)) × (carry_refusal state.transport ccb ≡ None)
+    × (has_fit_words (has_classes state.setup) ccb ≡ true)
 MayFollow state (lines.Freeze freeze) =
     (IsComplete state × ((is_timer freeze.holder || is_guest freeze.holder) ≡ true))
     × ((state.transport.greatest_freeze < freeze.number) × (freeze.number ≤ state.freeze))

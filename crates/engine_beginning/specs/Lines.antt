@@ -33,7 +33,9 @@ ccb_in live = record {
   queue = live.ccb.queue;
   priority = live.ccb.priority;
   retries = live.ccb.retries;
+  class = live.ccb.class;
   attempts = live.ccb.attempts;
+  advice = live.ccb.advice;
   is_active = is_active live.state;
 }
 

@@ -3,11 +3,11 @@
 
 ghost use Rattle.std.specs.Prelude.{◌≡◌, ◌↔◌, ◌||◌, [], not, true, false, IfOk, IfSome, IsOk, IsSome, IsTrue, None, OnErr, OnOk};
 ghost use Rattle.engine_runs.specs.RunsState.{no_runs};
-ghost use Rattle.world.specs.World.{opening};
+ghost use Rattle.world.specs.World.{has_classes, opening};
 ghost use Rattle.world.specs.Beginning.{IsBeginning};
 ghost use Rattle.world.specs.FreezeSteps.{is_guest, is_timer};
 ghost use Rattle.world_calls.specs.declared.carried_line.CarriedLine.TheVariants as lines;
-ghost use Rattle.engine_beginning.specs.Begun.{IsComplete, IsTokenOf, MayFollow, begun, finished, with_line};
+ghost use Rattle.engine_beginning.specs.Begun.{IsComplete, IsTokenOf, MayFollow, begun, finished, has_fit_words, with_line};
 ghost use Rattle.engine_beginning.specs.Lines.{IsRanged};
 
 use ccb::QueueId;
@@ -206,6 +206,9 @@ impl<'a> Beginning<'a> {
         if ccb.number.0 <= self.transport.greatest_ccb() || ccb.number.0 > self.ccb {
             return false;
         }
+        if !has_fit_words(self.config, ccb) {
+            return false;
+        }
         match self.transport.carry(ccb) {
             Err(_) => false,
             Ok(()) => {
@@ -272,6 +275,14 @@ impl<'a> Beginning<'a> {
         runs.pass_over(run);
         Some((transport, runs))
     }
+}
+
+// Whether a CCB of the configuration may have this class and this advice.
+fn has_fit_words(config: &Config, ccb: &CarriedCcb) -> bool
+    ensures { result ≡ has_fit_words (has_classes config.now) ccb.now }
+{
+    let has_classes = config.has_classes();
+    (has_classes || ccb.class == 0) && (ccb.advice == 0 || (has_classes && !ccb.is_active))
 }
 
 // Taken without a token, or not.

@@ -1,10 +1,10 @@
 -- What is taken over from a world that may be left is one that may be taken over, where it fits.
-use Rattle.std.proofs.Common.{◌≡◌, ℕ, zero, suc, ◌+◌, ◌<◌, ◌≤◌, ◌^◌, List, [], ◌∷◌, length, map, Bool, false, cond, eqb, get_or, inl, inr, refl, ap, sym, subst, ◌∙◌, arith, replicate, rules}
+use Rattle.std.proofs.Common.{◌≡◌, ℕ, zero, suc, ◌+◌, ◌<◌, ◌≤◌, ◌^◌, List, [], ◌∷◌, length, map, Bool, true, false, cond, eqb, get_or, inl, inr, refl, ap, sym, subst, ◌∙◌, arith}
 use Rattle.std.specs.Prelude.{All}
 use Rattle.std.specs.List.{count_by, range_with_len}
-use Rattle.std.proofs.lemmas.Bool.{cases_Bool, cond-true, cond-false, eqb-true}
-use Rattle.std.proofs.lemmas.List.{get_or-map, length-map, length-replicate}
-use Rattle.std.proofs.lemmas.List.Elements.{All-cons, All-from_get_or, All-get_or, All-head, All-nil, All-replicate, All-tail}
+use Rattle.std.proofs.lemmas.Bool.{and_parts, cases_Bool, cond-true, cond-false, eqb-true}
+use Rattle.std.proofs.lemmas.List.{get_or-map, length-map}
+use Rattle.std.proofs.lemmas.List.Elements.{All-cons, All-from_get_or, All-get_or, All-head, All-nil, All-tail}
 use Rattle.std.proofs.lemmas.List.FromFn.{get_or-map-range_with_len, length-map-range_with_len}
 use Rattle.std.proofs.lemmas.List.Sums.{sum_by-cons}
 use Rattle.ccb.specs.Rising.{AreRising}
@@ -13,7 +13,7 @@ use Rattle.freeze_ledger.specs.Freezes.{names}
 use Rattle.world.specs.Beginning.{IsBeginning, IsCarriedCcb, IsCarriedFreeze}
 use Rattle.world.specs.Capacities.{most_openings}
 use Rattle.world.specs.Lawful.{IsLawful, IsLawfulQueue}
-use Rattle.world.specs.Limits.{AnswerLimits, CcbLimits, FreezeLimits, RunLimits}
+use Rattle.world.specs.Limits.{AnswerLimits, CcbLimits, FreezeLimits, IsPlain, RunLimits}
 use Rattle.world.specs.Lookups.{is_of}
 use Rattle.world.specs.Refusals.{is_unknown}
 use Rattle.world.specs.World.{LiveCcb, QueueSetup, Setup, World, no_queue, queue_count, queue_setup}
@@ -22,7 +22,7 @@ use Rattle.world.proofs.Steps.Moves.{ccb_key}
 use Rattle.engine_carried.specs.declared.numbering.Numbering.{Numbering}
 use Rattle.engine_carried.specs.declared.numbering.Numbering.TheVariants.{Fresh, Same}
 use Rattle.engine_carried.specs.Leaving.{left_by}
-use Rattle.engine_carried.specs.TakenOver.{Fits, ccbs_from, ccbs_under, freezes_from, freezes_under, openings_over, table_length, taken_over, words_over}
+use Rattle.engine_carried.specs.TakenOver.{Fits, are_same_words, ccbs_from, ccbs_under, freezes_from, first_words, freezes_under, keeps_words, openings_over, table_length, taken_over, words_over}
 
 -- ---- fresh numbers
 
@@ -86,9 +86,10 @@ freeze_limits Fresh old new world kept fits = record {
 }
 
 ccb_limits : (numbering : Numbering) (old new : Setup) (world : World) → CcbLimits old (left_by world) → Fits new world → CcbLimits new (taken_over numbering old new world)
-ccb_limits Same old new world kept fits = record { queues = fits.ccbs; a_queue = kept.a_queue; all = kept.all; rising = kept.rising; numbers = kept.numbers }
+ccb_limits Same old new world kept fits = record { queues = fits.ccbs; plain = fits.plain; a_queue = kept.a_queue; all = kept.all; rising = kept.rising; numbers = kept.numbers }
 ccb_limits Fresh old new world kept fits = record {
   queues = ccbs_all (λ (c : LiveCcb). c.ccb.queue.0 < queue_count new) (λ k c is. is) 1 world.transport.live fits.ccbs;
+  plain = λ without. ccbs_all IsPlain (λ k c is. is) 1 world.transport.live (fits.plain without);
   a_queue = λ queue. rw (ccbs_count (is_of queue) (λ k c. refl) 1 world.transport.live) (kept.a_queue queue);
   all = rw (ccbs_length 1 world.transport.live) kept.all;
   rising = subst (AreRising 0 (map ccb_key (ccbs_from 1 world.transport.live))) (omega arith) (ccbs_rise 0 world.transport.live);
@@ -140,20 +141,25 @@ present_words [] table all = All-nil _
 present_words (t ∷ ts) zero all = All-head AreWords t ts all
 present_words (t ∷ ts) (suc k) all = present_words ts k (All-tail AreWords t ts all)
 
-words_length : (old new : Setup) (world : World) → AnswerLimits old (left_by world) → (table : ℕ) → length (words_over old new world.runs.tables table) ≡ table_length new table
-words_length old new world kept table =
-    let same = eqb (table_length old table) (table_length new table) in
+-- a table that keeps its words has the same length in both
+pub same_length : (old new : Setup) (table : ℕ) → keeps_words old new table ≡ true → table_length old table ≡ table_length new table
+same_length old new table keeps =
+    eqb-true _ _ (and_parts (eqb (table_length old table) (table_length new table)) (are_same_words (table_length new table) (first_words old table) (first_words new table)) keeps).0
+
+words_length : (old new : Setup) (world : World) → IsLawful new → AnswerLimits old (left_by world) → (table : ℕ) → length (words_over old new world.runs.tables table) ≡ table_length new table
+words_length old new world lawful kept table =
+    let same = keeps_words old new table in
     elim (cases_Bool same) [
-      | inl equal ↦ ap (λ (t : List ℕ). length t) (cond-true same (get_or world.runs.tables table []) (replicate (table_length new table) 0) equal) ∙ (present_length old world.runs.tables table kept.lengths ∙ eqb-true _ _ equal)
-      | inr apart ↦ ap (λ (t : List ℕ). length t) (cond-false same (get_or world.runs.tables table []) (replicate (table_length new table) 0) apart) ∙ length-replicate (table_length new table) 0
+      | inl equal ↦ ap (λ (t : List ℕ). length t) (cond-true same (get_or world.runs.tables table []) (first_words new table) equal) ∙ (present_length old world.runs.tables table kept.lengths ∙ same_length old new table equal)
+      | inr apart ↦ ap (λ (t : List ℕ). length t) (cond-false same (get_or world.runs.tables table []) (first_words new table) apart) ∙ present_length new new.tables table lawful.tables.lengths
     ]
 
-words_fit : (old new : Setup) (world : World) → AnswerLimits old (left_by world) → (table : ℕ) → All (λ (w : ℕ). w < 2 ^ 64) (words_over old new world.runs.tables table)
-words_fit old new world kept table =
-    let same = eqb (table_length old table) (table_length new table) in
+words_fit : (old new : Setup) (world : World) → IsLawful new → AnswerLimits old (left_by world) → (table : ℕ) → All (λ (w : ℕ). w < 2 ^ 64) (words_over old new world.runs.tables table)
+words_fit old new world lawful kept table =
+    let same = keeps_words old new table in
     elim (cases_Bool same) [
-      | inl equal ↦ subst AreWords (sym (cond-true same (get_or world.runs.tables table []) (replicate (table_length new table) 0) equal)) (present_words world.runs.tables table kept.words)
-      | inr apart ↦ subst AreWords (sym (cond-false same (get_or world.runs.tables table []) (replicate (table_length new table) 0) apart)) (All-replicate (λ (w : ℕ). w < 2 ^ 64) (table_length new table) 0 (search rules))
+      | inl equal ↦ subst AreWords (sym (cond-true same (get_or world.runs.tables table []) (first_words new table) equal)) (present_words world.runs.tables table kept.words)
+      | inr apart ↦ subst AreWords (sym (cond-false same (get_or world.runs.tables table []) (first_words new table) apart)) (present_words new.tables table lawful.tables.words)
     ]
 
 -- a list that has these elements
@@ -181,8 +187,8 @@ answer_limits numbering old new world lawful kept =
       lengths = list_is (map (λ (t : List ℕ). length t) tables) new.limits.table_lengths
           (length-map tables (λ (t : List ℕ). length t) ∙ length-map-range_with_len (words_over old new world.runs.tables) 0 (length new.limits.table_lengths))
           (λ k below. get_or-map (λ (t : List ℕ). length t) tables k [] 0 (omega (arith, below, length-map-range_with_len (words_over old new world.runs.tables) 0 (length new.limits.table_lengths)))
-          ∙ (ap (λ (t : List ℕ). length t) (get_or-map-range_with_len (words_over old new world.runs.tables) 0 (length new.limits.table_lengths) k k [] below (omega arith)) ∙ words_length old new world kept k));
-      words = all_of_range AreWords (words_over old new world.runs.tables) [] (length new.limits.table_lengths) (λ k below. words_fit old new world kept k);
+          ∙ (ap (λ (t : List ℕ). length t) (get_or-map-range_with_len (words_over old new world.runs.tables) 0 (length new.limits.table_lengths) k k [] below (omega arith)) ∙ words_length old new world lawful kept k));
+      words = all_of_range AreWords (words_over old new world.runs.tables) [] (length new.limits.table_lengths) (λ k below. words_fit old new world lawful kept k);
       clock = kept.clock;
     }
 
@@ -190,7 +196,7 @@ answer_limits numbering old new world lawful kept =
 
 ccbs_carried : (numbering : Numbering) (ccbs : List LiveCcb) → All IsCarriedCcb ccbs → All IsCarriedCcb (ccbs_under numbering ccbs)
 ccbs_carried Same ccbs all = all
-ccbs_carried Fresh ccbs all = ccbs_all IsCarriedCcb (λ k live is. record { state = is.state; status = is.status; scsi = is.scsi; sense = is.sense; freeze = is.freeze }) 1 ccbs all
+ccbs_carried Fresh ccbs all = ccbs_all IsCarriedCcb (λ k live is. record { state = is.state; status = is.status; scsi = is.scsi; sense = is.sense; freeze = is.freeze; advice = is.advice }) 1 ccbs all
 
 freezes_under_carried : (numbering : Numbering) (setup : Setup) (freezes : List Freeze) → All (IsCarriedFreeze setup) freezes → All (IsCarriedFreeze setup) (freezes_under numbering freezes)
 freezes_under_carried Same setup freezes all = all

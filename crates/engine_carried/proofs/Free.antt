@@ -1,19 +1,22 @@
 -- What is left fits a configuration exactly if nothing is left of the queues and controllers after its last.
-use Rattle.std.proofs.Common.{◌≡◌, ℕ, ◌+◌, ◌<◌, ◌≤◌, List, [], ◌∷◌, length, Bool, true, false, cond, ◌&&◌, get_or, leb, inl, inr, refl, ap, sym, ◌∙◌, arith}
+use Rattle.std.proofs.Common.{◌≡◌, ℕ, ◌+◌, ◌<◌, ◌≤◌, List, [], ◌∷◌, length, Bool, true, false, cond, ◌&&◌, get_or, leb, inl, inr, refl, ap, sym, subst, ◌∙◌, arith}
 use Rattle.std.specs.Prelude.{All, ◌↔◌}
 use Rattle.std.specs.List.{count_by}
-use Rattle.std.proofs.lemmas.Bool.{and_from, and_left, cases_Bool, eq-eqb, eqb-true, le-leb, leb-false, leb-true, ne_eqb}
+use Rattle.std.proofs.lemmas.Bool.{and_from, and_left, cases_Bool, cases_eq, eq-eqb, eqb-true, le-leb, leb-false, leb-true, ne_eqb}
+use Rattle.std.proofs.lemmas.List.{get_or_default}
 use Rattle.std.proofs.lemmas.List.Elements.{All-cons, All-head, All-nil, All-tail}
 use Rattle.std.proofs.lemmas.List.Sums.{sum_by-cons}
 use Rattle.ccb.specs.Places.{device, index_of}
+use Rattle.ccb.specs.declared.ccb.Ccb.{Ccb}
 use Rattle.ccb.specs.declared.place.Place.{Place}
 use Rattle.ccb.specs.declared.place.Place.TheVariants.{Controller, Device}
 use Rattle.freeze_ledger.specs.declared.freeze.Freeze.{Freeze}
 use Rattle.freeze_ledger.specs.Freezes.{frozen, names}
 use Rattle.world.specs.Beginning.{IsBeginning, IsCarriedCcb}
+use Rattle.world.specs.Limits.{IsPlain}
 use Rattle.world.specs.Lookups.{active_count, is_active, is_of, is_waiting, waiting_count}
 use Rattle.world.specs.Refusals.{is_unknown}
-use Rattle.world.specs.World.{LiveCcb, Setup, Transport, World, queue_count}
+use Rattle.world.specs.World.{LiveCcb, Setup, Transport, World, has_classes, queue_count}
 use Rattle.world.specs.Flat.{flat}
 use Rattle.engine_core.specs.EngineState.{EngineState, IsRun}
 use Rattle.engine_carried.proofs.Leaving.{leaves_a_beginning}
@@ -98,13 +101,14 @@ ccb_fits old new world queues live carried below active waiting =
       | inr before ↦ leb-false _ _ before
     ]
 
-pub fits_is : (old new : Setup) (world : World) → IsBeginning old (left_by world) → QueuesAreFree world.transport (queue_count new) (queue_count old) → ControllersAreFree world.transport new.controllers old.controllers → Fits new world
-fits_is old new world begins queues controllers = record {
+pub fits_is : (old new : Setup) (world : World) → IsBeginning old (left_by world) → QueuesAreFree world.transport (queue_count new) (queue_count old) → ControllersAreFree world.transport new.controllers old.controllers → (has_classes new ≡ false → All IsPlain world.transport.live) → Fits new world
+fits_is old new world begins queues controllers plain = record {
   ccbs = λ k d below. ccb_fits old new world queues (get_or world.transport.live k d) (begins.ccbs k d below) (begins.limits.ccbs.queues k d below)
       (λ queue none. none_counted (λ live. is_of queue live && is_active live.state) world.transport.live none k d below)
       (λ queue none. none_counted (λ live. is_of queue live && is_waiting live.state) world.transport.live none k d below);
   freezes = λ k d below. freeze_fits old new world queues controllers (get_or world.transport.freezes k d) (begins.freezes k d below).place
       (λ place none. none_counted (names place) world.transport.freezes none k d below);
+  plain = plain;
 }
 
 -- ---- what fits leaves the others free
@@ -135,6 +139,25 @@ free_by old new world fits = (
       all_fail (names (Controller controller)) world.transport.freezes (λ k d within. names_other new (Controller controller) (get_or world.transport.freezes k d) (fits.freezes k d within) (le-leb _ _ from)),
 )
 
+-- ---- CCBs without a class and an advice
+
+-- the CCB at a place, of those of which none has a class or an advice so far
+pub plain_here : (live : List LiveCcb) (place : ℕ) (it : LiveCcb) (ccb : Ccb) → place < length live → it ≡ get_or live place it → ccb ≡ it.ccb → (ccb.class ≡ 0) × (ccb.advice ≡ 0) → (d : LiveCcb) → IsPlain (get_or live place d)
+plain_here live place it ccb below is ccb_is none d =
+    let plain : IsPlain it = subst (λ (x : Ccb). (x.class ≡ 0) × (x.advice ≡ 0)) ccb_is none in
+    subst IsPlain (is ∙ get_or_default live place it d below) plain
+
+pub is_plain_here : (live : List LiveCcb) (place : ℕ) (it : LiveCcb) (ccb : Ccb) → it ≡ get_or live place it → ccb ≡ it.ccb → IsPlain (get_or live place it) → (ccb.class ≡ 0) × (ccb.advice ≡ 0)
+is_plain_here live place it ccb is ccb_is plain =
+    let here : IsPlain it = subst IsPlain (sym is) plain in
+    subst (λ (x : Ccb). (x.class ≡ 0) × (x.advice ≡ 0)) (sym ccb_is) here
+
+pub plain_more : (live : List LiveCcb) (place : ℕ) → ((k : ℕ) (d : LiveCcb) → k < place → IsPlain (get_or live k d)) → ((d : LiveCcb) → IsPlain (get_or live place d)) → (k : ℕ) (d : LiveCcb) → k < place + 1 → IsPlain (get_or live k d)
+plain_more live place so here k d below = elim (cases_eq k place) [
+  | inl same ↦ subst (λ (n : ℕ). IsPlain (get_or live n d)) (sym same) (here d)
+  | inr apart ↦ so k d (omega (arith, below, apart))
+]
+
 -- ---- an engine without a live run
 
 pub left_begins : (state : EngineState) → IsRun state → state.world.runs.list ≡ [] → IsBeginning state.setup (left_by state.world)
@@ -142,10 +165,10 @@ left_begins state run none = leaves_a_beginning state.setup run.lawful (flat sta
 
 pub fits_both : (old new : Setup) (world : World) (transport : Transport) (from to first end : ℕ) → IsBeginning old (left_by world) → transport ≡ world.transport
     → from ≡ queue_count new → to ≡ queue_count old → first ≡ new.controllers → end ≡ old.controllers
-    → (QueuesAreFree transport from to × ControllersAreFree transport first end) ↔ Fits new world
+    → ((QueuesAreFree transport from to × ControllersAreFree transport first end) × (has_classes new ≡ false → All IsPlain transport.live)) ↔ Fits new world
 fits_both old new world transport from to first end begins is from-is to-is first-is end-is = (
-  λ free. fits_is old new world begins (rw (← is, ← from-is, ← to-is) free.0) (rw (← is, ← first-is, ← end-is) free.1),
-  λ fits. let free = free_by old new world fits in (rw (is, from-is, to-is) free.0, rw (is, first-is, end-is) free.1),
+  λ free. fits_is old new world begins (rw (← is, ← from-is, ← to-is) free.0.0) (rw (← is, ← first-is, ← end-is) free.0.1) (subst (λ (t : Transport). has_classes new ≡ false → All IsPlain t.live) is free.1),
+  λ fits. let free = free_by old new world fits in ((rw (is, from-is, to-is) free.0, rw (is, first-is, end-is) free.1), subst (λ (t : Transport). has_classes new ≡ false → All IsPlain t.live) (sym is) fits.plain),
 )
 
 -- the same numbers by other names

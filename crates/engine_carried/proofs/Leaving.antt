@@ -8,7 +8,7 @@ use Rattle.freeze_ledger.specs.declared.freeze.Freeze.{Freeze}
 use Rattle.freeze_ledger.specs.declared.freeze.Holder.{Holder}
 use Rattle.freeze_ledger.specs.declared.freeze.Holder.TheVariants.{Guest, Run, Timer}
 use Rattle.helpers.specs.declared.limits.HelperSet.{HelperSet}
-use Rattle.helpers.specs.declared.limits.HelperSet.TheVariants.{Controllers, Queues}
+use Rattle.helpers.specs.declared.limits.HelperSet.TheVariants.{Classes, Controllers, Queues}
 use Rattle.helpers.specs.declared.table.Helper.TheVariants.{FreezeController}
 use Rattle.helpers.specs.Table.{is_there}
 use Rattle.world.specs.Beginning.{IsCarriedCcb, IsCarriedFreeze}
@@ -43,6 +43,7 @@ names_no_other setup lawful = record { queues = omega (arith, lawful.agreed); co
     by : (helpers : HelperSet) → AreUnder helpers setup.controllers setup.queues → is_there helpers FreezeController ≡ true → All (λ (queue : QueueSetup). queue.controller < setup.controllers) setup.queues
     by Queues under there = absurd (let bad : false ≡ true = there in cc)
     by Controllers under there = under.1
+    by Classes under there = under.1
 
 -- what no live run holds a timer or a guest does
 held_otherwise : (holder : Holder) → ((run : ℕ) → is_run run holder ≡ true → ⊥) → (is_timer holder || is_guest holder) ≡ true
@@ -58,7 +59,7 @@ leaves_a_beginning setup lawful xs world run none =
     record {
       limits = record {
         freezes = record { places = limits.freezes.places; a_place = limits.freezes.a_place; ledger = limits.freezes.ledger; numbered = limits.freezes.numbered; numbers = limits.freezes.numbers };
-        ccbs = record { queues = limits.ccbs.queues; a_queue = limits.ccbs.a_queue; all = limits.ccbs.all; rising = limits.ccbs.rising; numbers = limits.ccbs.numbers };
+        ccbs = record { queues = limits.ccbs.queues; plain = limits.ccbs.plain; a_queue = limits.ccbs.a_queue; all = limits.ccbs.all; rising = limits.ccbs.rising; numbers = limits.ccbs.numbers };
         runs = record { queues = limits.runs.queues; controllers = limits.runs.controllers; programs = limits.runs.programs; all = limits.runs.all; rising = limits.runs.rising; numbers = limits.runs.numbers };
         answers = record { queues = limits.answers.queues; openings = limits.answers.openings; lengths = limits.answers.lengths; words = limits.answers.words; clock = limits.answers.clock };
       };

@@ -3,7 +3,7 @@
 use Rattle.std.proofs.Common.{◌≡◌, ℕ, ◌+◌, List, [], ◌∷◌, true, false, eqb, Option, Some, None, ◌⊎◌, inl, inr, refl, ap, sym, subst, ◌∙◌}
 use Rattle.std.specs.Prelude.{IfSome}
 use Rattle.std.proofs.lemmas.Bool.{cases_Bool, cases_eq, cond-true, cond-false, ne_eqb}
-use Rattle.ccb.specs.Ccb.{completed, requeued, started}
+use Rattle.ccb.specs.Ccb.{advised, completed, requeued, started}
 use Rattle.world.specs.declared.ccb_state.CcbState.TheVariants.{Active, InRecovery, Waiting}
 use Rattle.world.specs.World.{LiveCcb, LiveRun, Setup, World, beginning, beginning_of}
 use Rattle.world.specs.Beginning.{Begins as BeginsSo, IsBeginning, IsCarriedCcb}
@@ -16,9 +16,9 @@ use Rattle.world.specs.Laws.Headline.{is_disposal, is_disposal_of}
 use Rattle.world.proofs.Lists.Found.{found_in_push, found_key, leave, leave_other, leave_same, put_other, put_same}
 use Rattle.world.proofs.Lists.Each.{all_found}
 use Rattle.world.proofs.Steps.Moves.{Begins, ccb_found, ccb_key, next_found}
-use Rattle.world_laws.proofs.Steps.Cases.{Case, asks_one, case_of, dispatches, exits, finishes_one, freezes_one, goes_on_one, reads_clock, recovers_one, recovers_unfrozen, refuses, releases_one, submits, turns_one}
+use Rattle.world_laws.proofs.Steps.Cases.{Case, asks_one, case_of, dispatches, exits, finishes_one, freezes_one, goes_on_one, reads_clock, recovers_one, recovers_unfrozen, refuses, releases_one, submits, turns_one, withdraws_one}
 use Rattle.world_laws.proofs.Steps.Calls.{Asks}
-use Rattle.world_laws.proofs.Steps.Does.{CcbDeed, ends_one, leaves_ccbs, requeues_one}
+use Rattle.world_laws.proofs.Steps.Does.{CcbDeed, advises_one, ends_one, leaves_ccbs, requeues_one}
 use Rattle.world_laws.proofs.Steps.Effects.{begins_frozen, begins_unfrozen, begun_found}
 use Rattle.world_laws.proofs.Steps.Fates.{Disposing, Fate, disposes_of_it, fate_of, goes, leaves_its_ccb, leaves_world, machine_of, same_run, stands, turned}
 use Rattle.world_laws.proofs.Steps.Running.{Executes}
@@ -162,13 +162,23 @@ asks_rests setup before event reply after lawful sound case resting it (requeues
     let named : effect.its.live.ccb.number.0 ≡ it.it.run.ccb = found_key ccb_key it.it.run.ccb before.transport.live effect.its.live effect.its.found in
     changes setup before event reply after lawful sound case resting effect.its.live new (ccb_found _ before.transport.live effect.its.live effect.its.found)
     (ap (λ (x : Reply × World). x.1.transport.live) it.answer ∙ effect.live_is)
-    (inl (record { state = inl refl; status = refl; scsi = refl; sense = refl; freeze = refl }))
+    (inl (record { state = inl refl; status = refl; scsi = refl; sense = refl; freeze = refl; advice = λ is. absurd (let bad : Waiting ≡ Active = is in cc) }))
     (λ number has apart. its_own setup before event (call (told_of it.request)) it.it number has (λ same. apart (named ∙ same)))
 asks_rests setup before event reply after lawful sound case resting it (ends_one effect) =
     let named : effect.its.live.ccb.number.0 ≡ it.it.run.ccb = found_key ccb_key it.it.run.ccb before.transport.live effect.its.live effect.its.found in
     one_gone setup before event reply after lawful sound case resting effect.its.live.ccb.number.0
     (ap (λ (x : Reply × World). x.1.transport.live) it.answer ∙ effect.live_is)
     (λ number has apart. its_own setup before event (call (told_of it.request)) it.it number has (λ same. apart (named ∙ same)))
+asks_rests setup before event reply after lawful sound case resting it (advises_one effect) =
+    let old : LiveCcb = effect.its.live in
+    let new : LiveCcb = record old { ccb = advised old.ccb it.request.arguments.first } in
+    let named : old.ccb.number.0 ≡ it.it.run.ccb = found_key ccb_key it.it.run.ccb before.transport.live old effect.its.found in
+    let has : HasRun before old.ccb.number.0 = record { number = it.it.number; run = it.it.run; found = it.it.found; ccb_is = sym named; fresh = effect.its.fresh } in
+    let calm = calm_by before event (call (told_of it.request)) it.it effect.calm in
+    changes setup before event reply after lawful sound case resting old new (ccb_found _ before.transport.live old effect.its.found)
+    (ap (λ (x : Reply × World). x.1.transport.live) it.answer ∙ effect.live_is)
+    (inr (keeps_run setup before event reply after lawful sound old.ccb.number.0 has (calm has.number) (fate_of setup before event reply after has.number has.run lawful sound.kept sound.held has.found case)))
+    (λ number other apart. calm other.number)
 
 -- ---- each kind of step
 
@@ -179,15 +189,18 @@ case_rests setup before event reply after lawful sound resting case (submits it)
     let calm = idle_is_calm event (λ run. ap (instruction_of run) it.event_is) in
     elim (found_in_push ccb_key number before.transport.live _ live (sym (ap (λ (w : World). ccb_of number w.transport.live) it.after_is) ∙ found)) [
       | inl there ↦ stays setup before event reply after lawful sound case resting number live there (λ has. calm has.number)
-      | inr is ↦ inl (subst IsCarriedCcb (sym is.0) (record { state = inl refl; status = refl; scsi = refl; sense = refl; freeze = refl }))
+      | inr is ↦ inl (subst IsCarriedCcb (sym is.0) (record { state = inl refl; status = refl; scsi = refl; sense = refl; freeze = refl; advice = λ _. refl }))
     ]
 case_rests setup before event reply after lawful sound resting case (dispatches it) =
     let next = next_found it.queue.0 before.transport.live before.transport.greatest_ccb it.next sound.kept.ccbs.rising it.next_is in
     let was = was_waiting setup before sound resting it.next next.found next.waits in
     changes setup before event reply after lawful sound case resting it.next (record { ccb = started it.next.ccb; state = Active }) next.found (ap (λ (w : World). w.transport.live) it.after_is)
-    (inl (record { state = inr refl; status = was.status; scsi = was.scsi; sense = was.sense; freeze = was.freeze }))
+    (inl (record { state = inr refl; status = was.status; scsi = was.scsi; sense = was.sense; freeze = was.freeze; advice = λ _. refl }))
     (λ number has apart. idle_is_calm event (λ run. ap (instruction_of run) it.event_is) has.number)
 case_rests setup before event reply after lawful sound resting case (finishes_one it) =
+    one_gone setup before event reply after lawful sound case resting it.live.ccb.number.0 (ap (λ (w : World). w.transport.live) it.after_is)
+    (λ number has apart. idle_is_calm event (λ run. ap (instruction_of run) it.event_is) has.number)
+case_rests setup before event reply after lawful sound resting case (withdraws_one it) =
     one_gone setup before event reply after lawful sound case resting it.live.ccb.number.0 (ap (λ (w : World). w.transport.live) it.after_is)
     (λ number has apart. idle_is_calm event (λ run. ap (instruction_of run) it.event_is) has.number)
 case_rests setup before event reply after lawful sound resting case (recovers_one it) =

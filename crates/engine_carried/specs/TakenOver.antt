@@ -1,17 +1,19 @@
 -- What an engine takes over from the one before it, when that one may be followed, and how numbers go on.
-use Rattle.std.specs.Prelude.{◌≡◌, ℕ, ◌+◌, ◌<◌, ◌==◌, if◌then◌else◌, false, List, [], ◌∷◌, length, map, slice_index_or, All}
+use Rattle.std.specs.Prelude.{◌≡◌, ℕ, zero, suc, ◌+◌, ◌<◌, ◌==◌, ◌&&◌, if◌then◌else◌, Bool, true, false, List, [], ◌∷◌, length, map, slice_index, slice_index_or, All}
 use Rattle.std.specs.List.{range_with_len}
 use Rattle.freeze_ledger.specs.declared.freeze.Freeze.{Freeze}
-use Rattle.table_store.specs.Tables.{zero_table}
+use Rattle.world.specs.Limits.{IsPlain}
 use Rattle.world.specs.Refusals.{is_unknown}
-use Rattle.world.specs.World.{LiveCcb, Setup, World, queue_count, queue_setup}
+use Rattle.world.specs.World.{LiveCcb, Setup, World, has_classes, queue_count, queue_setup}
 use Rattle.engine_carried.specs.declared.numbering.Numbering.{Numbering}
 use Rattle.engine_carried.specs.declared.numbering.Numbering.TheVariants.{Fresh, Same}
 
--- Each queue that a live CCB is of, and each queue and controller that a freeze is of, is one of the setup's.
+-- Each queue that a live CCB is of, and each queue and controller that a freeze is of, is one of the setup's; and if the setup's CCBs
+-- have no class, none has a class or an advice.
 pub record Fits (setup : Setup) (world : World) : Type 0 where
   pub ccbs : All (λ live. live.ccb.queue.0 < queue_count setup) world.transport.live
   pub freezes : All (λ freeze. is_unknown setup freeze.place ≡ false) world.transport.freezes
+  pub plain : has_classes setup ≡ false → All IsPlain world.transport.live
 
 -- a queue keeps its present openings if both setups give it the same number, and has that of the new one else
 abbrev pub openings_over : Setup → Setup → List ℕ → ℕ → ℕ
@@ -24,10 +26,23 @@ openings_over old new present queue =
 abbrev pub table_length : Setup → ℕ → ℕ
 table_length setup table = slice_index_or setup.limits.table_lengths table 0
 
--- a table keeps its words if both setups give it the same length, and is zero else
+-- the words with which a table begins, none if there is no such table
+abbrev pub first_words : Setup → ℕ → List ℕ
+first_words setup table = slice_index_or setup.tables table []
+
+-- the first so many words are the same
+abbrev pub are_same_words : ℕ → List ℕ → List ℕ → Bool
+are_same_words zero one other = true
+are_same_words (suc n) one other = are_same_words n one other && slice_index one n == slice_index other n
+
+-- both setups give the table the same length and the same first words
+abbrev pub keeps_words : Setup → Setup → ℕ → Bool
+keeps_words old new table =
+    table_length old table == table_length new table && are_same_words (table_length new table) (first_words old table) (first_words new table)
+
+-- then a table keeps its words, and begins with those of the new setup else
 abbrev pub words_over : Setup → Setup → List (List ℕ) → ℕ → List ℕ
-words_over old new present table =
-    if table_length old table == table_length new table then slice_index_or present table [] else zero_table (table_length new table)
+words_over old new present table = if keeps_words old new table then slice_index_or present table [] else first_words new table
 
 -- these CCBs in their order, under the numbers from this one on
 abbrev pub ccbs_from : ℕ → List LiveCcb → List LiveCcb

@@ -31,8 +31,8 @@ pub(crate) fn add_ccbs(
     Ok(())
 }
 
-// Returns the CCB at this place, from 0.
-fn ccb_at(transport: &Transport, place: u32) -> LiveCcb
+/// Returns the CCB at this place, from 0.
+pub(crate) fn ccb_at(transport: &Transport, place: u32) -> LiveCcb
     requires { place < length transport.now.live }
     ensures { result ≡ slice_index_or transport.now.live place result }
 {
@@ -52,7 +52,9 @@ fn ccb_line(live: &LiveCcb, number: u32) -> CarriedLine
         queue: ccb.queue,
         priority: ccb.priority,
         retries: ccb.retries,
+        class: ccb.class,
         attempts: ccb.attempts,
+        advice: ccb.advice,
         is_active: live.is_active(),
     })
 }

@@ -1,10 +1,10 @@
 // The words of the tables of another configuration. It relies on `engine_runs` for the words, and on `engine_config` for how long the tables
-// are.
+// are, and with which words they begin.
 
 ghost use Rattle.std.specs.Prelude.{◌≡◌, ◌++◌, [], ◌∷◌, length, map, slice_index_or, IfOk, OnOk};
 ghost use Rattle.std.specs.List.{range_with_len};
 ghost use Rattle.engine_beginning.specs.Lines.{tables_from, words_from};
-ghost use Rattle.engine_carried.specs.TakenOver.{table_length, words_over};
+ghost use Rattle.engine_carried.specs.TakenOver.{are_same_words, first_words, keeps_words, table_length, words_over};
 
 use crate::added::add;
 use engine_config::Config;
@@ -12,14 +12,15 @@ use engine_runs::Runs;
 use std::alloc::AllocError;
 use world_calls::CarriedLine;
 
-/// Adds a line for each word that is not 0, of each table that keeps its words.
+/// Adds a line for each word that is not 0, of each table: its present words if it keeps them, and those with which it begins else.
 pub(crate) fn add_words(
     lines: &mut Vec<CarriedLine>,
     runs: &Runs,
     old: &Config,
     new: &Config,
 ) -> Result<(), AllocError>
-    requires { map (λ table. length table) runs.now.runs.tables ≡ old.now.limits.table_lengths }
+    requires present { map (λ table. length table) runs.now.runs.tables ≡ old.now.limits.table_lengths }
+    requires first { map (λ table. length table) new.now.tables ≡ new.now.limits.table_lengths }
     ensures { OnOk result (lines.new.items ≡ lines.old.items ++ tables_from 0 (map (words_over old.now new.now runs.now.runs.tables) (range_with_len 0 (length new.now.limits.table_lengths)))) }
 {
     for table in 0..new.table_lengths().len() {
@@ -48,15 +49,37 @@ fn add_table(
     new: &Config,
     table: u32,
 ) -> Result<(), AllocError>
-    requires { map (λ table. length table) runs.now.runs.tables ≡ old.now.limits.table_lengths }
+    requires present { map (λ table. length table) runs.now.runs.tables ≡ old.now.limits.table_lengths }
+    requires first { map (λ table. length table) new.now.tables ≡ new.now.limits.table_lengths }
     ensures { OnOk result (lines.new.items ≡ lines.old.items ++ words_from table 0 (words_over old.now new.now runs.now.runs.tables table)) }
 {
-    let words = table_length(old, table);
-    if words != table_length(new, table) {
-        return Ok(());
+    let words = table_length(new, table);
+    if keeps_words(old, new, table) {
+        add_kept(lines, runs, table, words)
+    } else {
+        add_first(lines, new, table, words)
     }
-    add_kept(lines, runs, table, words)?;
-    Ok(())
+}
+
+// Returns whether both configurations give the table the same length and the same first words.
+fn keeps_words(old: &Config, new: &Config, table: u32) -> bool
+    ensures { result ≡ keeps_words old.now new.now table }
+{
+    let words = table_length(new, table);
+    table_length(old, table) == words && begins_alike(old, new, table, words)
+}
+
+// Returns whether the table begins with the same words in both, of which there are so many.
+fn begins_alike(old: &Config, new: &Config, table: u32, words: u16) -> bool
+    ensures { result ≡ are_same_words words (first_words old.now table) (first_words new.now table) }
+{
+    let number = table as usize;
+    for index in 0..usize::from(words) {
+        if old.first_word(number, index) != new.first_word(number, index) {
+            return false;
+        }
+    }
+    true
 }
 
 // Returns how many words a table of the configuration has, 0 if there is no such table.
@@ -82,6 +105,23 @@ fn add_kept(
 {
     for index in 0..u32::from(words) {
         let word = runs.table_get(table as usize, index as usize);
+        add_word(lines, table, index, word)?;
+    }
+    Ok(())
+}
+
+// Adds the lines of the words with which a table of the configuration begins, of which there are so many.
+fn add_first(
+    lines: &mut Vec<CarriedLine>,
+    new: &Config,
+    table: u32,
+    words: u16,
+) -> Result<(), AllocError>
+    requires { length (first_words new.now table) ≡ words }
+    ensures { OnOk result (lines.new.items ≡ lines.old.items ++ words_from table 0 (first_words new.now table)) }
+{
+    for index in 0..u32::from(words) {
+        let word = new.first_word(table as usize, index as usize);
         add_word(lines, table, index, word)?;
     }
     Ok(())

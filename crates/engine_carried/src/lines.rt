@@ -84,6 +84,8 @@ fn add_lines(
     requires runs { AreRunsLeft old.now runs.now.runs }
     ensures { OnOk result (lines.new.items ≡ lines.old.items ++ lines_of (taken_over numbering old.now new.now (world_left transport.now runs.now.runs))) }
 {
+    // It is called for what it says of the configuration.
+    let _ = new.queues();
     add(lines, numbers_line(transport, runs, numbering))?;
     add(lines, clock_line(transport))?;
     add_openings(lines, transport, old, new)?;

@@ -1,2 +1,3 @@
 pub mod Setups
 pub mod Programs
+pub mod Firsts

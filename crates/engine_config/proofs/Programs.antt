@@ -32,11 +32,11 @@ pub all_given : (queues : List Given) (i : ℕ) (programs : List (Arc Accepted G
 all_given queues i programs past before = subst (λ (qs : List Given). AreProgramsGiven qs programs) (take_all i queues past) before
 
 -- those of the queues as they are given are those of the setup
-of_setup : (limits : HelperLimits) (controllers : ℕ) (queues : List Given) (programs : List (Arc Accepted Global)) → AreProgramsGiven queues programs
-    → AreProgramsOf (setup_of limits controllers queues) programs
-of_setup limits controllers queues programs given = given ∙ sym (map-map (λ (q : QueueSetup). q.program) queue_of queues)
+of_setup : (limits : HelperLimits) (controllers : ℕ) (firsts : List (List ℕ)) (queues : List Given) (programs : List (Arc Accepted Global)) → AreProgramsGiven queues programs
+    → AreProgramsOf (setup_of limits controllers firsts queues) programs
+of_setup limits controllers firsts queues programs given = given ∙ sym (map-map (λ (q : QueueSetup). q.program) queue_of queues)
 
-pub all_of_setup : {E : Type 0} (limits : HelperLimits) (controllers : ℕ) (queues : List Given) (made : Result (Vec (Arc Accepted Global) Global) E)
-    → IfOk made (λ programs. AreProgramsGiven queues programs.items) → IfOk made (λ programs. AreProgramsOf (setup_of limits controllers queues) programs.items)
-all_of_setup limits controllers queues (Ok programs) given = of_setup limits controllers queues programs.items given
-all_of_setup limits controllers queues (Err fault) given = tt
+pub all_of_setup : {E : Type 0} (limits : HelperLimits) (controllers : ℕ) (firsts : List (List ℕ)) (queues : List Given) (made : Result (Vec (Arc Accepted Global) Global) E)
+    → IfOk made (λ programs. AreProgramsGiven queues programs.items) → IfOk made (λ programs. AreProgramsOf (setup_of limits controllers firsts queues) programs.items)
+all_of_setup limits controllers firsts queues (Ok programs) given = of_setup limits controllers firsts queues programs.items given
+all_of_setup limits controllers firsts queues (Err fault) given = tt

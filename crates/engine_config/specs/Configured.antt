@@ -1,11 +1,13 @@
 -- What a configuration may be, and the setup that it is.
-use Rattle.std.specs.Prelude.{◌≡◌, ℕ, ◌≤◌, List, length, map, All, None}
+use Rattle.std.specs.Prelude.{◌≡◌, ℕ, ◌<◌, ◌≤◌, ◌^◌, List, [], length, map, All, None, slice_index, slice_index_or}
 use Rattle.std.specs.Global.{Global}
 use Rattle.std.specs.Arc.{arc_value}
 use Rattle.std.specs.declared.sync.Arc.{Arc}
+use Rattle.std.specs.declared.vec.Vec.{Vec}
 use Rattle.helpers.specs.declared.limits.HelperLimits.{HelperLimits}
 use Rattle.bpf_accepted.specs.declared.accepted.Accepted.{Accepted}
 use Rattle.bpf_accepted.specs.Verdict.{Verdict, IsAccepted}
+use Rattle.table_store.specs.Tables.{tables_with}
 use Rattle.world.specs.Capacities.{most_openings, most_queues, most_tables, most_words}
 use Rattle.world.specs.World.{QueueSetup, Setup}
 use Rattle.world.specs.Lawful.{AreUnder, IsLawful}
@@ -30,8 +32,23 @@ under_of queue = record { openings = queue.0; controller = queue.1; verdict = ar
 abbrev pub queue_of : Given → QueueSetup
 queue_of given = record { openings = given.openings; controller = given.controller; program = given.verdict.program; budget = given.verdict.budget }
 
-abbrev pub setup_of : HelperLimits → ℕ → List Given → Setup
-setup_of limits controllers given = record { limits = limits; controllers = controllers; queues = map queue_of given; carried = None }
+-- Each table begins with the words of its list, if there is one.
+abbrev pub setup_of : HelperLimits → ℕ → List (List ℕ) → List Given → Setup
+setup_of limits controllers firsts given =
+    record { limits = limits; controllers = controllers; tables = tables_with limits.table_lengths firsts; queues = map queue_of given; carried = None }
+
+-- the lists of first words as they are given
+abbrev pub firsts_of : List (Vec ℕ Global) → List (List ℕ)
+firsts_of lists = map (λ (words : Vec ℕ Global). words.items) lists
+
+-- There are at most as many lists of first words as there are tables, and each is at most as long as its table.
+pub record HaveRoom (lengths : List ℕ) (firsts : List (List ℕ)) : Type 0 where
+  pub lists : length firsts ≤ length lengths
+  pub words : (table : ℕ) → table < length firsts → length (slice_index_or firsts table []) ≤ slice_index lengths table
+
+-- words are below 2^64
+abbrev pub AreWords : List (List ℕ) → Type 0
+AreWords firsts = All (λ words. All (λ word. word < 2 ^ 64) words) firsts
 
 -- at least one opening, and a program that was accepted under these limits
 abbrev pub IsGivenUnder : HelperLimits → Given → Type 0
@@ -52,8 +69,9 @@ pub record IsConfigured (limits : HelperLimits) (controllers : ℕ) (given : Lis
   pub queues : All (IsGivenUnder limits) given
 
 -- what a configuration keeps
-pub record KeepsConfig (limits : HelperLimits) (controllers : ℕ) (given : List Given) : Type 0 where
-  pub lawful : IsLawful (setup_of limits controllers given)
+pub record KeepsConfig (limits : HelperLimits) (controllers : ℕ) (firsts : List (List ℕ)) (given : List Given) : Type 0 where
+  pub lawful : IsLawful (setup_of limits controllers firsts given)
+  pub room : HaveRoom limits.table_lengths firsts
   pub queues : All (IsGivenUnder limits) given
   pub known : All IsKnown given
 

@@ -1,6 +1,6 @@
 -- An engine that follows no other, before its first event.
 use Rattle.std.proofs.Common.{◌≡◌, ℕ, ◌≤◌, List, [], map, Option, Some, None, refl, ap, sym, subst, ◌∙◌, arith}
-use Rattle.engine_runs.specs.RunsState.{RunsState, no_runs, tokens_of}
+use Rattle.engine_runs.specs.RunsState.{RunsState, opened_runs, tokens_of}
 use Rattle.world.specs.World.{LiveRun, Setup, Transport, World, beginning, beginning_of, opening}
 use Rattle.world.specs.Beginning.{Begins, IsBeginning}
 use Rattle.world.specs.Lawful.{IsLawful}
@@ -14,17 +14,17 @@ use Rattle.engine_core.specs.Settings.{begun_with, setup_over}
 abbrev fields_of : Setup → Option World → World
 fields_of setup carried = record { transport = (opening setup).transport; runs = (opening setup).runs; ended = (beginning_of setup carried).ended }
 
-pub world_alone : (setup : Setup) (transport : Transport) (runs : RunsState) → setup.carried ≡ None → transport ≡ (opening setup).transport → runs ≡ no_runs setup.limits.table_lengths → world_of setup [] transport runs.runs ≡ opening setup
+pub world_alone : (setup : Setup) (transport : Transport) (runs : RunsState) → setup.carried ≡ None → transport ≡ (opening setup).transport → runs ≡ opened_runs setup.tables → world_of setup [] transport runs.runs ≡ opening setup
 world_alone setup transport runs alone first second =
     ap (λ (t : Transport). world_of setup [] t runs.runs) first
     ∙ (ap (λ (r : RunsState). world_of setup [] (opening setup).transport r.runs) second
     ∙ ap (fields_of setup) alone)
 
 -- they are those before the first event
-pub begun_alone : (setup : Setup) (transport : Transport) (runs : RunsState) → setup.carried ≡ None → transport ≡ (opening setup).transport → runs ≡ no_runs setup.limits.table_lengths → world_of setup [] transport runs.runs ≡ beginning setup
+pub begun_alone : (setup : Setup) (transport : Transport) (runs : RunsState) → setup.carried ≡ None → transport ≡ (opening setup).transport → runs ≡ opened_runs setup.tables → world_of setup [] transport runs.runs ≡ beginning setup
 begun_alone setup transport runs alone first second = world_alone setup transport runs alone first second ∙ sym (ap (beginning_of setup) alone)
 
-pub keeps_alone : (setup : Setup) (transport : Transport) (runs : RunsState) → IsLawful setup → Begins setup → setup.carried ≡ None → transport ≡ (opening setup).transport → runs ≡ no_runs setup.limits.table_lengths → KeepsEngine setup [] transport runs
+pub keeps_alone : (setup : Setup) (transport : Transport) (runs : RunsState) → IsLawful setup → Begins setup → setup.carried ≡ None → transport ≡ (opening setup).transport → runs ≡ opened_runs setup.tables → KeepsEngine setup [] transport runs
 keeps_alone setup transport runs lawful begins alone first second = record {
   run = record { lawful = lawful; run = (begins, sym (begun_alone setup transport runs alone first second)) };
   tokens = rw second refl;
@@ -34,7 +34,7 @@ keeps_alone setup transport runs lawful begins alone first second = record {
 abbrev state_begun : Setup → World → EngineState
 state_begun setup world = record { setup = setup; history = []; taken = 0; world = world }
 
-pub seen_alone : (setup : Setup) (transport : Transport) (runs : RunsState) → setup.carried ≡ None → transport ≡ (opening setup).transport → runs ≡ no_runs setup.limits.table_lengths → state_begun setup (world_of setup [] transport runs.runs) ≡ opened setup
+pub seen_alone : (setup : Setup) (transport : Transport) (runs : RunsState) → setup.carried ≡ None → transport ≡ (opening setup).transport → runs ≡ opened_runs setup.tables → state_begun setup (world_of setup [] transport runs.runs) ≡ opened setup
 seen_alone setup transport runs alone first second = ap (state_begun setup) (world_alone setup transport runs alone first second)
 
 -- ---- the same of an engine's own setup, over nothing
@@ -43,12 +43,12 @@ pub same : (config : Setup) (over : Option World) → config.carried ≡ None �
 same config over alone none = ap (setup_over config) (none ∙ sym alone)
 
 pub keeps_opened : (config : Setup) (over : Option World) (transport : Transport) (runs : RunsState) → IsLawful config → Begins config → config.carried ≡ None → over ≡ None
-    → transport ≡ (opening config).transport → runs ≡ no_runs config.limits.table_lengths → KeepsEngine (setup_over config over) [] transport runs
+    → transport ≡ (opening config).transport → runs ≡ opened_runs config.tables → KeepsEngine (setup_over config over) [] transport runs
 keeps_opened config over transport runs lawful begins alone none first second =
     subst (λ (s : Setup). KeepsEngine s [] transport runs) (sym (same config over alone none)) (keeps_alone config transport runs lawful begins alone first second)
 
 pub seen_opened : (config : Setup) (over : Option World) (transport : Transport) (runs : RunsState) → config.carried ≡ None → over ≡ None
-    → transport ≡ (opening config).transport → runs ≡ no_runs config.limits.table_lengths
+    → transport ≡ (opening config).transport → runs ≡ opened_runs config.tables
     → state_begun (setup_over config over) (world_of (setup_over config over) [] transport runs.runs) ≡ opened config
 seen_opened config over transport runs alone none first second =
     ap (λ (s : Setup). state_begun s (world_of s [] transport runs.runs)) (same config over alone none) ∙ seen_alone config transport runs alone first second

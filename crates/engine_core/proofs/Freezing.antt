@@ -7,7 +7,7 @@ use Rattle.freeze_ledger.specs.declared.freeze.Freeze.{Freeze}
 use Rattle.ccb.specs.declared.place.Place.{Place}
 use Rattle.ccb.specs.Places.{index_of, places_of}
 use Rattle.helpers.specs.declared.limits.HelperSet.{HelperSet}
-use Rattle.helpers.specs.declared.limits.HelperSet.TheVariants.{Controllers, Queues}
+use Rattle.helpers.specs.declared.limits.HelperSet.TheVariants.{Controllers, Queues, Classes}
 use Rattle.helpers.specs.declared.table.HelperEffect.TheVariants as effects
 use Rattle.helpers.specs.declared.request.Request.{Request}
 use Rattle.helpers.specs.Table.{row_of}
@@ -51,6 +51,9 @@ controller_below Queues controllers queues queue under known =
     let none = All-get_or (λ (q : QueueSetup). q.controller ≡ 0) queues queue no_queue known under.1 in
     omega (arith, none)
 controller_below Controllers controllers queues queue under known =
+    let below = All-get_or (λ (q : QueueSetup). q.controller < controllers) queues queue no_queue known under.1 in
+    omega (arith, below, under.0.1)
+controller_below Classes controllers queues queue under known =
     let below = All-get_or (λ (q : QueueSetup). q.controller < controllers) queues queue no_queue known under.1 in
     omega (arith, below, under.0.1)
 

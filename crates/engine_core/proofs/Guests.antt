@@ -21,7 +21,7 @@ use Rattle.world.proofs.Steps.Moves.{KeepsLists}
 use Rattle.world_laws.proofs.Kept.{step_keeps}
 use Rattle.world_laws.proofs.Steps.Does.{FreezeDeed, leaves_freezes, takes_one, gives_one_back, hands_one_over}
 use Rattle.world_laws.proofs.Steps.Calls.{Asks}
-use Rattle.world_laws.proofs.Steps.Cases.{Case, case_of, refuses, submits, dispatches, finishes_one, recovers_one, recovers_unfrozen, freezes_one, releases_one, reads_clock, turns_one, goes_on_one, asks_one, exits}
+use Rattle.world_laws.proofs.Steps.Cases.{Case, case_of, refuses, submits, dispatches, finishes_one, withdraws_one, recovers_one, recovers_unfrozen, freezes_one, releases_one, reads_clock, turns_one, goes_on_one, asks_one, exits}
 use Rattle.world_calls.specs.declared.record.StoppedAt.{StoppedAt}
 use Rattle.engine_core.specs.ByNumber.{AreTokens, guests_of}
 
@@ -130,6 +130,7 @@ case_keeps setup before event reply after lists others (refuses c) = ap (λ (w :
 case_keeps setup before event reply after lists others (submits c) = ap (λ (w : World). guests_of w.transport.freezes) c.after_is
 case_keeps setup before event reply after lists others (dispatches c) = ap (λ (w : World). guests_of w.transport.freezes) c.after_is
 case_keeps setup before event reply after lists others (finishes_one c) = ap (λ (w : World). guests_of w.transport.freezes) c.after_is
+case_keeps setup before event reply after lists others (withdraws_one c) = ap (λ (w : World). guests_of w.transport.freezes) c.after_is
 case_keeps setup before event reply after lists others (recovers_one c) =
     ap (λ (x : Reply × World). guests_of x.1.transport.freezes) c.starts_is ∙ other_entered before.transport.freezes _ refl
 case_keeps setup before event reply after lists others (recovers_unfrozen c) = ap (λ (x : Reply × World). guests_of x.1.transport.freezes) c.starts_is

@@ -1,26 +1,27 @@
 -- An engine that keeps no history: what stands behind it, and what may follow that.
-use Rattle.std.proofs.Common.{◌≡◌, ℕ, zero, suc, ◌+◌, ◌<◌, ◌≤◌, List, [], ◌∷◌, ◌++◌, true, false, replicate, length, drop, Option, Some, None, inl, inr, refl, ap, sym, subst, ◌∙◌, arith}
+use Rattle.std.proofs.Common.{◌≡◌, ℕ, zero, suc, ◌+◌, ◌<◌, ◌≤◌, List, [], ◌∷◌, ◌++◌, Bool, true, false, not, cond, replicate, length, drop, Option, Some, None, inl, inr, refl, ap, sym, subst, ◌∙◌, arith}
 use Rattle.std.specs.List.{find}
 use Rattle.std.specs.Option.{option_map}
 use Rattle.std.proofs.lemmas.Bool.{cases_Bool, cond-false, cond-true}
 use Rattle.std.proofs.lemmas.List.{drop_all, drop_more, get_or_default}
 use Rattle.ccb.specs.Completion.{Outcome, IsCompletion}
+use Rattle.ccb.specs.declared.QueueId.{QueueId}
 use Rattle.freeze_ledger.specs.declared.freeze.Freeze.{Freeze}
 use Rattle.freeze_ledger.specs.Freezes.{entry_of}
-use Rattle.engine_runs.specs.RunsState.{RunsState, no_runs}
+use Rattle.engine_runs.specs.RunsState.{RunsState, opened_runs}
 use Rattle.engine_runs.specs.RunPlaces.{HasRunAt}
 use Rattle.helpers.specs.declared.limits.HelperLimits.{HelperLimits}
 use Rattle.bpf_semantics.specs.MachineState.{MachineState}
 use Rattle.bpf_semantics.specs.declared.stop.Stop.{Stop}
 use Rattle.bpf_semantics.specs.declared.stop.Stop.TheVariants.{Helper, Exit}
 use Rattle.world_calls.specs.declared.call.Call.{Call}
-use Rattle.world_calls.specs.declared.call.Call.TheVariants.{Complete, GuestRelease, Park}
+use Rattle.world_calls.specs.declared.call.Call.TheVariants.{Complete, GuestRelease, Park, Submit}
 use Rattle.world_calls.specs.declared.call_answer.CallAnswer.{CallAnswer}
 use Rattle.world_calls.specs.declared.call_answer.CallAnswer.TheVariants as answers
 use Rattle.world_calls.specs.declared.record.StoppedAt.{StoppedAt}
 use Rattle.world_calls.specs.declared.record.Record.{Record}
 use Rattle.world_calls.specs.declared.record.Record.TheVariants.{Called, Advance}
-use Rattle.world.specs.World.{Setup, LiveRun, Transport, World, beginning, opening}
+use Rattle.world.specs.World.{Setup, LiveRun, Transport, World, beginning, class_fits, class_in, class_kept, has_classes, opening}
 use Rattle.world.specs.Beginning.{Begins, IsBeginning}
 use Rattle.world.specs.Lawful.{IsLawful}
 use Rattle.world.specs.Lookups.{run_of}
@@ -63,7 +64,7 @@ behind_kept setup records transport runs kept = record { world = _; leads = kept
 
 -- nothing is behind an engine that was opened
 pub keeps_opening : (config : Setup) (over : Option World) (transport : Transport) (runs : RunsState) (tokens : List Freeze) → IsLawful config → Begins config → config.carried ≡ None → over ≡ None
-    → transport ≡ (opening config).transport → runs ≡ no_runs config.limits.table_lengths → tokens ≡ [] → KeepsNumbered (setup_over config over) transport runs tokens
+    → transport ≡ (opening config).transport → runs ≡ opened_runs config.tables → tokens ≡ [] → KeepsNumbered (setup_over config over) transport runs tokens
 keeps_opening config over transport runs tokens lawful begins alone nothing first second none =
     (([], keeps_opened config over transport runs lawful begins alone nothing first second), none ∙ ap (λ (t : Transport). guests_of t.freezes) (sym first))
 
@@ -72,7 +73,7 @@ abbrev numbered_in : Setup → World → NumberedState
 numbered_in setup world = record { setup = setup; transport = world.transport; runs = world.runs }
 
 pub seen_opening : (config : Setup) (over : Option World) (transport : Transport) (runs : RunsState) → config.carried ≡ None → over ≡ None
-    → transport ≡ (opening config).transport → runs ≡ no_runs config.limits.table_lengths → state_of (setup_over config over) transport runs ≡ opened_numbered config
+    → transport ≡ (opening config).transport → runs ≡ opened_runs config.tables → state_of (setup_over config over) transport runs ≡ opened_numbered config
 seen_opening config over transport runs alone nothing first second =
     ap (λ (s : Setup). state_of s transport runs) (same config over alone nothing) ∙ ap (numbered_in config) (begun_alone config transport runs alone first second)
 
@@ -190,6 +191,30 @@ no_park state run answer parked = no_call state (Park run) answer (λ world is.
 -- a completion that no device reports
 pub no_completion : (state : NumberedState) (outcome : Outcome) (answer : CallAnswer) → (IsCompletion outcome → ⊥) → CannotFollow state (Called answer (Complete outcome))
 no_completion state outcome answer none = no_call state (Complete outcome) answer (λ world is. cond-false (is_completion outcome) _ None (unreported outcome none))
+
+-- a submission with a class where CCBs have none, or without one where they have one
+pub no_submission : (state : NumberedState) (queue : QueueId) (priority retries : ℕ) (class : Option ℕ) (answer : CallAnswer) → class_fits (has_classes state.setup) class ≡ false → CannotFollow state (Called answer (Submit queue priority retries class))
+no_submission state queue priority retries class answer unfit =
+    no_call state (Submit queue priority retries class) answer (λ world is. cond-false (class_fits (has_classes state.setup) class) _ None unfit)
+
+-- a class that fits is recorded as it was said
+pub class_again : (setup : Setup) (class : Option ℕ) → class_fits (has_classes setup) class ≡ true → class_kept setup (class_in class) ≡ class
+class_again setup class fit = by (has_classes setup) class fit
+  where
+    by : (has : Bool) (class : Option ℕ) → class_fits has class ≡ true → cond has (Some (class_in class)) None ≡ class
+    by true (Some class) fit = refl
+    by true None fit = absurd (let bad : false ≡ true = fit in cc)
+    by false (Some class) fit = absurd (let bad : false ≡ true = fit in cc)
+    by false None fit = refl
+
+-- whether a class fits, by what it is
+pub none_fits : (has : Bool) → not has ≡ class_fits has None
+none_fits true = refl
+none_fits false = refl
+
+pub one_fits : (has : Bool) (class : ℕ) → has ≡ class_fits has (Some class)
+one_fits true class = refl
+one_fits false class = refl
 
 -- ---- what is asked
 

@@ -1,7 +1,8 @@
 -- What the arms make of an engine's parts is what the world does: from what the tables tell of their steps.
-use Rattle.std.proofs.Common.{◌≡◌, ℕ, ◌+◌, List, [], ◌∷◌, ◌++◌, true, false, length, Result, Ok, Err, Some, refl, ap, sym, subst}
+use Rattle.std.proofs.Common.{◌≡◌, ℕ, ◌+◌, List, [], ◌∷◌, ◌++◌, Bool, true, false, not, length, Option, Result, Ok, Err, Some, None, refl, ap, sym, subst, ◌∙◌}
 use Rattle.std.specs.Borrow.{Bor}
-use Rattle.std.specs.Prelude.{Contains, OnErr, OnOk}
+use Rattle.std.specs.Prelude.{Contains, OnErr, OnOk, if◌then◌else◌, is_none}
+use Rattle.std.specs.Option.{option_map}
 use Rattle.std.proofs.lemmas.List.Elements.{Contains-push}
 use Rattle.freeze_ledger.specs.Freezes.{not_due_at, without}
 use Rattle.ccb.specs.declared.CcbId.{CcbId}
@@ -19,20 +20,27 @@ use Rattle.world_calls.specs.declared.call.Call.TheVariants as its
 use Rattle.world_calls.specs.declared.call_answer.CallAnswer.{CallAnswer}
 use Rattle.world_calls.specs.declared.call_answer.CallAnswer.TheVariants as answers
 use Rattle.ccb.specs.declared.call_refusal.CallRefusal.{CallRefusal}
-use Rattle.ccb.specs.declared.call_refusal.CallRefusal.TheVariants.{Unknown}
+use Rattle.ccb.specs.declared.call_refusal.CallRefusal.TheVariants.{NotActive, Unknown}
 use Rattle.world_calls.specs.declared.record.Record.{Record}
 use Rattle.world_calls.specs.declared.record.Record.TheVariants.{Called, Advance as AdvanceRecord}
 use Rattle.world_calls.specs.declared.record.StoppedAt.{StoppedAt}
-use Rattle.world_calls.specs.Answered.{ccb_answer, removed_answer}
-use Rattle.world.specs.World.{Transport, Setup, LiveRun, World, queue_count}
-use Rattle.world.specs.Lookups.{run_of}
+use Rattle.world_calls.specs.declared.start.Start.{Start}
+use Rattle.world_calls.specs.declared.trace.Version.{Version}
+use Rattle.world_calls.specs.declared.trace.Version.TheVariants.{One, Three, Two}
+use Rattle.world_calls.specs.Answered.{ccb_answer, removed_answer, start_answer, started_answer}
+use Rattle.world.specs.World.{LiveCcb, Transport, Setup, LiveRun, World, class_fits, class_kept, has_classes, queue_count, version_of}
+use Rattle.world.specs.Lookups.{ccb_of, is_waiting, run_of}
 use Rattle.world.specs.Event.{replies, refused}
-use Rattle.world.specs.CcbSteps.{finishes}
+use Rattle.ccb.specs.declared.cam_status.CamStatus.TheVariants.{RequestAborted}
+use Rattle.world.specs.CcbSteps.{finishes, withdraws}
 use Rattle.world.specs.FreezeSteps.{is_guest}
-use Rattle.world.specs.Step.{step_call}
-use Rattle.world.proofs.Lists.Found.{leave}
+use Rattle.world.specs.declared.ccb_state.CcbState.{CcbState}
+use Rattle.world.specs.declared.ccb_state.CcbState.TheVariants.{Active, InRecovery, Waiting}
+use Rattle.world.specs.Refusals.{waits}
+use Rattle.world.specs.Step.{is_call, step_call}
+use Rattle.world.proofs.Lists.Found.{found_key, leave}
 use Rattle.world.proofs.Steps.Moves.{ccb_key}
-use Rattle.engine_core.specs.declared.event.Event.TheVariants.{Submit, Dispatch, Complete, Advance, Clock, GuestFreeze, GuestRelease, Park, Resume}
+use Rattle.engine_core.specs.declared.event.Event.TheVariants.{Withdraw, Submit, Dispatch, Complete, Advance, Clock, GuestFreeze, GuestRelease, Park, Resume}
 use Rattle.engine_core.specs.declared.reply.Success.{Success as TheGiven}
 use Rattle.engine_core.specs.declared.reply.Success.TheVariants as given
 use Rattle.engine_core.specs.declared.reply.Reply.TheVariants.{Success, Refused}
@@ -42,7 +50,8 @@ use Rattle.engine_core.specs.Answers.{r0_of, stopped_at}
 use Rattle.engine_core.specs.EngineState.{world_of}
 use Rattle.engine_core.specs.Invariant.{HistoryHasRoom, HoldEntries, KeepsEngine}
 use Rattle.engine_core.specs.Performing.{IsPlaced, Performs, world_with}
-use Rattle.engine_core.specs.Replies.{IsAdvanced, IsGiven, ccb_reply, removed_reply, r0_given, given_advanced}
+use Rattle.engine_core.specs.Replies.{IsAdvanced, IsGiven, IsStart, answer_of, ccb_reply, given_start, removed_reply, r0_given, given_advanced, start_reply}
+use Rattle.engine_core.specs.Withdrawing.{IsRefusedWithdrawal, MayWithdraw}
 use Rattle.engine_core.specs.TakingOver.{Becomes, LeadsBy}
 use Rattle.engine_core.proofs.Going.{goes_out, is_admitted}
 use Rattle.engine_core.proofs.OneMore.{once, by_transport}
@@ -58,26 +67,16 @@ StepsOf setup transport more call answer = (world : World) → queue_count setup
 abbrev Steps : Transport → Transport → Call → CallAnswer → Type 0
 Steps transport more call answer = (setup : Setup) → StepsOf setup transport more call answer
 
-pub submits : (queue : QueueId) (priority retries : ℕ) (transport more : Transport) (answer : Result CcbId CallRefusal) → Steps transport more (its.Submit queue priority retries) (ccb_answer answer) → more.freezes ≡ transport.freezes → (setup : Setup) (runs : RunsState) → Performs setup (Submit queue priority retries) transport runs more runs (ccb_reply answer) (Called (ccb_answer answer) (its.Submit queue priority retries))
-submits queue priority retries transport more (Ok ccb) step same setup runs = record {
-  is = refl;
-  fits = tt;
-  leads = λ history kept. by_transport setup history transport more runs _ _ (step setup) kept;
-  tokens = λ history kept. same_freezes transport.freezes more.freezes runs kept.tokens same;
-  gives = λ before after. tt;
-  room = tt;
-}
-submits queue priority retries transport more (Err refusal) step same setup runs = record {
-  is = refl;
-  fits = refl;
-  leads = λ history kept. by_transport setup history transport more runs _ _ (step setup) kept;
-  tokens = λ history kept. same_freezes transport.freezes more.freezes runs kept.tokens same;
-  gives = λ before after. tt;
-  room = tt;
-}
+-- a submission may be asked with the class that is recorded
+pub may_submit : (setup : Setup) (queue : QueueId) (priority retries class : ℕ) → is_call setup (its.Submit queue priority retries (class_kept setup class)) ≡ true
+may_submit setup queue priority retries class = fits (has_classes setup)
+  where
+    fits : (has : Bool) → class_fits has (if has then Some class else None) ≡ true
+    fits true = refl
+    fits false = refl
 
-pub dispatches : (setup : Setup) (queue : QueueId) (transport more : Transport) (answer : Result CcbId CallRefusal) → StepsOf setup transport more (its.Dispatch queue) (ccb_answer answer) → more.freezes ≡ transport.freezes → (runs : RunsState) → Performs setup (Dispatch queue) transport runs more runs (ccb_reply answer) (Called (ccb_answer answer) (its.Dispatch queue))
-dispatches setup queue transport more (Ok ccb) step same runs = record {
+pub submits : (setup : Setup) (queue : QueueId) (priority retries class : ℕ) (transport more : Transport) (answer : Result CcbId CallRefusal) → StepsOf setup transport more (its.Submit queue priority retries (class_kept setup class)) (ccb_answer answer) → more.freezes ≡ transport.freezes → (runs : RunsState) → Performs setup (Submit queue priority retries class) transport runs more runs (ccb_reply answer) (Called (ccb_answer answer) (its.Submit queue priority retries (class_kept setup class)))
+submits setup queue priority retries class transport more (Ok ccb) step same runs = record {
   is = refl;
   fits = tt;
   leads = λ history kept. by_transport setup history transport more runs _ _ step kept;
@@ -85,6 +84,40 @@ dispatches setup queue transport more (Ok ccb) step same runs = record {
   gives = λ before after. tt;
   room = tt;
 }
+submits setup queue priority retries class transport more (Err refusal) step same runs = record {
+  is = refl;
+  fits = refl;
+  leads = λ history kept. by_transport setup history transport more runs _ _ step kept;
+  tokens = λ history kept. same_freezes transport.freezes more.freezes runs kept.tokens same;
+  gives = λ before after. tt;
+  room = tt;
+}
+
+-- what a start gives is what its record answers
+pub start_told : (version : Version) (start : Start) → answer_of (given_start version start) ≡ started_answer version start
+start_told One start = refl
+start_told Two start = refl
+start_told Three start = refl
+
+pub start_fits : (version : Version) (start : Start) → IsStart (given_start version start)
+start_fits One start = tt
+start_fits Two start = tt
+start_fits Three start = tt
+
+pub dispatches : (setup : Setup) (queue : QueueId) (transport more : Transport) (answer : Result Start CallRefusal) → StepsOf setup transport more (its.Dispatch queue) (start_answer (version_of setup) answer) → more.freezes ≡ transport.freezes → (runs : RunsState) → Performs setup (Dispatch queue) transport runs more runs (start_reply (version_of setup) answer) (Called (start_answer (version_of setup) answer) (its.Dispatch queue))
+dispatches setup queue transport more (Ok start) step same runs = record {
+  is = ap (λ (a : CallAnswer). Some (Called a (its.Dispatch queue))) (start_told (version_of setup) start);
+  fits = start_fits (version_of setup) start;
+  leads = λ history kept. by_transport setup history transport more runs _ _ step kept;
+  tokens = λ history kept. same_freezes transport.freezes more.freezes runs kept.tokens same;
+  gives = λ before after. gives_start setup (world_with transport runs before) queue (world_with more runs after) (version_of setup) start;
+  room = tt;
+}
+  where
+    gives_start : (setup : Setup) (before : World) (queue : QueueId) (after : World) (version : Version) (start : Start) → IsGiven setup before (Dispatch queue) after (given_start version start)
+    gives_start setup before queue after One start = tt
+    gives_start setup before queue after Two start = tt
+    gives_start setup before queue after Three start = tt
 dispatches setup queue transport more (Err refusal) step same runs = record {
   is = refl;
   fits = refl;
@@ -93,6 +126,54 @@ dispatches setup queue transport more (Err refusal) step same runs = record {
   gives = λ before after. tt;
   room = tt;
 }
+
+-- Withdrawals: each of its three refusals, and a CCB that is gone.
+
+pub no_classes : (setup : Setup) (world : World) (ccb : CcbId) → has_classes setup ≡ false → IsRefusedWithdrawal setup ccb Unknown world
+no_classes setup world ccb without = rw without refl
+
+pub none_to_withdraw : (setup : Setup) (world : World) (ccb : CcbId) → ccb_of ccb.0 world.transport.live ≡ None → IsRefusedWithdrawal setup ccb Unknown world
+none_to_withdraw setup world ccb none = by (has_classes setup)
+  where
+    by : (has : Bool) → (if not has then Some (refused Unknown, world) else (if is_none (ccb_of ccb.0 world.transport.live) then Some (refused Unknown, world) else (if not (waits (ccb_of ccb.0 world.transport.live)) then Some (refused NotActive, world) else option_map (withdraws world) (ccb_of ccb.0 world.transport.live)))) ≡ Some (refused Unknown, world)
+    by true = rw none refl
+    by false = refl
+
+pub waiting_is : (s : CcbState) → is_waiting s ≡ true → s ≡ Waiting
+waiting_is Waiting waits = refl
+waiting_is Active waits = absurd (let bad : false ≡ true = waits in cc)
+waiting_is InRecovery waits = absurd (let bad : false ≡ true = waits in cc)
+
+pub works_still : (setup : Setup) (world : World) (ccb : CcbId) (live : LiveCcb) → has_classes setup ≡ true → ccb_of ccb.0 world.transport.live ≡ Some live → is_waiting live.state ≡ false → IsRefusedWithdrawal setup ccb NotActive world
+works_still setup world ccb live has found not_waiting = rw (has, found, not_waiting) refl
+
+pub refuses_withdrawal : (setup : Setup) (transport : Transport) (runs : RunsState) (ccb : CcbId) (refusal : CallRefusal) → ((world : World) → IsRefusedWithdrawal setup ccb refusal (record world { transport = transport })) → Performs setup (Withdraw ccb) transport runs transport runs (Refused refusal) (Called (answers.Refused refusal) (its.Withdraw ccb))
+refuses_withdrawal setup transport runs ccb refusal step = record {
+  is = refl;
+  fits = refl;
+  leads = λ history kept. by_transport setup history transport transport runs _ _ (λ world count. step world) kept;
+  tokens = λ history kept. kept.tokens;
+  gives = λ before later. tt;
+  room = tt;
+}
+
+pub withdraws_ccb : (setup : Setup) (ccb : CcbId) (transport more : Transport) (runs : RunsState) → MayWithdraw setup ccb transport → more ≡ record transport { live = leave ccb_key ccb.0 transport.live } → Performs setup (Withdraw ccb) transport runs more runs (Success given.Withdrawn) (Called answers.Ok (its.Withdraw ccb))
+withdraws_ccb setup ccb transport more runs may fewer =
+    let live : LiveCcb = may.1.0 in
+    let number : live.ccb.number.0 ≡ ccb.0 = found_key ccb_key ccb.0 transport.live live may.1.1 in
+    record {
+      is = refl;
+      fits = tt;
+      leads = λ history kept.
+          let before : World = world_of setup history transport runs.runs in
+          let end : World = finishes before live.ccb RequestAborted in
+          let step : step_call setup before (its.Withdraw ccb) ≡ Some (replies answers.Ok, end) = rw (may.0, may.1.1, may.1.2) refl in
+          let gone : more ≡ record transport { live = leave ccb_key live.ccb.number.0 transport.live } = fewer ∙ ap (λ (n : ℕ). record transport { live = leave ccb_key n transport.live }) (sym number) in
+          once setup before end _ _ more runs.runs step (sym (ap (λ (m : Transport). record end { transport = m; runs = runs.runs }) gone));
+      tokens = λ history kept. same_freezes transport.freezes more.freezes runs kept.tokens (ap (λ (m : Transport). m.freezes) fewer);
+      gives = λ before later. tt;
+      room = tt;
+    }
 
 pub reads : (reading : ℕ) (transport more : Transport) (answer : Result ℕ CallRefusal) → Steps transport more (its.Clock reading) (removed_answer answer) → OnOk answer (more.freezes ≡ not_due_at reading transport.freezes) → OnErr answer (more ≡ transport) → (setup : Setup) (runs : RunsState) → Performs setup (Clock reading) transport runs more runs (removed_reply answer) (Called (removed_answer answer) (its.Clock reading))
 reads reading transport more (Ok count) step removed same setup runs = record {

@@ -15,6 +15,7 @@ pub mod Answers
 pub mod Courses
 pub mod TakingOver
 pub mod Replies
+pub mod Withdrawing
 pub mod Performing
 pub mod ByNumber
 pub mod Looking

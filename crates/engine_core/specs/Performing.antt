@@ -30,7 +30,7 @@ LeavesRoom event old new = Unit {0}
 -- The event is carried out or refused on these parts, which are of an engine: by this reply and this record, which stands for
 -- what leads from the old world to the new one. What each run holds are the entries that name it still.
 pub record Performs (setup : Setup) (event : Event) (transport : Transport) (old : RunsState) (more : Transport) (new : RunsState) (reply : Reply) (told : Record) : Type 0 where
-  pub is : record_of event reply ≡ Some told
+  pub is : record_of setup event reply ≡ Some told
   pub fits : ReplyMatchesEvent event reply
   pub leads : (history : List Record) → KeepsEngine setup history transport old → LeadsTo setup (world_of setup history transport old.runs) (events_of told) more new.runs
   pub tokens : (history : List Record) → KeepsEngine setup history transport old → HoldEntries more.freezes new

@@ -13,7 +13,10 @@ use Rattle.ccb.specs.declared.call_refusal.CallRefusal.{CallRefusal}
 use Rattle.world_calls.specs.declared.record.Record.{Record}
 use Rattle.world_calls.specs.declared.record.Record.TheVariants.{Called, Advance as advanced}
 use Rattle.engine_core.specs.RunState.{IsOut, IsOutUnder, RunState, before_stop}
-use Rattle.world.specs.World.{Setup, World, queue_setup}
+use Rattle.world_calls.specs.declared.start.Start.{Start}
+use Rattle.world_calls.specs.declared.trace.Version.{Version}
+use Rattle.world_calls.specs.declared.trace.Version.TheVariants.{One, Three, Two}
+use Rattle.world.specs.World.{Setup, World, class_in, class_kept, queue_setup}
 use Rattle.engine_core.specs.declared.answers.CompleteAnswer.{CompleteAnswer}
 use Rattle.engine_core.specs.declared.answers.CompleteAnswer.TheVariants as completes
 use Rattle.engine_core.specs.declared.answers.AdvanceAnswer.{AdvanceAnswer}
@@ -22,9 +25,9 @@ use Rattle.freeze_ledger.specs.declared.freeze.Freeze.{Freeze as TheFreeze}
 use Rattle.engine_core.specs.declared.answers.CallFault.{CallFault}
 use Rattle.engine_core.specs.declared.answers.CallFault.TheVariants as faults
 use Rattle.engine_core.specs.declared.event.Event.{Event}
-use Rattle.engine_core.specs.declared.event.Event.TheVariants.{Submit, Dispatch, Complete, Advance, Clock, GuestFreeze, GuestRelease, Park, Resume}
+use Rattle.engine_core.specs.declared.event.Event.TheVariants.{Submit, Dispatch, Complete, Withdraw, Advance, Clock, GuestFreeze, GuestRelease, Park, Resume}
 use Rattle.engine_core.specs.declared.reply.Success.{Success}
-use Rattle.engine_core.specs.declared.reply.Success.TheVariants.{Ccb, Done, Started, Goes, Ended, Freeze, Left, Removed, Parked, Resumed}
+use Rattle.engine_core.specs.declared.reply.Success.TheVariants.{Advised, Ccb, Done, Withdrawn, Started, Goes, Ended, Freeze, Left, Removed, Parked, Resumed}
 use Rattle.engine_core.specs.declared.reply.Returned.{Returned}
 use Rattle.engine_core.specs.declared.reply.Returned.TheVariants as back
 use Rattle.engine_core.specs.declared.reply.Reply.{Reply}
@@ -37,6 +40,15 @@ use Rattle.engine_core.specs.EngineState.{EngineState, Records, GuestHolds}
 abbrev pub IsCcb : Success → Type 0
 IsCcb (Ccb ccb) = Unit {0}
 IsCcb given = ⊥
+
+abbrev pub IsStart : Success → Type 0
+IsStart (Ccb ccb) = Unit {0}
+IsStart (Advised start) = Unit {0}
+IsStart given = ⊥
+
+abbrev pub IsWithdrawn : Success → Type 0
+IsWithdrawn Withdrawn = Unit {0}
+IsWithdrawn given = ⊥
 
 abbrev pub IsCompleted : Success → Type 0
 IsCompleted Done = Unit {0}
@@ -69,15 +81,22 @@ IsResumed (Resumed run) = Unit {0}
 IsResumed given = ⊥
 
 abbrev pub SuccessMatchesEvent : Event → Success → Type 0
-SuccessMatchesEvent (Submit queue priority retries) given = IsCcb given
-SuccessMatchesEvent (Dispatch queue) given = IsCcb given
+SuccessMatchesEvent (Submit queue priority retries class) given = IsCcb given
+SuccessMatchesEvent (Dispatch queue) given = IsStart given
 SuccessMatchesEvent (Complete completion) given = IsCompleted given
+SuccessMatchesEvent (Withdraw ccb) given = IsWithdrawn given
 SuccessMatchesEvent (Advance run) given = IsAdvanced given
 SuccessMatchesEvent (Clock reading) given = IsRemoved given
 SuccessMatchesEvent (GuestFreeze place guest) given = IsFreeze given
 SuccessMatchesEvent (GuestRelease token) given = IsLeft given
 SuccessMatchesEvent (Park run) given = IsParked given
 SuccessMatchesEvent (Resume run) given = IsResumed given
+
+-- what a start gives in a vocabulary
+abbrev pub given_start : Version → Start → Success
+given_start One start = Ccb start.ccb
+given_start Two start = Ccb start.ccb
+given_start Three start = Advised start
 
 abbrev pub given_completed : CompleteAnswer → Success
 given_completed completes.Done = Done
@@ -100,21 +119,28 @@ is_park event = false
 
 -- The record.
 
--- the call that an event makes, but for an advance
-abbrev pub call_of : Event → Option Call
-call_of (Submit queue priority retries) = Some (its.Submit queue priority retries)
-call_of (Dispatch queue) = Some (its.Dispatch queue)
-call_of (Complete completion) = Some (its.Complete completion.now)
-call_of (Advance run) = None
-call_of (Clock reading) = Some (its.Clock reading)
-call_of (GuestFreeze place guest) = Some (its.GuestFreeze place guest)
-call_of (GuestRelease token) = Some (its.GuestRelease token.number)
-call_of (Park run) = Some (its.Park run.number)
-call_of (Resume run) = Some (its.Resume run)
+-- the call that an event makes, as it is recorded, but for an advance
+abbrev pub call_of : Setup → Event → Option Call
+call_of setup (Submit queue priority retries class) = Some (its.Submit queue priority retries (class_kept setup class))
+call_of setup (Dispatch queue) = Some (its.Dispatch queue)
+call_of setup (Complete completion) = Some (its.Complete completion.now)
+call_of setup (Withdraw ccb) = Some (its.Withdraw ccb)
+call_of setup (Advance run) = None
+call_of setup (Clock reading) = Some (its.Clock reading)
+call_of setup (GuestFreeze place guest) = Some (its.GuestFreeze place guest)
+call_of setup (GuestRelease token) = Some (its.GuestRelease token.number)
+call_of setup (Park run) = Some (its.Park run.number)
+call_of setup (Resume run) = Some (its.Resume run)
+
+-- a call as it is recorded: a submission says its class where CCBs have one, and there alone
+abbrev pub recorded_call : Setup → Call → Call
+recorded_call setup (its.Submit queue priority retries class) = its.Submit queue priority retries (class_kept setup (class_in class))
+recorded_call setup call = call
 
 -- the answer to a call that is carried out
 abbrev pub answer_of : Success → CallAnswer
 answer_of (Ccb ccb) = answers.Ccb ccb
+answer_of (Advised start) = answers.Advised start.ccb start.advice
 answer_of Done = answers.Done
 answer_of (Started run freeze) = answers.Started run.number freeze
 answer_of (Freeze token) = answers.Freeze token.number
@@ -129,23 +155,24 @@ r0_given (Ended r0) = r0
 r0_given given = 0
 
 -- the record of an event that is carried out, where this is what it gives
-abbrev pub record_given : Event → Success → Record
-record_given (Submit queue priority retries) given = Called (answer_of given) (its.Submit queue priority retries)
-record_given (Dispatch queue) given = Called (answer_of given) (its.Dispatch queue)
-record_given (Complete completion) given = Called (answer_of given) (its.Complete completion.now)
-record_given (Advance run) given = advanced run.number run.segment.steps (stopped_at run.segment.stop) (r0_given given)
-record_given (Clock reading) given = Called (answer_of given) (its.Clock reading)
-record_given (GuestFreeze place guest) given = Called (answer_of given) (its.GuestFreeze place guest)
-record_given (GuestRelease token) given = Called (answer_of given) (its.GuestRelease token.number)
-record_given (Park run) given = Called (answer_of given) (its.Park run.number)
-record_given (Resume run) given = Called (answer_of given) (its.Resume run)
+abbrev pub record_given : Setup → Event → Success → Record
+record_given setup (Submit queue priority retries class) given = Called (answer_of given) (its.Submit queue priority retries (class_kept setup class))
+record_given setup (Dispatch queue) given = Called (answer_of given) (its.Dispatch queue)
+record_given setup (Complete completion) given = Called (answer_of given) (its.Complete completion.now)
+record_given setup (Withdraw ccb) given = Called (answer_of given) (its.Withdraw ccb)
+record_given setup (Advance run) given = advanced run.number run.segment.steps (stopped_at run.segment.stop) (r0_given given)
+record_given setup (Clock reading) given = Called (answer_of given) (its.Clock reading)
+record_given setup (GuestFreeze place guest) given = Called (answer_of given) (its.GuestFreeze place guest)
+record_given setup (GuestRelease token) given = Called (answer_of given) (its.GuestRelease token.number)
+record_given setup (Park run) given = Called (answer_of given) (its.Park run.number)
+record_given setup (Resume run) given = Called (answer_of given) (its.Resume run)
 
 -- the one record that an event with this reply makes, or none
-abbrev pub record_of : Event → Reply → Option Record
-record_of event (replied.Success given) = Some (record_given event given)
-record_of event (replied.Refused refusal) = option_map (λ call. Called (answers.Refused refusal) call) (call_of event)
-record_of event (replied.NotAdmitted back) = None
-record_of event (replied.OutOfMemory back) = None
+abbrev pub record_of : Setup → Event → Reply → Option Record
+record_of setup event (replied.Success given) = Some (record_given setup event given)
+record_of setup event (replied.Refused refusal) = option_map (λ call. Called (answers.Refused refusal) call) (call_of setup event)
+record_of setup event (replied.NotAdmitted back) = None
+record_of setup event (replied.OutOfMemory back) = None
 
 abbrev pub is_recorded : Reply → Bool
 is_recorded (replied.Success given) = true
@@ -155,7 +182,7 @@ is_recorded (replied.OutOfMemory back) = false
 
 -- with a record one record more, and without one all is as it was
 abbrev pub IsRecorded : EngineState → Event → Reply → EngineState → Type 0
-IsRecorded old event reply new = MatchOption (record_of event reply) (new ≡ old) (λ told. Records old new told)
+IsRecorded old event reply new = MatchOption (record_of old.setup event reply) (new ≡ old) (λ told. Records old new told)
 
 -- the event owns a run or a token
 abbrev pub owns : Event → Bool
@@ -216,6 +243,14 @@ abbrev pub ccb_reply : Result CcbId CallRefusal → Reply
 ccb_reply (Ok ccb) = replied.Success (Ccb ccb)
 ccb_reply (Err refusal) = replied.Refused refusal
 
+abbrev pub start_reply : Version → Result Start CallRefusal → Reply
+start_reply version (Ok start) = replied.Success (given_start version start)
+start_reply version (Err refusal) = replied.Refused refusal
+
+abbrev pub withdrawn_reply : Result (Unit {0}) CallRefusal → Reply
+withdrawn_reply (Ok done) = replied.Success Withdrawn
+withdrawn_reply (Err refusal) = replied.Refused refusal
+
 abbrev pub removed_reply : Result ℕ CallRefusal → Reply
 removed_reply (Ok count) = replied.Success (Removed count)
 removed_reply (Err refusal) = replied.Refused refusal
@@ -238,6 +273,10 @@ fault_reply faults.OutOfMemory = replied.OutOfMemory back.Nothing
 fault_reply (faults.Refused refusal) = replied.Refused refusal
 
 -- What is recorded where the code gives a value or a refusal.
+
+abbrev pub withdrawn_answer : Result (Unit {0}) CallRefusal → CallAnswer
+withdrawn_answer (Ok done) = answers.Ok
+withdrawn_answer (Err refusal) = answers.Refused refusal
 
 abbrev pub completed_answer : Result CompleteAnswer CallRefusal → CallAnswer
 completed_answer (Ok answer) = completed_of answer

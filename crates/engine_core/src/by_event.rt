@@ -2,6 +2,7 @@
 
 ghost use Rattle.std.specs.Prelude.{◌≡◌};
 ghost use Rattle.engine_core.specs.EngineState.{IsRun};
+ghost use Rattle.engine_core.specs.declared.event.Event.TheVariants.{Dispatch};
 ghost use Rattle.engine_core.specs.Replies.{GivesAsRecorded, IsOfKnown, IsRecorded, ReplyMatchesEvent, ToldFit, fault_reply};
 
 use crate::answers::{AdvanceAnswer, AdvanceFault, CallFault, CompleteAnswer, ReleaseFault};
@@ -48,19 +49,21 @@ impl Engine {
                 queue,
                 priority,
                 retries,
-            } => match self.submit(queue, priority, retries) {
+                class,
+            } => match self.submit(queue, priority, retries, class) {
                 Ok(ccb) => Reply::Success(Success::Ccb(ccb)),
                 Err(fault) => fault_reply(fault),
             },
-            Event::Dispatch { queue } => match self.dispatch(queue) {
-                Ok(ccb) => Reply::Success(Success::Ccb(ccb)),
-                Err(fault) => fault_reply(fault),
-            },
+            Event::Dispatch { queue } => self.started(queue),
             Event::Complete { completion } => match self.complete_lent(completion) {
                 Ok(CompleteAnswer::Done) => Reply::Success(Success::Done),
                 Ok(CompleteAnswer::Started(run, freeze)) => {
                     Reply::Success(Success::Started(run, freeze))
                 }
+                Err(fault) => fault_reply(fault),
+            },
+            Event::Withdraw { ccb } => match self.withdraw(ccb) {
+                Ok(()) => Reply::Success(Success::Withdrawn),
                 Err(fault) => fault_reply(fault),
             },
             Event::Advance { run } => match self.go_on_known(run, known) {
@@ -92,6 +95,20 @@ impl Engine {
                 Ok(run) => Reply::Success(Success::Resumed(run)),
                 Err(fault) => fault_reply(fault),
             },
+        }
+    }
+    // What a dispatch leads to.
+    fn started(&mut self, queue: QueueId) -> Reply
+        ensures recorded { IsRecorded self.old (Dispatch queue) result self.new }
+        ensures fits { ReplyMatchesEvent (Dispatch queue) result }
+        ensures fit { ToldFit self.old.world (Dispatch queue) result }
+        ensures gives { GivesAsRecorded self.old.setup self.old.world (Dispatch queue) self.new.world result }
+        ensures run { IsRun self.new }
+    {
+        let version = self.version();
+        match self.dispatch(queue) {
+            Ok(start) => Reply::Success(Success::of_start(version, start)),
+            Err(fault) => fault_reply(fault),
         }
     }
 }

@@ -1,49 +1,65 @@
-// The events that are about CCBs: a submission, a start and a completion. It relies on `engine_transport` for CCBs and their
+// The events that are about CCBs: a submission, a start, a completion and a withdrawal. It relies on `engine_transport` for CCBs and their
 // queues, and on `completion_action` for what becomes of a completed one.
 
-ghost use Rattle.std.specs.Prelude.{◌≡◌, List, IfOk, OnErr};
+ghost use Rattle.std.specs.Prelude.{◌≡◌, ◌≢◌, List, IfErr, IfOk, OnErr};
 ghost use Rattle.world_calls.specs.declared.record.Record.{Record as TheRecord};
 ghost use Rattle.engine_runs.specs.RunsState.{RunsState};
-ghost use Rattle.world.specs.World.{Setup};
+ghost use Rattle.world.specs.World.{World, class_in, class_kept, version_of};
 ghost use Rattle.world_calls.specs.declared.call.Call.TheVariants as calls;
 ghost use Rattle.world_calls.specs.declared.record.Record.TheVariants.{Called};
-ghost use Rattle.world_calls.specs.Answered.{ccb_answer};
-ghost use Rattle.engine_core.specs.declared.event.Event.TheVariants.{Submit, Dispatch, Complete};
+ghost use Rattle.world_calls.specs.Answered.{ccb_answer, start_answer, started_answer};
+ghost use Rattle.world_calls.specs.declared.trace.Version.TheVariants.{Three};
+ghost use Rattle.engine_core.specs.declared.event.Event.TheVariants.{Submit, Dispatch, Complete, Withdraw};
 ghost use Rattle.engine_core.specs.Invariant.{KeepsEngine};
 ghost use Rattle.engine_core.specs.Performing.{Performs};
-ghost use Rattle.engine_core.specs.Replies.{ccb_reply, completed_answer, completed_reply};
+ghost use Rattle.engine_core.specs.Replies.{ccb_reply, completed_answer, completed_reply, given_start, start_reply, withdrawn_answer, withdrawn_reply};
+ghost use Rattle.engine_core.specs.Withdrawing.{IsRefusedWithdrawal, MayWithdraw};
 
 use crate::answers::CompleteAnswer;
 use crate::completion_action::{CompletionAction, decide, recover};
 use crate::setting::Setting;
-use crate::told::{ccb_told, refused};
+use crate::told::{ccb_told, refused, start_told};
 use ccb::{CallRefusal, CcbId, Completion, QueueId};
 use engine_runs::Runs;
 use engine_transport::Transport;
 use std::alloc::{AllocError, Global};
-use world_calls::{Call, CallAnswer, CompletionRecord, Record};
+use world_calls::{Call, CallAnswer, CompletionRecord, Record, Start, Version};
 
 /// A CCB waits, or C1, or C2.
 #[inline(always)]
 pub(crate) fn submit(
+    setting: &Setting<'_>,
     transport: &mut Transport,
     queue: QueueId,
     priority: u32,
     retries: u32,
+    class: u32,
 ) -> (Result<CcbId, CallRefusal>, Record)
-    ensures told { result.1 ≡ Called (ccb_answer result.0) (calls.Submit queue priority retries) }
-    ensures performs { (setup : Setup) (runs : RunsState) → Performs setup (Submit queue priority retries) transport.old runs transport.new runs (ccb_reply result.0) result.1 }
+    ensures told { result.1 ≡ Called (ccb_answer result.0) (calls.Submit queue priority retries (class_kept setting.now class)) }
+    ensures performs { (runs : RunsState) → Performs setting.now (Submit queue priority retries class) transport.old runs transport.new runs (ccb_reply result.0) result.1 }
 {
-    let answer = transport.submit(queue, priority, retries);
+    let said = setting.class(class);
+    let answer = transport.submit(queue, priority, retries, class_in(said));
     let told = ccb_told(
         answer,
         Call::Submit {
             queue,
             priority,
             retries,
+            class: said,
         },
     );
     (answer, told)
+}
+
+/// The class of a CCB by that of its submission.
+pub(crate) fn class_in(class: Option<u32>) -> u32
+    ensures { result ≡ class_in class }
+{
+    match class {
+        Some(class) => class,
+        None => 0,
+    }
 }
 
 /// The least CCB that waits is active, or the first refusal of a dispatch that holds.
@@ -52,13 +68,89 @@ pub(crate) fn dispatch(
     setting: &Setting<'_>,
     transport: &mut Transport,
     queue: QueueId,
-) -> (Result<CcbId, CallRefusal>, Record)
-    ensures told { result.1 ≡ Called (ccb_answer result.0) (calls.Dispatch queue) }
-    ensures performs { (runs : RunsState) → Performs setting.now (Dispatch queue) transport.old runs transport.new runs (ccb_reply result.0) result.1 }
+) -> (Result<Start, CallRefusal>, Record)
+    ensures told { result.1 ≡ Called (start_answer (version_of setting.now) result.0) (calls.Dispatch queue) }
+    ensures performs { (runs : RunsState) → Performs setting.now (Dispatch queue) transport.old runs transport.new runs (start_reply (version_of setting.now) result.0) result.1 }
+    ensures unadvised { version_of setting.now ≢ Three → IfOk result.0 (λ start. start.advice ≡ 0) }
 {
-    let answer = transport.dispatch(queue, setting.controller(queue));
-    let told = ccb_told(answer, Call::Dispatch { queue });
+    let version = setting.version();
+    let answer = reported(
+        version,
+        transport.dispatch(queue, setting.controller(queue)),
+    );
+    let told = start_told(version, answer, Call::Dispatch { queue });
     (answer, told)
+}
+
+// What is reported of a start: it has an advice only if CCBs have one.
+fn reported(version: Version, answer: Result<Start, CallRefusal>) -> Result<Start, CallRefusal>
+    ensures answer { start_answer version result ≡ start_answer version answer }
+    ensures reply { start_reply version result ≡ start_reply version answer }
+    ensures unadvised { version ≢ Three → IfOk result (λ start. start.advice ≡ 0) }
+{
+    match answer {
+        Ok(start) => Ok(start_in(version, start)),
+        Err(refusal) => Err(refusal),
+    }
+}
+
+fn start_in(version: Version, start: Start) -> Start
+    ensures answer { started_answer version result ≡ started_answer version start }
+    ensures given { given_start version result ≡ given_start version start }
+    ensures unadvised { version ≢ Three → result.advice ≡ 0 }
+{
+    match version {
+        Version::Three => start,
+        Version::One => unadvised(start),
+        Version::Two => unadvised(start),
+    }
+}
+
+fn unadvised(start: Start) -> Start
+    ensures { result ≡ record start { advice = 0 } }
+{
+    Start {
+        ccb: start.ccb,
+        advice: 0,
+    }
+}
+
+/// A CCB that waits is gone, or C1, or C3.
+#[inline(always)]
+pub(crate) fn withdraw(
+    setting: &Setting<'_>,
+    transport: &mut Transport,
+    ccb: CcbId,
+) -> (Result<(), CallRefusal>, Record)
+    ensures told { result.1 ≡ Called (withdrawn_answer result.0) (calls.Withdraw ccb) }
+    ensures performs { (runs : RunsState) → Performs setting.now (Withdraw ccb) transport.old runs transport.new runs (withdrawn_reply result.0) result.1 }
+{
+    let call = Call::Withdraw { ccb };
+    match withdrawal(setting, transport, ccb) {
+        Ok(()) => {
+            transport.withdraw(ccb);
+            let answer = CallAnswer::Ok;
+            (Ok(()), Record::Called { answer, call })
+        }
+        Err(refusal) => (Err(refusal), refused(refusal, call)),
+    }
+}
+
+// Whether the host may withdraw a CCB: CCBs may be withdrawn, and it is live and waits. Else why not.
+fn withdrawal(setting: &Setting<'_>, transport: &Transport, ccb: CcbId) -> Result<(), CallRefusal>
+    ensures may { IfOk result (λ _. MayWithdraw setting.now ccb transport.now) }
+    ensures refused { IfErr result (λ refusal. (world : World) → IsRefusedWithdrawal setting.now ccb refusal (record world { transport = transport.now })) }
+{
+    if !setting.has_classes() {
+        return Err(CallRefusal::Unknown);
+    }
+    let Some(live) = transport.live(ccb) else {
+        return Err(CallRefusal::Unknown);
+    };
+    if !live.is_waiting() {
+        return Err(CallRefusal::NotActive);
+    }
+    Ok(())
 }
 
 /// The CCB is finished, or a run of its queue's program starts, or C1 to C3. Where memory is refused nothing changes.

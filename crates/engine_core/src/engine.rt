@@ -6,7 +6,7 @@ ghost use Rattle.engine_config.specs.Configured.{AreProgramsOf};
 ghost use Rattle.freeze_ledger.specs.Deadlines.{some_timer};
 ghost use Rattle.engine_transport.specs.Freezing.{IsNextDue};
 ghost use Rattle.engine_runs.specs.Admits.{IsOutWith};
-ghost use Rattle.engine_runs.specs.RunsState.{no_runs};
+ghost use Rattle.engine_runs.specs.RunsState.{opened_runs};
 ghost use Rattle.world.specs.Beginning.{Begins};
 ghost use Rattle.world.specs.World.{opening, version_of};
 ghost use Rattle.world.specs.Lawful.{IsLawful};
@@ -63,7 +63,7 @@ impl Model for Engine {
 /// The queues and tables of the configuration, with no CCB, no freeze and no run.
 pub(crate) fn rooms(alloc: Global, config: &Config) -> Result<Parts, AllocError>
     ensures transport { IfOk result (λ parts. parts.transport ≡ (opening config.now).transport) }
-    ensures runs { IfOk result (λ parts. parts.runs ≡ no_runs config.now.limits.table_lengths) }
+    ensures runs { IfOk result (λ parts. parts.runs ≡ opened_runs config.now.tables) }
     ensures lawful { IsLawful config.now }
     ensures alone { config.now.carried ≡ None }
     ensures begins { Begins config.now }
@@ -74,7 +74,7 @@ pub(crate) fn rooms(alloc: Global, config: &Config) -> Result<Parts, AllocError>
     }
     Ok(Parts {
         transport: Transport::with_room(alloc, &openings)?,
-        runs: Runs::with_room(alloc, config.table_lengths())?,
+        runs: Runs::with_words(alloc, config.table_lengths(), config.first_words())?,
     })
 }
 

@@ -7,16 +7,18 @@ ghost use Rattle.engine_core.specs.Replies.{owned};
 use crate::reply::Returned;
 use crate::run::Run;
 use crate::stopped::Stopped;
-use ccb::{Completion, Place, QueueId};
+use ccb::{CcbId, Completion, Place, QueueId};
 use freeze_ledger::FreezeToken;
 
 /// A call of the engine. What it owns comes back where it is not carried out.
 pub enum Event<'a> {
-    /// A CCB is submitted to a queue, with a priority and how often it may be tried again.
+    /// A CCB is submitted to a queue, with a priority, how often it may be tried again, and its class, which is taken as 0 if CCBs have
+    /// none.
     Submit {
         queue: QueueId,
         priority: u32,
         retries: u32,
+        class: u32,
     },
     /// A queue starts a CCB.
     Dispatch {
@@ -25,6 +27,10 @@ pub enum Event<'a> {
     /// A device is done with a CCB.
     Complete {
         completion: &'a Completion,
+    },
+    /// The host does not want a CCB any more.
+    Withdraw {
+        ccb: CcbId,
     },
     /// A run came to its next stop.
     Advance {
@@ -66,9 +72,11 @@ impl Event<'_> {
                 queue: _,
                 priority: _,
                 retries: _,
+                class: _,
             }
             | Event::Dispatch { queue: _ }
             | Event::Complete { completion: _ }
+            | Event::Withdraw { ccb: _ }
             | Event::Clock { reading: _ }
             | Event::GuestFreeze { place: _, guest: _ }
             | Event::Resume { run: _ } => Returned::Nothing,

@@ -37,6 +37,7 @@ pub(crate) fn carry_out(
         HelperEffect::SetOpenings => set_openings(transport, runs, place, request),
         HelperEffect::FreezeController => take_controller(transport, runs, place, request),
         HelperEffect::TellController => tell_controller(transport, runs, place, request),
+        HelperEffect::Advise => advise(transport, runs, place, request),
     }
 }
 
@@ -122,6 +123,15 @@ fn requeue(transport: &mut Transport, runs: &Runs, place: usize, request: &Reque
     ensures { RefinesHelperStep place request.now result transport.old runs.now transport.new runs.now }
 {
     transport.requeue(runs.ccb(place), request.arguments.first as u32);
+    Answer::number(0)
+}
+
+// The run's CCB advises the host to do what R1 says before its next start: 0.
+fn advise(transport: &mut Transport, runs: &Runs, place: usize, request: &Request) -> Answer
+    requires { AsksOf effects.Advise transport.old runs.now place request.now }
+    ensures { RefinesHelperStep place request.now result transport.old runs.now transport.new runs.now }
+{
+    transport.advise(runs.ccb(place), request.arguments.first as u32);
     Answer::number(0)
 }
 

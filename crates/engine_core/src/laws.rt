@@ -10,9 +10,11 @@ ghost use Rattle.world.specs.Laws.Headline.{NeverStuck, MachinesAreReached, With
 ghost use Rattle.world.specs.Laws.ParkLaws.{ParkedStaysAsItIs};
 ghost use Rattle.world.specs.Laws.Moved.{Moved};
 ghost use Rattle.world.specs.Laws.OneController.{OneController};
+ghost use Rattle.world.specs.Laws.Classes.{ClassesToo};
+ghost use Rattle.world.specs.Laws.Advice.{AdviceIsTold};
 
 /// The headline. For every setup of accepted programs and every interleaving, instruction by instruction, of
-/// submissions, dispatches, completions, timers, guests, parks and runs: no run is ever stuck, and each that is
+/// submissions, dispatches, withdrawals, completions, timers, guests, parks and runs: no run is ever stuck, and each that is
 /// out has exactly one next step; each executes at most its budget; if it ends it has released or handed over
 /// exactly the freezes that it took, and it disposed of its CCB once; and every queue's frozen count, and every
 /// controller's, is at every moment the number of entries that name it. A run's CCB is that of the completion which started it; it is in
@@ -64,4 +66,18 @@ pub fn moved()
 /// queues, instructions and tables and one controller over all of them, and it leads to the same world.
 pub fn one_controller()
     ensures { OneController }
+{}
+
+/// Classes and advice take nothing away. Each list of events with its replies that a transport of device queues under controllers may
+/// have, of which none is a withdrawal, may happen in every transport that has the same queues, instructions, tables and controllers and
+/// whose CCBs have a class and an advice: there each submission has the class 0, and each start reports the advice 0. It leads to the same
+/// world.
+pub fn classes_too()
+    ensures { ClassesToo }
+{}
+
+/// What is advised is told once. A CCB has one class for as long as it is live. Each start of it reports what was last advised for it, and
+/// then nothing is advised; and nothing but its start and a run of its own changes that.
+pub fn advice_is_told()
+    ensures { AdviceIsTold }
 {}

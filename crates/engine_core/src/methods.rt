@@ -1,20 +1,22 @@
 // The engine's calls, each as a method: room for the call's record is taken first, then the call changes the engine's parts, and its
 // record joins the history. Nothing is undone. It relies on `ccb_events`, `freeze_events` and `run_events` for what a call does.
 
-ghost use Rattle.std.specs.Prelude.{◌≡◌, IfOk, IfErr, IfSome, MatchResult};
+ghost use Rattle.std.specs.Prelude.{◌≡◌, ◌≢◌, IfOk, IfErr, IfSome, MatchResult};
 ghost use Rattle.freeze_ledger.specs.declared.freeze.Holder.TheVariants.{Guest};
 ghost use Rattle.engine_core.specs.RunState.{before_stop, IsOut, IsOutUnder};
 ghost use Rattle.ccb.specs.declared.place.Place.TheVariants.{Controller, Device};
-ghost use Rattle.world_calls.specs.declared.call.Call.TheVariants.{Submit, Dispatch, Complete, GuestFreeze, GuestRelease, Clock, Park, Resume};
+ghost use Rattle.world_calls.specs.declared.call.Call.TheVariants.{Submit, Dispatch, Complete, Withdraw, GuestFreeze, GuestRelease, Clock, Park, Resume};
 ghost use Rattle.world_calls.specs.declared.call_answer.CallAnswer.TheVariants as answers;
 ghost use Rattle.world_calls.specs.declared.record.Record.TheVariants.{Called, Advance};
-ghost use Rattle.world.specs.World.{queue_setup};
+ghost use Rattle.world_calls.specs.Answered.{started_answer};
+ghost use Rattle.world_calls.specs.declared.trace.Version.TheVariants.{Three};
+ghost use Rattle.world.specs.World.{class_kept, queue_setup, version_of};
 ghost use Rattle.engine_core.specs.EngineState.{IsRun, Records, GuestHolds};
 ghost use Rattle.engine_core.specs.Answers.{completed_of, StartsOut, stopped_at, r0_of, GoesOrEnds};
 ghost use Rattle.engine_core.specs.Faults.{FaultIs, HoldsUnlessTold, AdmitsUnlessTold};
 
 use crate::answers::{AdvanceAnswer, AdvanceFault, CallFault, CompleteAnswer, ReleaseFault, given};
-use crate::ccb_events::{complete, dispatch, submit};
+use crate::ccb_events::{complete, dispatch, submit, withdraw};
 use crate::engine::{Engine, ROOM};
 use crate::freeze_events::{guest_freeze, guest_release, read_clock};
 use crate::run::Run;
@@ -24,35 +26,48 @@ use crate::stopped::Stopped;
 use ccb::{CcbId, Completion, Place, QueueId};
 use freeze_ledger::FreezeToken;
 use std::alloc::AllocError;
+use world_calls::Start;
 
 impl Engine {
-    /// Submits a CCB to a queue, with a priority (the lowest number starts first) and how often it may be tried
-    /// again: its number. C1 where there is no such queue; C2 where the queue has 256 CCBs, the engine 4096, or the
+    /// Submits a CCB to a queue, with a priority (the lowest number starts first), how often it may be tried again, and its
+    /// class, which is taken as 0 if CCBs have none: its number. C1 where there is no such queue; C2 where the queue has 256 CCBs, the engine 4096, or the
     /// numbers up to 4,294,967,295 are used up. Both are recorded and change nothing else.
     pub fn submit(
         &mut self,
         queue: QueueId,
         priority: u32,
         retries: u32,
+        class: u32,
     ) -> Result<CcbId, CallFault>
-        ensures answered { IfOk result (λ ccb. Records self.old self.new (Called (answers.Ccb ccb) (Submit queue priority retries))) }
-        ensures fault { IfErr result (λ fault. FaultIs fault (self.new ≡ self.old) (λ refusal. Records self.old self.new (Called (answers.Refused refusal) (Submit queue priority retries)))) }
+        ensures answered { IfOk result (λ ccb. Records self.old self.new (Called (answers.Ccb ccb) (Submit queue priority retries (class_kept self.old.setup class)))) }
+        ensures fault { IfErr result (λ fault. FaultIs fault (self.new ≡ self.old) (λ refusal. Records self.old self.new (Called (answers.Refused refusal) (Submit queue priority retries (class_kept self.old.setup class))))) }
         ensures run { IsRun self.new }
     {
         if self.history.reserve(ROOM).is_err() {
             return Err(CallFault::OutOfMemory);
         }
-        let (answer, submitted) = submit(&mut self.parts.transport, queue, priority, retries);
+        let (answer, submitted) = submit(
+            &Setting {
+                config: &self.config,
+                over: &self.over,
+            },
+            &mut self.parts.transport,
+            queue,
+            priority,
+            retries,
+            class,
+        );
         self.history.push_reserved(submitted);
         given(answer)
     }
 
     /// Starts the waiting CCB of the queue that has the lowest priority number, and among these the lowest CCB
-    /// number: its number. Refused with the first refusal of a dispatch that holds (`ccb::REFUSALS` has them in their order),
+    /// number: its number, and what its policy advised for this start, or 0; from then on it advises nothing. If CCBs have no advice, it is 0. Refused with the first refusal of a dispatch that holds (`ccb::REFUSALS` has them in their order),
     /// which is recorded and changes nothing else.
-    pub fn dispatch(&mut self, queue: QueueId) -> Result<CcbId, CallFault>
-        ensures answered { IfOk result (λ ccb. Records self.old self.new (Called (answers.Ccb ccb) (Dispatch queue))) }
+    pub fn dispatch(&mut self, queue: QueueId) -> Result<Start, CallFault>
+        ensures answered { IfOk result (λ start. Records self.old self.new (Called (started_answer (version_of self.old.setup) start) (Dispatch queue))) }
         ensures fault { IfErr result (λ fault. FaultIs fault (self.new ≡ self.old) (λ refusal. Records self.old self.new (Called (answers.Refused refusal) (Dispatch queue)))) }
+        ensures unadvised { version_of self.old.setup ≢ Three → IfOk result (λ start. start.advice ≡ 0) }
         ensures run { IsRun self.new }
     {
         if self.history.reserve(ROOM).is_err() {
@@ -65,6 +80,28 @@ impl Engine {
             },
             &mut self.parts.transport,
             queue,
+        );
+        self.history.push_reserved(told);
+        given(answer)
+    }
+
+    /// Withdraws a CCB that waits: it is gone, with the code of REQ_ABORTED. C1 if no such CCB is live, or CCBs may not be withdrawn;
+    /// C3 if it does not wait. Both are recorded and change nothing else.
+    pub fn withdraw(&mut self, ccb: CcbId) -> Result<(), CallFault>
+        ensures answered { IfOk result (λ _. Records self.old self.new (Called answers.Ok (Withdraw ccb))) }
+        ensures fault { IfErr result (λ fault. FaultIs fault (self.new ≡ self.old) (λ refusal. Records self.old self.new (Called (answers.Refused refusal) (Withdraw ccb)))) }
+        ensures run { IsRun self.new }
+    {
+        if self.history.reserve(ROOM).is_err() {
+            return Err(CallFault::OutOfMemory);
+        }
+        let (answer, told) = withdraw(
+            &Setting {
+                config: &self.config,
+                over: &self.over,
+            },
+            &mut self.parts.transport,
+            ccb,
         );
         self.history.push_reserved(told);
         given(answer)
@@ -138,8 +175,9 @@ impl Engine {
     /// 10. The call's bytes are in the record.
     /// 13. The controller of the run's queue is frozen once more, as a queue by helper 1.
     /// 14. R0 is how many freezes that controller has.
+    /// 15. The next start of the run's CCB reports the word.
     ///
-    /// R0 is 0 after helpers 3 to 5, 9 and 10. C4, which is not recorded, exactly where no run of that number is out in this engine,
+    /// R0 is 0 after helpers 3 to 5, 9, 10 and 15. C4, which is not recorded, exactly where no run of that number is out in this engine,
     /// or its program or the machine from which it went is not the recorded one; programs are compared by their
     /// instructions. Every fault hands the run back where it was, and changes nothing.
     pub fn go_on(&mut self, run: Stopped) -> Result<AdvanceAnswer, (AdvanceFault, Run)>

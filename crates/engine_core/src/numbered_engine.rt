@@ -3,7 +3,7 @@
 // happen.
 
 ghost use Rattle.std.specs.Prelude.{◌≡◌, ◌<◌, ◌↔◌, ◌∷◌, [], ◌++◌, length, slice_index_or, Some, None, IsNone, IsSome, IsTrue, IfSome, IfNone, IfOk, OnErr, false, IsOk};
-ghost use Rattle.world_calls.specs.declared.call.Call.TheVariants.{Clock, Complete, Dispatch, GuestFreeze, GuestRelease, Park, Resume, Submit};
+ghost use Rattle.world_calls.specs.declared.call.Call.TheVariants.{Clock, Complete, Dispatch, GuestFreeze, GuestRelease, Park, Resume, Submit, Withdraw};
 ghost use Rattle.world_calls.specs.declared.record.Record.TheVariants.{Called};
 ghost use Rattle.freeze_ledger.specs.Deadlines.{some_timer};
 ghost use Rattle.freeze_ledger.specs.Freezes.{entry_of, holders_of};
@@ -13,12 +13,12 @@ ghost use Rattle.world.specs.Lookups.{ccb_of, run_of};
 ghost use Rattle.world.specs.QueueInfo.{queue_info};
 ghost use Rattle.world.specs.Refusals.{is_unknown};
 ghost use Rattle.world.specs.Beginning.{Begins, IsBeginning};
-ghost use Rattle.world.specs.World.{World};
+ghost use Rattle.world.specs.World.{World, class_fits, class_kept, has_classes};
 ghost use Rattle.engine_core.specs.Settings.{setup_over};
 ghost use Rattle.engine_core.specs.Looking.{AsksNext, HasRunOut, IsRunTold, asked_at, first_out};
 ghost use Rattle.engine_core.specs.ByNumber.{Advances, AnswersCall, HasHistory, RecordFollows, guests_of, opened_numbered, sums_behind, takes_memory};
 
-use crate::ccb_events::{complete, dispatch, submit};
+use crate::ccb_events::{class_in, complete, dispatch, submit, withdraw};
 use crate::engine::rooms;
 use crate::freeze_events::read_clock;
 use crate::guest_tokens::{GuestToken, has_token, take_token};
@@ -103,7 +103,7 @@ impl<'a> NumberedEngine<'a> {
     }
 
     /// Carries a call out, or refuses it: its answer. `None`, which changes nothing, exactly where the call is no event here: a
-    /// completion that no device reports, a park of a run that is not out, or a release of a freeze that no guest holds. Only a
+    /// submission that says a class though CCBs have none, or says none though they have one, a completion that no device reports, a park of a run that is not out, or a release of a freeze that no guest holds. Only a
     /// completion, a guest's freeze and a resume take memory; where it is refused nothing changes.
     pub fn call(&mut self, call: &Call) -> Result<Option<CallAnswer>, AllocError>
         ensures answered { IfOk result (λ answer. AnswersCall self.old call.now answer self.new) }
@@ -116,9 +116,11 @@ impl<'a> NumberedEngine<'a> {
                 queue,
                 priority,
                 retries,
-            } => Ok(Some(self.submit(*queue, *priority, *retries))),
+                class,
+            } => Ok(self.submitted(*queue, *priority, *retries, *class)),
             Call::Dispatch { queue } => Ok(Some(self.dispatch(*queue))),
             Call::Complete { completion } => self.complete(completion),
+            Call::Withdraw { ccb } => Ok(Some(self.withdraw(*ccb))),
             Call::GuestFreeze { place, guest } => Ok(Some(self.guest_freeze(*place, *guest)?)),
             Call::GuestRelease { freeze } => Ok(self.guest_release(*freeze)),
             Call::Clock { reading } => Ok(Some(self.read_clock(*reading))),
@@ -127,12 +129,46 @@ impl<'a> NumberedEngine<'a> {
         }
     }
 
-    // One CCB more waits, or why not.
-    fn submit(&mut self, queue: QueueId, priority: u32, retries: u32) -> CallAnswer
-        ensures answered { RecordFollows self.old (Called result (Submit queue priority retries)) self.new }
+    // A submission, if it says a class where CCBs have one, and there alone.
+    fn submitted(
+        &mut self,
+        queue: QueueId,
+        priority: u32,
+        retries: u32,
+        class: Option<u32>,
+    ) -> Option<CallAnswer>
+        ensures answered { AnswersCall self.old (Submit queue priority retries class) result self.new }
         ensures setup { self.new.setup ≡ self.old.setup }
     {
-        let (_, told) = submit(&mut self.parts.transport, queue, priority, retries);
+        if !self.takes_class(class) {
+            return None;
+        }
+        Some(self.submit(queue, priority, retries, class_in(class)))
+    }
+
+    // Whether a submission may have this class.
+    fn takes_class(&self, class: Option<u32>) -> bool
+        ensures { result ≡ class_fits (has_classes self.now.setup) class }
+    {
+        is_fit(self.config, class)
+    }
+
+    // One CCB more waits, or why not.
+    fn submit(&mut self, queue: QueueId, priority: u32, retries: u32, class: u32) -> CallAnswer
+        ensures answered { RecordFollows self.old (Called result (Submit queue priority retries (class_kept self.old.setup class))) self.new }
+        ensures setup { self.new.setup ≡ self.old.setup }
+    {
+        let (_, told) = submit(
+            &Setting {
+                config: self.config,
+                over: &self.over,
+            },
+            &mut self.parts.transport,
+            queue,
+            priority,
+            retries,
+            class,
+        );
         answer_in(told)
     }
 
@@ -148,6 +184,22 @@ impl<'a> NumberedEngine<'a> {
             },
             &mut self.parts.transport,
             queue,
+        );
+        answer_in(told)
+    }
+
+    // A CCB that waits is gone, or why not.
+    fn withdraw(&mut self, ccb: CcbId) -> CallAnswer
+        ensures answered { RecordFollows self.old (Called result (Withdraw ccb)) self.new }
+        ensures setup { self.new.setup ≡ self.old.setup }
+    {
+        let (_, told) = withdraw(
+            &Setting {
+                config: self.config,
+                over: &self.over,
+            },
+            &mut self.parts.transport,
+            ccb,
         );
         answer_in(told)
     }
@@ -440,5 +492,16 @@ fn request_of(stop: Stop) -> Option<Request>
     match stop {
         Stop::Helper(request) => Some(request),
         Stop::Exit { .. } => None,
+    }
+}
+
+// Whether a submission has a class exactly where CCBs have one.
+fn is_fit(config: &Config, class: Option<u32>) -> bool
+    ensures { result ≡ class_fits (has_classes config.now) class }
+{
+    let has_classes = config.has_classes();
+    match class {
+        None => !has_classes,
+        Some(_) => has_classes,
     }
 }

@@ -2,19 +2,23 @@
 // tokens.
 
 ghost use Rattle.std.specs.Prelude.{◌≡◌};
-ghost use Rattle.engine_core.specs.Replies.{is_recorded};
+ghost use Rattle.engine_core.specs.Replies.{given_start, is_recorded};
 
 use crate::run::Run;
 use ccb::CcbId;
 use freeze_ledger::FreezeToken;
-use world_calls::CallRefusal;
+use world_calls::{CallRefusal, Start, Version};
 
 /// What a call gives that was carried out.
 pub enum Success {
     /// The number of the CCB that was submitted or started.
     Ccb(CcbId),
+    /// The CCB that was started, with what was advised for this start: if CCBs have an advice.
+    Advised(Start),
     /// The CCB is finished.
     Done,
+    /// The CCB is withdrawn.
+    Withdrawn,
     /// A run started, with the freeze of that number, or with none as number 0.
     Started(Run, u32),
     /// A helper call was answered with that R0, and the run goes on.
@@ -75,6 +79,17 @@ impl Reply {
 }
 
 impl Success {
+    /// What a start gives in a vocabulary.
+    pub(crate) fn of_start(version: Version, start: Start) -> Self
+        ensures { result ≡ given_start version start }
+    {
+        match version {
+            Version::One => Success::Ccb(start.ccb),
+            Version::Two => Success::Ccb(start.ccb),
+            Version::Three => Success::Advised(start),
+        }
+    }
+
     /// Spends what it gives.
     pub fn forfeit(self) {
         match self {
@@ -82,7 +97,9 @@ impl Success {
                 run.forfeit(),
             Success::Freeze(token) => token.forfeit(),
             Success::Ccb(_)
+            | Success::Advised(_)
             | Success::Done
+            | Success::Withdrawn
             | Success::Ended(_)
             | Success::Left(_)
             | Success::Removed(_)

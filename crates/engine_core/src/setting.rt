@@ -5,7 +5,7 @@ ghost use Rattle.std.specs.Prelude.{◌≡◌, ◌<◌, ◌≤◌};
 ghost use Rattle.std.specs.Arc.{arc_value};
 ghost use Rattle.bpf_accepted.specs.Verdict.{IsAccepted};
 ghost use Rattle.world.specs.Capacities.{most_controllers};
-ghost use Rattle.world.specs.World.{queue_count, queue_setup};
+ghost use Rattle.world.specs.World.{class_kept, has_classes, queue_count, queue_setup, version_of};
 ghost use Rattle.engine_core.specs.Settings.{setup_over};
 
 use bpf_accepted::Accepted;
@@ -14,6 +14,7 @@ use engine_config::Config;
 use engine_taken_over::TakenOver;
 use std::marker::Model;
 use std::sync::Arc;
+use world_calls::Version;
 
 /// The configuration of an engine, and what it took over. Contracts see it as the setup.
 #[derive(Drop)]
@@ -38,6 +39,31 @@ impl<'a> Setting<'a> {
         ensures bound { result ≤ most_controllers }
     {
         self.config.controllers()
+    }
+
+    /// Whether CCBs have a class and an advice, and may be withdrawn.
+    pub(crate) fn has_classes(&self) -> bool
+        ensures { result ≡ has_classes self.now }
+    {
+        self.config.has_classes()
+    }
+
+    /// The class that the record of a submission says.
+    pub(crate) fn class(&self, class: u32) -> Option<u32>
+        ensures { result ≡ class_kept self.now class }
+    {
+        if self.has_classes() {
+            Some(class)
+        } else {
+            None
+        }
+    }
+
+    /// The vocabulary of the engine's history.
+    pub(crate) fn version(&self) -> Version
+        ensures { result ≡ version_of self.now }
+    {
+        Version::of(self.config.helpers())
     }
 
     /// The controller that a queue is under: 0 if there are none, and after the last queue.

@@ -3,11 +3,11 @@
 ghost use Rattle.std.specs.Prelude.{◌≡◌};
 ghost use Rattle.world_calls.specs.declared.record.Record.TheVariants.{Called};
 ghost use Rattle.world_calls.specs.declared.call_answer.CallAnswer.TheVariants as answers;
-ghost use Rattle.world_calls.specs.Answered.{ccb_answer, removed_answer};
+ghost use Rattle.world_calls.specs.Answered.{ccb_answer, removed_answer, start_answer, started_answer};
 ghost use Rattle.engine_core.specs.ByNumber.{IsCalled, answer_told};
 
 use ccb::{CallRefusal, CcbId};
-use world_calls::{Call, CallAnswer, Record};
+use world_calls::{Call, CallAnswer, Record, Start, Version};
 
 /// A call that is refused.
 pub(crate) fn refused(refusal: CallRefusal, call: Call) -> Record
@@ -17,7 +17,7 @@ pub(crate) fn refused(refusal: CallRefusal, call: Call) -> Record
     Record::Called { answer, call }
 }
 
-/// A submission or a start.
+/// A submission.
 pub(crate) fn ccb_told(answer: Result<CcbId, CallRefusal>, call: Call) -> Record
     ensures { result ≡ Called (ccb_answer answer) call }
 {
@@ -27,6 +27,30 @@ pub(crate) fn ccb_told(answer: Result<CcbId, CallRefusal>, call: Call) -> Record
             Record::Called { answer, call }
         }
         Err(refusal) => refused(refusal, call),
+    }
+}
+
+/// A start. Its record reports the advice if the vocabulary has one.
+pub(crate) fn start_told(version: Version, answer: Result<Start, CallRefusal>, call: Call) -> Record
+    ensures { result ≡ Called (start_answer version answer) call }
+{
+    match answer {
+        Ok(start) => {
+            let answer = started(version, start);
+            Record::Called { answer, call }
+        }
+        Err(refusal) => refused(refusal, call),
+    }
+}
+
+// The answer to a start.
+fn started(version: Version, start: Start) -> CallAnswer
+    ensures { result ≡ started_answer version start }
+{
+    match version {
+        Version::One => CallAnswer::Ccb(start.ccb),
+        Version::Two => CallAnswer::Ccb(start.ccb),
+        Version::Three => CallAnswer::Advised(start.ccb, start.advice),
     }
 }
 

@@ -1,5 +1,5 @@
 -- The shared history, some records longer.
-use Rattle.std.proofs.Common.{◌≡◌, ℕ, true, false, Option, List, [], ◌∷◌, ◌++◌, length, drop, refl, ap, sym, subst, ◌∙◌}
+use Rattle.std.proofs.Common.{◌≡◌, ℕ, true, false, Option, Some, List, [], ◌∷◌, ◌++◌, length, drop, refl, ap, sym, subst, ◌∙◌}
 use Rattle.std.specs.Prelude.{MatchOption}
 use Rattle.world_calls.specs.declared.record.Record.{Record}
 use Rattle.monitor.specs.declared.knowledge.Pair.{Pair}
@@ -12,7 +12,7 @@ use Rattle.engine_core.specs.EngineState.{EngineState, Records}
 use Rattle.engine_core.specs.declared.event.Event.{Event}
 use Rattle.engine_core.specs.declared.reply.Reply.{Reply}
 use Rattle.engine_core.specs.declared.reply.Reply.TheVariants.{Success, Refused, NotAdmitted, OutOfMemory}
-use Rattle.engine_core.specs.Replies.{ReplyMatchesEvent, GivesAsRecorded, IsRecorded, ToldFit, is_recorded}
+use Rattle.engine_core.specs.Replies.{ReplyMatchesEvent, GivesAsRecorded, IsRecorded, ToldFit, is_recorded, record_of}
 use Rattle.engine_lock.specs.Publishing.{beyond}
 use Rattle.engine_lock.specs.Sharing.{Answers, IsNewCaller, IsNewWatch, IsSince, Section, Tells, TellsUnrecorded, is_unfit}
 use Rattle.engine_lock.proofs.Since.{HasRecord, has_record}
@@ -30,8 +30,8 @@ is_beyond known whole made is = is ∙ ap (λ (rs : List Record). records known 
 
 -- of a call that is recorded this is the record that its reply makes
 module _ (known : List Pair) (old new : EngineState) (event : Event) (reply : Reply) (fits : ReplyMatchesEvent event reply) (is : is_recorded reply ≡ true) (recorded : IsRecorded old event reply new) (same : records known ≡ old.history) where
-  made : HasRecord event reply
-  made = has_record event reply fits is
+  made : HasRecord old.setup event reply
+  made = has_record old.setup event reply fits is
 
   one_longer : new.history ≡ records known ++ made.told ∷ []
   one_longer =
@@ -41,9 +41,10 @@ module _ (known : List Pair) (old new : EngineState) (event : Event) (reply : Re
   pub call_beyond : new.history ≡ records known ++ beyond known new.history
   call_beyond = is_beyond known new.history (made.told ∷ []) one_longer
 
-  pub tells_made : (setup : Setup) (history : List Pair) (before after : CallerState) → Joins setup history before (beyond known new.history) after → Tells setup history event reply before after
-  tells_made setup history before after joins =
-      subst (λ (o : Option Record). MatchOption o (TellsUnrecorded setup history reply before after) (λ told. Joins setup history before (told ∷ []) after)) (sym made.is)
+  pub tells_made : (setup : Setup) → old.setup ≡ setup → (history : List Pair) (before after : CallerState) → Joins setup history before (beyond known new.history) after → Tells setup history event reply before after
+  tells_made setup of_it history before after joins =
+      let made_is : record_of setup event reply ≡ Some made.told = subst (λ (s : Setup). record_of s event reply ≡ Some made.told) of_it made.is in
+      subst (λ (o : Option Record). MatchOption o (TellsUnrecorded setup history reply before after) (λ told. Joins setup history before (told ∷ []) after)) (sym made_is)
       (subst (λ (rs : List Record). Joins setup history before rs after) (beyond_is known new.history (made.told ∷ []) one_longer) joins)
 
 -- a call that is not recorded tells what was looked at, or nothing

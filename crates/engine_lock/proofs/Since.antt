@@ -12,22 +12,22 @@ use Rattle.engine_core.specs.Replies.{ReplyMatchesEvent, IsRecorded, is_recorded
 use Rattle.engine_lock.specs.Sharing.{IsSince}
 
 -- which record it makes
-pub record HasRecord (event : Event) (reply : Reply) : Type 0 where
+pub record HasRecord (setup : Setup) (event : Event) (reply : Reply) : Type 0 where
   pub told : Record
-  pub is : record_of event reply ≡ Some told
+  pub is : record_of setup event reply ≡ Some told
 
-pub has_record : (event : Event) (reply : Reply) → ReplyMatchesEvent event reply → is_recorded reply ≡ true → HasRecord event reply
-has_record event (Success given) fits is = record { told = _; is = refl }
-has_record (Advance run) (Refused refusal) fits is = absurd (let bad : true ≡ false = fits in cc)
-has_record (GuestRelease token) (Refused refusal) fits is = absurd (let bad : true ≡ false = fits in cc)
-has_record (Park run) (Refused refusal) fits is = absurd (let bad : true ≡ false = fits in cc)
-has_record event (Refused refusal) fits is = record { told = _; is = refl }
-has_record event (NotAdmitted back) fits is = absurd (let bad : false ≡ true = is in cc)
-has_record event (OutOfMemory back) fits is = absurd (let bad : false ≡ true = is in cc)
+pub has_record : (setup : Setup) (event : Event) (reply : Reply) → ReplyMatchesEvent event reply → is_recorded reply ≡ true → HasRecord setup event reply
+has_record setup event (Success given) fits is = record { told = _; is = refl }
+has_record setup (Advance run) (Refused refusal) fits is = absurd (let bad : true ≡ false = fits in cc)
+has_record setup (GuestRelease token) (Refused refusal) fits is = absurd (let bad : true ≡ false = fits in cc)
+has_record setup (Park run) (Refused refusal) fits is = absurd (let bad : true ≡ false = fits in cc)
+has_record setup event (Refused refusal) fits is = record { told = _; is = refl }
+has_record setup event (NotAdmitted back) fits is = absurd (let bad : false ≡ true = is in cc)
+has_record setup event (OutOfMemory back) fits is = absurd (let bad : false ≡ true = is in cc)
 
 pub since_more : (setup : Setup) (begun : List Record) (calls : ℕ) (old new : EngineState) (event : Event) (reply : Reply) → IsSince setup begun calls old → ReplyMatchesEvent event reply → is_recorded reply ≡ true → IsRecorded old event reply new → IsRun new → IsSince setup begun (calls + 1) new
 since_more setup begun calls old new event reply s fits is recorded run =
-    let made = has_record event reply fits is in
+    let made = has_record old.setup event reply fits is in
     let more : Records old new made.told = subst (λ (o : Option Record). MatchOption o (new ≡ old) (λ told. Records old new told)) made.is recorded in
     record {
       run = run;

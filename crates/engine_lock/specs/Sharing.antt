@@ -52,7 +52,7 @@ TellsUnrecorded setup history reply before after = after ≡ before
 -- What a call tells its caller, where this history stood. Where it is recorded its record joined the history, at its end, and the
 -- caller has seen the history with it.
 abbrev pub Tells : Setup → List Pair → Event → Reply → CallerState → CallerState → Type 0
-Tells setup history event reply before after = MatchOption (record_of event reply) (TellsUnrecorded setup history reply before after) (λ made. Joins setup history before (made ∷ []) after)
+Tells setup history event reply before after = MatchOption (record_of setup event reply) (TellsUnrecorded setup history reply before after) (λ made. Joins setup history before (made ∷ []) after)
 
 -- One call of a shared engine, a section under its lock: the engine as it was found, by its history with who made each record, and
 -- as it was left; what it answered, and what that tells the caller.

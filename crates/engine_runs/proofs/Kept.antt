@@ -25,7 +25,7 @@ abbrev pub HasRoom : Runs → Type 0
 HasRoom runs = (world : World) → run_meets_limit (record world { runs = runs }) ≡ false
 
 some_setup : Setup
-some_setup = record { limits = of_queues 0 []; controllers = 0; queues = []; carried = None }
+some_setup = record { limits = of_queues 0 []; controllers = 0; tables = []; queues = []; carried = None }
 
 -- then there is room, and a further number
 pub has_room : (runs : Runs) → HasRoom runs → (length runs.list < 256) × (runs.greatest < 4294967295)

@@ -14,8 +14,13 @@ pub record RunsState : Type 0 where
   -- of each live run, in the order of their numbers, the tokens that it has
   pub tokens : List (List (Option Freeze))
 
+-- no run, and these tables
+abbrev pub opened_runs : List (List ℕ) → RunsState
+opened_runs tables = record { runs = record { list = []; greatest = 0; tables = tables }; tokens = [] }
+
+-- no run, and tables of these lengths in which each word is 0
 abbrev pub no_runs : List ℕ → RunsState
-no_runs lengths = record { runs = record { list = []; greatest = 0; tables = map zero_table lengths }; tokens = [] }
+no_runs lengths = opened_runs (map zero_table lengths)
 
 -- the tokens of a run, as its record has them
 abbrev pub tokens_in : RunRecord → List (Option Freeze)

@@ -18,11 +18,11 @@ ghost use Rattle.world.specs.World.{LiveRun, World};
 ghost use Rattle.world.specs.Capacities.{most_runs};
 ghost use Rattle.world.specs.Lookups.{run_of, with_run};
 ghost use Rattle.world.specs.CcbSteps.{run_meets_limit};
-ghost use Rattle.table_store.specs.Tables.{HasWord, with_word, word_at};
+ghost use Rattle.table_store.specs.Tables.{HasWord, tables_with, with_word, word_at};
 ghost use Rattle.engine_runs.specs.Admits.{IsOutWith, IsRunRecorded, KnowsProgram};
 ghost use Rattle.engine_runs.specs.LiveRuns.{live_of};
 ghost use Rattle.engine_runs.specs.RunPlaces.{HasRunAt};
-ghost use Rattle.engine_runs.specs.RunsState.{no_runs, run_for, told, tokens_at, tokens_of};
+ghost use Rattle.engine_runs.specs.RunsState.{no_runs, opened_runs, run_for, told, tokens_at, tokens_of};
 ghost use Rattle.engine_runs.specs.Tokens.{AreTokensWith};
 
 use crate::held_tokens::{HeldTokens, hold, let_go, taken_at_start};
@@ -115,6 +115,23 @@ impl Runs {
             records: NumberedSlots::with_room(alloc, MAX_RUNS)?,
             greatest: 0,
             tables: TableStore::with_lengths(alloc, lengths)?,
+            spare: Vec::with_capacity(alloc, MAX_SPARE)?,
+            spare_tokens: Vec::with_capacity(alloc, MAX_SPARE)?,
+        })
+    }
+
+    /// The same, but each table begins with the words of its list, if there is one, as many as it has room for.
+    pub fn with_words(
+        alloc: Global,
+        lengths: &[u16],
+        firsts: &[Vec<u64>],
+    ) -> Result<Self, AllocError>
+        ensures { IfOk result (λ it. it ≡ opened_runs (tables_with lengths.now (map (λ words. words.items) firsts.now))) }
+    {
+        Ok(Runs {
+            records: NumberedSlots::with_room(alloc, MAX_RUNS)?,
+            greatest: 0,
+            tables: TableStore::with_words(alloc, lengths, firsts)?,
             spare: Vec::with_capacity(alloc, MAX_SPARE)?,
             spare_tokens: Vec::with_capacity(alloc, MAX_SPARE)?,
         })

@@ -55,4 +55,4 @@ follows_numbered config world lines new is are it =
 
 -- what fits is said of the transport alone
 pub fits_at : (state : NumberedState) (history : List Record) (config : Setup) → Fits config (left_behind state) → Fits config (engine_of state history).world
-fits_at state history config fits = record { ccbs = fits.ccbs; freezes = fits.freezes }
+fits_at state history config fits = record { ccbs = fits.ccbs; freezes = fits.freezes; plain = fits.plain }

@@ -16,7 +16,8 @@ use world_calls::{CarriedLine, Trace};
 pub enum SuccessionFault {
     /// A run of it is live.
     RunLive,
-    /// A live CCB is of a queue, or a freeze is of a queue or a controller, that the new configuration does not have.
+    /// A live CCB is of a queue, or a freeze is of a queue or a controller, that the new configuration does not have; or a live CCB has
+    /// a class or an advice, and the CCBs of the new configuration have none.
     DoesNotFit,
     /// Memory was refused.
     OutOfMemory,
@@ -32,7 +33,8 @@ pub struct Successor {
 }
 
 /// Ends an engine, and begins another one of this configuration that takes over its live CCBs, freezes, openings, words and clock. A
-/// queue keeps its openings if both configurations give it the same number, and a table its words if both give it the same length.
+/// queue keeps its openings if both configurations give it the same number, and a table its words if both give it the same length and the
+/// same first words; else it begins with those of the new configuration.
 /// The trace has the records of the old engine that were not handed on, and its sums. A refusal leaves the old engine as it was, and
 /// hands it back with the configuration.
 pub fn succeed(

@@ -11,7 +11,7 @@ use Rattle.ccb.specs.declared.call_refusal.CallRefusal.{CallRefusal}
 use Rattle.ccb.specs.declared.call_refusal.CallRefusal.TheVariants.{Limit, Unknown}
 use Rattle.freeze_ledger.specs.State.{LedgerState}
 use Rattle.world_calls.specs.declared.carried_line.CarriedCcb.{CarriedCcb}
-use Rattle.world.specs.declared.ccb_state.CcbState.TheVariants.{Active, Waiting}
+use Rattle.world.specs.declared.ccb_state.CcbState.TheVariants.{Active}
 use Rattle.world.specs.World.{LiveCcb}
 use Rattle.world.specs.Lookups.{is_active, is_waiting, live_count}
 use Rattle.world.proofs.Steps.Moves.{ccb_key}

@@ -7,6 +7,7 @@ use Rattle.std.proofs.lemmas.List.{map-set, get_or-set_same, get_or-set_other}
 use Rattle.std.proofs.lemmas.List.Elements.{All-push, All-filter}
 use Rattle.std.proofs.Math.ListN.{length-set}
 use Rattle.ccb.specs.declared.CcbId.{CcbId}
+use Rattle.ccb.specs.declared.QueueId.{QueueId}
 use Rattle.dev_queue.specs.Waiting.{waits}
 use Rattle.dev_queue.specs.State.{QueueState, empty_queue}
 use Rattle.freeze_ledger.specs.State.{LedgerState}
@@ -21,11 +22,11 @@ use Rattle.world.proofs.Lists.Rising.{rising_push, rising_leave, missing_high, f
 use Rattle.world.proofs.Steps.Moves.{ccb_key}
 use Rattle.world.specs.World.{Transport}
 use Rattle.engine_transport.specs.Listed.{ListState}
-use Rattle.engine_transport.specs.Queues.{is_recovering, waits_on, queue_state_of, queue_at, AreTold}
+use Rattle.engine_transport.specs.Queues.{is_recovering, pair_of, waits_on, queue_state_of, queue_at, AreTold}
 use Rattle.engine_transport.specs.Invariant.{KeepsTable, seen}
 use Rattle.engine_transport.proofs.Listed.{numbered_put, listed_as}
-use Rattle.engine_transport.proofs.Pairs.{waits_missing, waits_other}
-use Rattle.engine_transport.proofs.Told.{on, on_is, entered_other, changed_other, finished_other}
+use Rattle.engine_transport.proofs.Pairs.{waits_missing, waits_other, waits_there}
+use Rattle.engine_transport.proofs.Told.{on, on_is, entered_other, changed_other, finished_other, unchanged_is}
 
 -- one queue that learns, and others to which the change is nothing
 told_set : (queues : List QueueState) (before after : List LiveCcb) (queue : ℕ) (new : QueueState) → AreTold queues before → queue < length queues → new ≡ queue_state_of queue (queue_at queues queue).openings after → ((other openings : ℕ) → (queue ≡ other → ⊥) → queue_state_of other openings after ≡ queue_state_of other openings before) → AreTold (set queues queue new) after
@@ -93,6 +94,12 @@ waits_not list queues number x h found is =
     ap (λ (q : QueueState). waits number q.waiting) (h.told x.ccb.queue.0 (known_queue list queues number.0 x h found))
     ∙ waits_other (waits_on x.ccb.queue.0) number 0 list.live list.greatest x h.rising found (on_is is_waiting x.ccb.queue.0 x InRecovery refl is)
 
+-- one that waits does
+pub waits_found : (list : ListState) (queues : List QueueState) (number : CcbId) (x : LiveCcb) → KeepsTable list queues → ccb_of number.0 list.live ≡ Some x → x.state ≡ Waiting → waits number (queue_at queues x.ccb.queue.0).waiting ≡ true
+waits_found list queues number x h found is =
+    ap (λ (q : QueueState). waits number q.waiting) (h.told x.ccb.queue.0 (known_queue list queues number.0 x h found))
+    ∙ waits_there (waits_on x.ccb.queue.0) number list.live x found (on_is is_waiting x.ccb.queue.0 x Waiting refl is)
+
 -- a number that was not given does not wait
 pub waits_not_yet : (list : ListState) (queues : List QueueState) (queue : ℕ) (number : CcbId) → KeepsTable list queues → queue < length queues → list.greatest < number.0 → waits number (queue_at queues queue).waiting ≡ false
 waits_not_yet list queues queue number h known above =
@@ -113,6 +120,15 @@ kept_changed list queues c x queue new h found of was_of new_is =
           (λ other openings apart. changed_other other openings list.live list.greatest c x h.rising found (of ∙ sym was_of) (λ e. apart (sym was_of ∙ e)));
       few = omega (arith, n, h.few);
     }
+
+-- a change that is nothing to its queue
+pub kept_unchanged : (list : ListState) (queues : List QueueState) (c x : LiveCcb) → KeepsTable list queues → ccb_of c.ccb.number.0 list.live ≡ Some x → c.ccb.queue ≡ x.ccb.queue → c.state ≡ x.state → pair_of c ≡ pair_of x → KeepsTable (listed_as list.greatest (with_ccb c list.live)) queues
+kept_unchanged list queues c x h found of is pair = record {
+  rising = numbered_put list.live list.greatest c h.rising;
+  known = all_put ccb_key (λ (l : LiveCcb). l.ccb.queue.0 < length queues) c list.live (omega (arith, known_queue list queues c.ccb.number.0 x h found, ap (λ (q : QueueId). q.0) of)) h.known;
+  told = λ queue below. h.told queue below ∙ sym (unchanged_is queue (queue_at queues queue).openings list.live list.greatest c x h.rising found of is pair);
+  few = h.few;
+}
 
 pub kept_left : (list : ListState) (queues : List QueueState) (number : ℕ) (x : LiveCcb) (new : QueueState) → KeepsTable list queues → ccb_of number list.live ≡ Some x → queue_state_of x.ccb.queue.0 (queue_at queues x.ccb.queue.0).openings (leave ccb_key number list.live) ≡ new → KeepsTable (listed_as list.greatest (leave ccb_key number list.live)) (set queues x.ccb.queue.0 new)
 kept_left list queues number x new h found new_is =

@@ -1,8 +1,8 @@
 -- The pairs of those CCBs that pass a test, under one more CCB, a change of one, and one fewer: what a queue's list of
 -- waiting CCBs has to become.
-use Rattle.std.proofs.Common.{◌≡◌, ℕ, ◌<◌, ◌≤◌, List, [], ◌∷◌, ◌++◌, length, map, Bool, true, false, not, eqb, ltb, Some, None, inl, inr, refl, ap, sym, ◌∙◌, arith, append-nil}
+use Rattle.std.proofs.Common.{◌≡◌, ℕ, ◌<◌, ◌≤◌, List, [], ◌∷◌, ◌++◌, length, map, Bool, true, false, not, ◌||◌, eqb, ltb, Some, None, inl, inr, refl, ap, sym, ◌∙◌, arith, append-nil}
 use Rattle.std.specs.List.{filter, count_by}
-use Rattle.std.proofs.lemmas.Bool.{cases_Bool, cases_eq, cond-true, cond-false, eq-eqb, ne_eqb, lt-ltb, le-ltb, or_from, not_from_true, not_from_false}
+use Rattle.std.proofs.lemmas.Bool.{cases_Bool, cases_eq, cond-true, cond-false, eq-eqb, ne_eqb, lt-ltb, le-ltb, or_from, or_right, not_from_true, not_from_false}
 use Rattle.std.proofs.lemmas.List.{length-map}
 use Rattle.std.proofs.lemmas.List.Elements.{filter-append}
 use Rattle.std.proofs.lemmas.List.Sums.{length-filter}
@@ -64,6 +64,23 @@ module _ (p : LiveCcb → Bool) where
             let rest = waits_missing n ys (sym (at_tail ccb_key n.0 y ys apart) ∙ e) in
             elim (cases_Bool (p y)) [
               | inl one ↦ ap (waits n) (pairs_yes y ys one) ∙ or_from _ _ (ne_eqb _ _ apart) rest
+              | inr none ↦ ap (waits n) (pairs_no y ys none) ∙ rest
+            ]
+      ]
+
+  -- that of a CCB that passes waits
+  pub waits_there : (n : CcbId) (xs : List LiveCcb) (x : LiveCcb) → at ccb_key n.0 xs ≡ Some x → p x ≡ true → waits n (pairs_of p xs) ≡ true
+  waits_there n [] x e passes = absurd (let bad : None ≡ Some x = e in cc)
+  waits_there n (y ∷ ys) x e passes =
+      elim (cases_eq (ccb_key y) n.0) [
+        | inl same ↦
+            let both : Some y ≡ Some x = sym (at_head ccb_key n.0 y ys same) ∙ e in
+            let is : y ≡ x = cc in
+            ap (waits n) (pairs_yes y ys (ap p is ∙ passes)) ∙ ap (λ (b : Bool). b || waits n (pairs_of p ys)) (eq-eqb _ _ same)
+        | inr apart ↦
+            let rest = waits_there n ys x (sym (at_tail ccb_key n.0 y ys apart) ∙ e) passes in
+            elim (cases_Bool (p y)) [
+              | inl one ↦ ap (waits n) (pairs_yes y ys one) ∙ or_right _ _ rest
               | inr none ↦ ap (waits n) (pairs_no y ys none) ∙ rest
             ]
       ]
@@ -192,4 +209,49 @@ module _ (p : LiveCcb → Bool) where
         | inr apart ↦
             ap (pairs_of p) (leave_tail ccb_key n y ys apart)
             ∙ pairs_both y (leave ccb_key n ys) ys (pairs_gone (ccb_key y) ys high n x h.1 (sym (at_tail ccb_key n y ys apart) ∙ e) was)
+      ]
+
+  -- one fewer that passed
+  pub pairs_out : (low : ℕ) (xs : List LiveCcb) (high : ℕ) (n : CcbId) (x : LiveCcb) → AreRising low (map ccb_key xs) high → at ccb_key n.0 xs ≡ Some x → p x ≡ true → pairs_of p (leave ccb_key n.0 xs) ≡ without n (pairs_of p xs)
+  pairs_out low [] high n x h e was = absurd (let bad : None ≡ Some x = e in cc)
+  pairs_out low (y ∷ ys) high n x h e was =
+      elim (cases_eq (ccb_key y) n.0) [
+        | inl same ↦
+            let both : Some y ≡ Some x = sym (at_head ccb_key n.0 y ys same) ∙ e in
+            let is_x : y ≡ x = cc in
+            ap (pairs_of p) (leave_here ccb_key low ys high n.0 y h same)
+            ∙ (sym (without_low n (ccb_key y) ys high (omega (arith, same)) h.1)
+            ∙ (sym (cond-false (not (eqb (ccb_key y) n.0)) _ _ (not_from_true _ (eq-eqb _ _ same)))
+            ∙ ap (without n) (sym (pairs_yes y ys (ap p is_x ∙ was)))))
+        | inr apart ↦
+            let rest = pairs_out (ccb_key y) ys high n x h.1 (sym (at_tail ccb_key n.0 y ys apart) ∙ e) was in
+            ap (pairs_of p) (leave_tail ccb_key n.0 y ys apart)
+            ∙ elim (cases_Bool (p y)) [
+              | inl one ↦
+                  pairs_yes y (leave ccb_key n.0 ys) one
+                  ∙ (ap (λ (qs : List WaitingCcb). pair_of y ∷ qs) rest
+                  ∙ (sym (cond-true (not (eqb (ccb_key y) n.0)) _ _ (not_from_false _ (ne_eqb _ _ apart)))
+                  ∙ ap (without n) (sym (pairs_yes y ys one))))
+              | inr none ↦ pairs_no y (leave ccb_key n.0 ys) none ∙ (rest ∙ ap (without n) (sym (pairs_no y ys none)))
+            ]
+      ]
+
+  -- one that is the same pair, and passes as before
+  pub pairs_put_same : (low : ℕ) (xs : List LiveCcb) (high : ℕ) (c x : LiveCcb) → AreRising low (map ccb_key xs) high → at ccb_key (ccb_key c) xs ≡ Some x → p c ≡ p x → pair_of c ≡ pair_of x → pairs_of p (put ccb_key c xs) ≡ pairs_of p xs
+  pairs_put_same low [] high c x h e passes is = refl
+  pairs_put_same low (y ∷ ys) high c x h e passes is =
+      elim (cases_eq (ccb_key y) (ccb_key c)) [
+        | inl same ↦
+            let both : Some y ≡ Some x = sym (at_head ccb_key (ccb_key c) y ys same) ∙ e in
+            let is_x : y ≡ x = cc in
+            ap (pairs_of p) (put_here ccb_key low ys high c y h same)
+            ∙ elim (cases_Bool (p y)) [
+              | inl one ↦
+                  pairs_yes c ys (passes ∙ (sym (ap p is_x) ∙ one))
+                  ∙ (ap (λ (q : WaitingCcb). q ∷ pairs_of p ys) (is ∙ sym (ap pair_of is_x)) ∙ sym (pairs_yes y ys one))
+              | inr none ↦ pairs_no c ys (passes ∙ (sym (ap p is_x) ∙ none)) ∙ sym (pairs_no y ys none)
+            ]
+        | inr apart ↦
+            ap (pairs_of p) (put_tail ccb_key c y ys apart)
+            ∙ pairs_both y (put ccb_key c ys) ys (pairs_put_same (ccb_key y) ys high c x h.1 (sym (at_tail ccb_key (ccb_key c) y ys apart) ∙ e) passes is)
       ]

@@ -3,9 +3,9 @@ use Rattle.std.proofs.Common.{◌≡◌, ℕ, ◌+◌, ◌<◌, List, [], ◌∷
 use Rattle.std.proofs.lemmas.List.{length-map}
 use Rattle.ccb.specs.declared.CcbId.{CcbId}
 use Rattle.ccb.specs.declared.ccb.Ccb.{Ccb}
-use Rattle.ccb.specs.Ccb.{started}
+use Rattle.ccb.specs.Ccb.{advised, started}
 use Rattle.dev_queue.specs.Waiting.{IsLeastNumber}
-use Rattle.dev_queue.specs.State.{QueueState, with_waiting, with_started, with_stopped, with_left}
+use Rattle.dev_queue.specs.State.{QueueState, with_waiting, with_started, with_withdrawn, with_stopped, with_left}
 use Rattle.freeze_ledger.specs.State.{LedgerState}
 use Rattle.world.specs.declared.ccb_state.CcbState.TheVariants.{Waiting, Active, InRecovery}
 use Rattle.world.specs.World.{LiveCcb}
@@ -14,13 +14,13 @@ use Rattle.world.proofs.Lists.Found.{leave}
 use Rattle.world.proofs.Steps.Moves.{ccb_key, ccb_found}
 use Rattle.world.specs.World.{Transport}
 use Rattle.engine_transport.specs.Listed.{ListState}
-use Rattle.engine_transport.specs.Queues.{queue_at, with_gone}
+use Rattle.engine_transport.specs.Queues.{pair_of, queue_at, with_gone}
 use Rattle.ccb.specs.Places.{places_of}
 use Rattle.engine_transport.specs.Invariant.{KeepsTable, KeepsTransport, seen}
 use Rattle.engine_transport.proofs.Listed.{listed_as}
-use Rattle.engine_transport.proofs.Told.{entered_is, started_is, recovering_is, requeued_is, finished_is}
+use Rattle.engine_transport.proofs.Told.{entered_is, started_is, recovering_is, requeued_is, finished_is, withdrawn_is}
 use Rattle.engine_transport.proofs.Next.{Starts, least_starts}
-use Rattle.engine_transport.proofs.Kept.{openings_set, known_queue, kept_changed, kept_left, kept_entered}
+use Rattle.engine_transport.proofs.Kept.{openings_set, known_queue, kept_changed, kept_unchanged, kept_left, kept_entered}
 
 openings_gone : (active : Bool) (queue : QueueState) → (with_gone active queue).openings ≡ queue.openings
 openings_gone true queue = refl
@@ -86,6 +86,25 @@ module _ (ledger : LedgerState) (clock : ℕ) where
       (record {
         kept = kept_left list queues number x (out (queue_at queues x.ccb.queue.0)) h found new;
         seen_is = seen_set (listed_as list.greatest (leave ccb_key number list.live)) queues x.ccb.queue.0 (out (queue_at queues x.ccb.queue.0)) (openings_gone (is_active x.state) (queue_at queues x.ccb.queue.0));
+      })
+
+  pub withdrawn : (list after : ListState) (queues queues_after : List QueueState) (number : CcbId) (known_as : ℕ) (x : LiveCcb) → KeepsTable list queues → ccb_of number.0 list.live ≡ Some x → x.state ≡ Waiting → after ≡ listed_as list.greatest (leave ccb_key number.0 list.live) → queues_after ≡ set queues known_as (with_withdrawn number (queue_at queues known_as)) → known_as ≡ x.ccb.queue.0 → After after queues_after (seen (listed_as list.greatest (leave ccb_key number.0 list.live)) queues ledger clock)
+  withdrawn list after queues queues_after number known_as x h found was e es same =
+      let told = h.told x.ccb.queue.0 (known_queue list queues number.0 x h found) in
+      let new = withdrawn_is x.ccb.queue.0 (queue_at queues x.ccb.queue.0).openings list.live list.greatest number x h.rising found refl was ∙ ap (with_withdrawn number) (sym told) in
+      carried (with_withdrawn number) (listed_as list.greatest (leave ccb_key number.0 list.live)) after queues queues_after x.ccb.queue.0 known_as _ e es same
+      (record {
+        kept = kept_left list queues number.0 x (with_withdrawn number (queue_at queues x.ccb.queue.0)) h found new;
+        seen_is = seen_set (listed_as list.greatest (leave ccb_key number.0 list.live)) queues x.ccb.queue.0 (with_withdrawn number (queue_at queues x.ccb.queue.0)) refl;
+      })
+
+  -- what is advised is nothing to the queues
+  pub advised_one : (list after : ListState) (queues : List QueueState) (c x : LiveCcb) (word : ℕ) → KeepsTable list queues → c ≡ record x { ccb = advised x.ccb word } → ccb_of c.ccb.number.0 list.live ≡ Some x → after ≡ listed_as list.greatest (with_ccb c list.live) → After after queues (seen (listed_as list.greatest (with_ccb c list.live)) queues ledger clock)
+  advised_one list after queues c x word h is found e =
+      subst (λ (l : ListState). After l queues (seen (listed_as list.greatest (with_ccb c list.live)) queues ledger clock)) (sym e)
+      (record {
+        kept = kept_unchanged list queues c x h found (ap (λ (l : LiveCcb). l.ccb.queue) is) (ap (λ (l : LiveCcb). l.state) is) (ap pair_of is);
+        seen_is = refl;
       })
 
   pub recovered : (list after : ListState) (queues queues_after : List QueueState) (known_as : ℕ) (c x : LiveCcb) → KeepsTable list queues → ccb_of c.ccb.number.0 list.live ≡ Some x → x.state ≡ Active → c.state ≡ InRecovery → c.ccb.queue.0 ≡ x.ccb.queue.0 → after ≡ listed_as list.greatest (with_ccb c list.live) → queues_after ≡ set queues known_as (with_stopped true (queue_at queues known_as)) → known_as ≡ x.ccb.queue.0 → After after queues_after (seen (listed_as list.greatest (with_ccb c list.live)) queues ledger clock)

@@ -6,7 +6,8 @@ use Rattle.std.proofs.lemmas.List.Elements.{All-head, All-tail}
 use Rattle.std.proofs.lemmas.Bool.{and_left, eq-eqb, ne_eqb}
 use Rattle.std.proofs.lemmas.List.Sums.{sum_by-cons, sum_by_push}
 use Rattle.ccb.specs.Rising.{AreRising}
-use Rattle.dev_queue.specs.State.{QueueState, empty_queue, live, with_waiting, with_started, with_stopped, with_left}
+use Rattle.ccb.specs.declared.CcbId.{CcbId}
+use Rattle.dev_queue.specs.State.{QueueState, empty_queue, live, with_waiting, with_started, with_withdrawn, with_stopped, with_left}
 use Rattle.world.specs.declared.ccb_state.CcbState.{CcbState}
 use Rattle.world.specs.declared.ccb_state.CcbState.TheVariants.{Waiting, Active, InRecovery}
 use Rattle.world.specs.World.{LiveCcb}
@@ -14,8 +15,8 @@ use Rattle.world.specs.Lookups.{is_waiting, is_active, is_of, live_count, active
 use Rattle.world.proofs.Lists.Found.{leave}
 use Rattle.world.proofs.Lists.Rising.{count_put, count_gone}
 use Rattle.world.proofs.Steps.Moves.{ccb_key}
-use Rattle.engine_transport.specs.Queues.{is_recovering, pairs_of, waits_on, recovers_on, queue_state_of, with_gone}
-use Rattle.engine_transport.proofs.Pairs.{pairs_no, pairs_length, pairs_push_yes, pairs_push_no, pairs_put_out, pairs_put_in, pairs_put_no, pairs_gone}
+use Rattle.engine_transport.specs.Queues.{is_recovering, pair_of, pairs_of, waits_on, recovers_on, queue_state_of, with_gone}
+use Rattle.engine_transport.proofs.Pairs.{pairs_no, pairs_length, pairs_push_yes, pairs_push_no, pairs_put_out, pairs_put_in, pairs_put_no, pairs_put_same, pairs_gone, pairs_out}
 
 -- the CCB is of the queue, and in a state of this kind
 abbrev pub on : (CcbState → Bool) → ℕ → LiveCcb → Bool
@@ -134,6 +135,21 @@ finished_other queue openings ccbs high number x rising found apart =
     same_queue _ _ (pairs_gone (waits_on queue) 0 ccbs high number x rising found (on_other is_waiting queue x apart))
     (omega (arith, gone is_active queue ccbs high number x rising found false (on_other is_active queue x apart)))
     (omega (arith, gone is_recovering queue ccbs high number x rising found false (on_other is_recovering queue x apart))) refl
+
+-- a CCB that waits is withdrawn
+pub withdrawn_is : (queue openings : ℕ) (ccbs : List LiveCcb) (high : ℕ) (number : CcbId) (x : LiveCcb) → AreRising 0 (map ccb_key ccbs) high → ccb_of number.0 ccbs ≡ Some x → x.ccb.queue.0 ≡ queue → x.state ≡ Waiting → queue_state_of queue openings (leave ccb_key number.0 ccbs) ≡ with_withdrawn number (queue_state_of queue openings ccbs)
+withdrawn_is queue openings ccbs high number x rising found was_of was =
+    same_queue _ _ (pairs_out (waits_on queue) 0 ccbs high number x rising found (on_is is_waiting queue x Waiting was_of was))
+    (omega (arith, gone is_active queue ccbs high number.0 x rising found false (on_is is_active queue x Waiting was_of was)))
+    (omega (arith, gone is_recovering queue ccbs high number.0 x rising found false (on_is is_recovering queue x Waiting was_of was))) refl
+
+-- a CCB of which nothing changes that its queue knows
+pub unchanged_is : (queue openings : ℕ) (ccbs : List LiveCcb) (high : ℕ) (c x : LiveCcb) → AreRising 0 (map ccb_key ccbs) high → ccb_of c.ccb.number.0 ccbs ≡ Some x → c.ccb.queue ≡ x.ccb.queue → c.state ≡ x.state → pair_of c ≡ pair_of x → queue_state_of queue openings (with_ccb c ccbs) ≡ queue_state_of queue openings ccbs
+unchanged_is queue openings ccbs high c x rising found of is pair =
+    let same : (kind : CcbState → Bool) → on kind queue c ≡ on kind queue x = λ kind i. on kind queue (record { ccb = record x.ccb { queue = of i }; state = is i }) in
+    same_queue _ _ (pairs_put_same (waits_on queue) 0 ccbs high c x rising found (same is_waiting) pair)
+    (omega (arith, moved is_active queue ccbs high c x rising found (on is_active queue x) (on is_active queue x) (same is_active) refl))
+    (omega (arith, moved is_recovering queue ccbs high c x rising found (on is_recovering queue x) (on is_recovering queue x) (same is_recovering) refl)) refl
 
 -- no CCB is of the queue
 nothing_waits : (queue : ℕ) (ccbs : List LiveCcb) → All (λ (l : LiveCcb). l.ccb.queue.0 < queue) ccbs → pairs_of (waits_on queue) ccbs ≡ []

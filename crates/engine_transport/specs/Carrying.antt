@@ -19,7 +19,7 @@ carried_state false = Waiting
 
 -- the CCB, of which nothing is left of an earlier completion
 abbrev pub carried_of : CarriedCcb → LiveCcb
-carried_of it = record { ccb = record (submitted it.number it.queue it.priority it.retries) { attempts = it.attempts }; state = carried_state it.is_active }
+carried_of it = record { ccb = record (submitted it.number it.queue it.priority it.retries it.class) { attempts = it.attempts; advice = it.advice }; state = carried_state it.is_active }
 
 -- what its queue has to know then
 abbrev pub with_carried : CarriedCcb → QueueState → QueueState

@@ -1,9 +1,9 @@
 // A CCB that is not finished, with where it is. It relies on `ccb` for CCBs and on `world` for what contracts see.
 
 ghost use Rattle.std.specs.Prelude.{◌≡◌};
-ghost use Rattle.ccb.specs.Ccb.{started, requeued};
+ghost use Rattle.ccb.specs.Ccb.{advised, started, requeued};
 ghost use Rattle.world.specs.declared.ccb_state.CcbState.TheVariants.{Active, Waiting};
-ghost use Rattle.world.specs.Lookups.{is_active};
+ghost use Rattle.world.specs.Lookups.{is_active, is_waiting};
 ghost use Rattle.engine_transport.specs.Carrying.{carried_of};
 
 use ccb::{Ccb, CcbId};
@@ -46,8 +46,10 @@ impl LiveCcb {
             carried.queue,
             carried.priority,
             carried.retries,
+            carried.class,
         );
         ccb.attempts = carried.attempts;
+        ccb.advice = carried.advice;
         let state = if carried.is_active {
             CcbState::Active
         } else {
@@ -87,6 +89,16 @@ impl LiveCcb {
         }
     }
 
+    /// Whether it waits.
+    pub fn is_waiting(&self) -> bool
+        ensures { result ≡ is_waiting self.now.state }
+    {
+        match self.state {
+            CcbState::Waiting => true,
+            CcbState::Active | CcbState::InRecovery => false,
+        }
+    }
+
     /// Its queue started it: a device works on it.
     pub(crate) fn start(&mut self)
         ensures { self.new ≡ record { ccb = started self.old.ccb; state = Active } }
@@ -101,6 +113,13 @@ impl LiveCcb {
     {
         self.ccb.requeue(used);
         self.state = CcbState::Waiting;
+    }
+
+    /// This is what is advised for its next start, in place of what was advised before.
+    pub(crate) fn advise(&mut self, word: u32)
+        ensures { self.new ≡ record self.old { ccb = advised self.old.ccb word } }
+    {
+        self.ccb.advise(word);
     }
 
     /// The number of the CCB.

@@ -1,9 +1,9 @@
 // The device queues as a plain list: what a call of one of them changes. It relies on `dev_queue` for the queues.
 
-ghost use Rattle.std.specs.Prelude.{◌≡◌, ◌<◌, ◌≤◌, ◌++◌, [], ◌∷◌, false, nat_le, length, slice_set, if◌then◌else◌, IfOk, OnOk, OnErr};
+ghost use Rattle.std.specs.Prelude.{◌≡◌, ◌<◌, ◌≤◌, ◌++◌, [], ◌∷◌, false, true, nat_le, length, slice_set, if◌then◌else◌, IfOk, OnOk, OnErr};
 ghost use Rattle.std.specs.Result.{result_err};
 ghost use Rattle.dev_queue.specs.Waiting.{IsLeastNumber, waits};
-ghost use Rattle.dev_queue.specs.State.{empty_queue, live, with_waiting, with_started, with_stopped, with_left};
+ghost use Rattle.dev_queue.specs.State.{empty_queue, live, with_waiting, with_started, with_withdrawn, with_stopped, with_left};
 ghost use Rattle.dev_queue.specs.Faults.{insert_fault, start_fault};
 ghost use Rattle.engine_transport.specs.Carrying.{with_carried};
 ghost use Rattle.engine_transport.specs.Queues.{queue_at, with_gone};
@@ -143,6 +143,15 @@ impl QueueList {
         ensures refused { OnErr result (self.new ≡ self.old) }
     {
         self.queues[queue.0 as usize].start(freezes)
+    }
+
+    /// A CCB of the queue that waits is out.
+    pub(crate) fn withdraw(&mut self, queue: QueueId, number: CcbId)
+        requires known { queue.0 < length self.old }
+        requires there { waits number (queue_at self.old queue.0).waiting ≡ true }
+        ensures { self.new ≡ slice_set self.old queue.0 (with_withdrawn number (queue_at self.old queue.0)) }
+    {
+        self.queues[queue.0 as usize].withdraw(number);
     }
 
     /// The queue has so many openings from now on.

@@ -2,9 +2,9 @@
 // of the freezes that guests, runs and timers hold. It relies on `ccb_list` for the CCBs, on `queue_list` for the queues,
 // and on `freeze_ledger` for the freezes.
 
-ghost use Rattle.std.specs.Prelude.{◌≡◌, ℕ, ◌+◌, ◌<◌, ◌≤◌, ◌++◌, [], ◌∷◌, ◌==◌, ◌↔◌, not, true, false, length, map, filter, count_by, slice_index, slice_index_or, slice_set, All, Contains, IsTrue, IsSome, IsNone, IsErrAnd, None, Some, IfOk, IfSome, IfNone, OnOk, OnErr};
+ghost use Rattle.std.specs.Prelude.{◌≡◌, ℕ, ◌+◌, ◌<◌, ◌≤◌, ◌++◌, [], ◌∷◌, ◌==◌, ◌↔◌, not, true, false, Option, length, map, filter, count_by, slice_index, slice_index_or, slice_set, All, Contains, IsTrue, IsSome, IsNone, IsErrAnd, None, Some, IfOk, IfSome, IfNone, OnOk, OnErr};
 ghost use Rattle.std.specs.Option.{is_some};
-ghost use Rattle.ccb.specs.Ccb.{completed, requeued};
+ghost use Rattle.ccb.specs.Ccb.{advised, completed, requeued};
 ghost use Rattle.dev_queue.specs.State.{empty_queue};
 ghost use Rattle.freeze_ledger.specs.declared.freeze.Holder.TheVariants.{Guest, Run};
 ghost use Rattle.ccb.specs.declared.place.Place.TheVariants.{Controller, Device};
@@ -13,17 +13,17 @@ ghost use Rattle.freeze_ledger.specs.Freezes.{entry_of, frozen, handed_over, hol
 ghost use Rattle.freeze_ledger.specs.Deadlines.{some_timer};
 ghost use Rattle.ccb.specs.Places.{index_of, places_of};
 ghost use Rattle.world.specs.declared.ccb_state.CcbState.TheVariants.{Waiting, Active as IsActive, InRecovery};
-ghost use Rattle.world.specs.World.{Setup, World, queue_count, queue_setup, LiveCcb as WorldCcb};
+ghost use Rattle.world.specs.World.{Setup, World, class_in, queue_count, queue_setup, version_of, LiveCcb as WorldCcb};
 ghost use Rattle.world.specs.Capacities.{most_controllers, most_queues, most_ccbs, last_reading};
 ghost use Rattle.world.specs.Lookups.{is_waiting, is_active, ccb_of, with_ccb};
 ghost use Rattle.world.specs.Refusals.{is_unknown};
 ghost use Rattle.world_calls.specs.declared.call.Call.TheVariants.{Submit, Dispatch, GuestFreeze, GuestRelease, Clock};
 ghost use Rattle.world_calls.specs.declared.call_answer.CallAnswer.TheVariants as answers;
 ghost use Rattle.ccb.specs.declared.call_refusal.CallRefusal.TheVariants.{Unknown};
-ghost use Rattle.world_calls.specs.Answered.{ccb_answer, freeze_answer, removed_answer};
+ghost use Rattle.world_calls.specs.Answered.{ccb_answer, freeze_answer, removed_answer, start_answer};
 ghost use Rattle.world.specs.Event.{replies};
 ghost use Rattle.world.specs.FreezeSteps.{is_guest};
-ghost use Rattle.world.specs.Step.{step_call};
+ghost use Rattle.world.specs.Step.{is_call, step_call};
 ghost use Rattle.world.specs.QueueInfo.{queue_info};
 ghost use Rattle.engine_transport.specs.Freezing.{IsNextDue, IsTaken, took};
 ghost use Rattle.engine_transport.specs.Listed.{IsPlaceOf};
@@ -37,7 +37,7 @@ use std::alloc::{AllocError, Global};
 use std::marker::Model;
 use timer_events::expire_due;
 use world::{CcbState, MAX_CONTROLLERS, QueueInfo};
-use world_calls::CallRefusal;
+use world_calls::{CallRefusal, Start};
 
 /// The last clock reading that there is, in milliseconds: 2^62.
 const LAST_READING: u64 = 4_611_686_018_427_387_904;
@@ -92,17 +92,19 @@ impl Transport {
         })
     }
 
-    /// Submits a CCB to a queue: it waits, under the number after the greatest given. C1 where there is no such
-    /// queue, C2 where the queue has 256 live CCBs, there are 4096 in all, or the numbers are used up. A refusal
-    /// changes nothing.
+    /// Submits a CCB of this class to a queue: it waits, under the number after the greatest given. If CCBs have no class it is 0. C1
+    /// where there is no such queue, C2 where the queue has 256 live CCBs, there are 4096 in all, or the numbers are used up. A
+    /// refusal changes nothing.
     pub fn submit(
         &mut self,
         queue: QueueId,
         priority: u32,
         retries: u32,
+        class: u32,
     ) -> Result<CcbId, CallRefusal>
         ensures step { (setup : Setup) (world : World) → queue_count setup ≡ length self.old.openings →
-            step_call setup (record world { transport = self.old }) (Submit queue priority retries) ≡ Some (replies (ccb_answer result), record world { transport = self.new }) }
+            (said : Option ℕ) → class_in said ≡ class → is_call setup (Submit queue priority retries said) ≡ true →
+            step_call setup (record world { transport = self.old }) (Submit queue priority retries said) ≡ Some (replies (ccb_answer result), record world { transport = self.new }) }
         ensures freezes { self.new.freezes ≡ self.old.freezes }
     {
         if queue.0 as usize >= self.queues.len() {
@@ -115,7 +117,7 @@ impl Transport {
         match self.queues.insert(queue, number, priority) {
             Err(fault) => Err(refusal(fault)),
             Ok(()) => {
-                let ccb = Ccb::new(number, queue, priority, retries);
+                let ccb = Ccb::new(number, queue, priority, retries, class);
                 self.ccbs.enter(LiveCcb::new(ccb, CcbState::Waiting));
                 Ok(number)
             }
@@ -123,12 +125,12 @@ impl Transport {
     }
 
     /// Starts the waiting CCB of the queue that has the lowest priority number, and among these the lowest CCB number:
-    /// it is active. Refused with the first refusal of a dispatch that holds (`ccb::REFUSALS` has them in their order), which
-    /// changes nothing.
-    pub fn dispatch(&mut self, queue: QueueId, controller: u32) -> Result<CcbId, CallRefusal>
+    /// it is active. Its number is answered with what was advised for this start, or 0, which is advised no more. Refused with the
+    /// first refusal of a dispatch that holds (`ccb::REFUSALS` has them in their order), which changes nothing.
+    pub fn dispatch(&mut self, queue: QueueId, controller: u32) -> Result<Start, CallRefusal>
         requires { controller < most_controllers }
         ensures step { (setup : Setup) (world : World) → queue_count setup ≡ length self.old.openings → (queue_setup setup queue.0).controller ≡ controller →
-            step_call setup (record world { transport = self.old }) (Dispatch queue) ≡ Some (replies (ccb_answer result), record world { transport = self.new }) }
+            step_call setup (record world { transport = self.old }) (Dispatch queue) ≡ Some (replies (start_answer (version_of setup) result), record world { transport = self.new }) }
         ensures unknown { length self.old.openings ≤ queue.0 → IsErrAnd result (λ refusal. refusal ≡ Unknown) × (self.new ≡ self.old) }
         ensures freezes { self.new.freezes ≡ self.old.freezes }
     {
@@ -146,9 +148,13 @@ impl Transport {
                     unreachable!()
                 };
                 let mut next = *self.ccbs.at(place);
+                let advice = next.as_ccb().advice;
                 next.start();
                 self.ccbs.change(place, &next);
-                Ok(number)
+                Ok(Start {
+                    ccb: number,
+                    advice,
+                })
             }
         }
     }
@@ -192,6 +198,28 @@ impl Transport {
     {
         let live = self.ccbs.remove(ccb);
         self.queues.leave(live.ccb().queue, live.is_active());
+    }
+
+    /// The CCB of this number is gone, since its host does not want it. It asks for one that waits.
+    pub fn withdraw(&mut self, ccb: CcbId)
+        requires { (it : WorldCcb) × (ccb_of ccb.0 self.old.live ≡ Some it) × (it.state ≡ Waiting) }
+        ensures { self.new ≡ record self.old { live = filter (λ live. not (live.ccb.number.0 == ccb.0)) self.old.live } }
+    {
+        let live = self.ccbs.remove(ccb);
+        self.queues.withdraw(live.ccb().queue, ccb);
+    }
+
+    /// This is what is advised for the next start of the CCB of this number, in place of what was advised before. It asks for a live one.
+    pub fn advise(&mut self, ccb: CcbId, word: u32)
+        requires { (it : WorldCcb) × (ccb_of ccb.0 self.old.live ≡ Some it) }
+        ensures { (it : WorldCcb) → ccb_of ccb.0 self.old.live ≡ Some it → self.new ≡ record self.old { live = with_ccb (record it { ccb = advised it.ccb word }) self.old.live } }
+    {
+        let Some(place) = self.ccbs.place_of(ccb) else {
+            unreachable!()
+        };
+        let mut live = *self.ccbs.at(place);
+        live.advise(word);
+        self.ccbs.change(place, &live);
     }
 
     /// The completion of an active CCB, which stands at this place, failed. A freeze of its queue is taken for the run of

@@ -6,7 +6,7 @@ use crate::explanation::{Explanation, Shown};
 pub(crate) const CALLS: &[Explanation] = &[
     // C1
     Explanation {
-        meaning: "there is no such queue or controller, no such CCB, or no such run that is parked",
+        meaning: "there is no such queue or controller, no such CCB, or no such run that is parked; or the version lacks the call",
         cause: "queues and controllers are numbered from 0, CCBs from 1; or the CCB is finished",
         advice: None,
         shown: Shown::Scenario,
@@ -24,7 +24,7 @@ pub(crate) const CALLS: &[Explanation] = &[
     },
     // C3
     Explanation {
-        meaning: "the CCB is not active",
+        meaning: "the CCB is not active; of `withdraw`, it does not wait",
         cause: "it waits and was not dispatched, or is in recovery",
         advice: None,
         shown: Shown::Scenario,
@@ -100,7 +100,7 @@ pub(crate) const QUEUES: &[Explanation] = &[
     },
     // Q5
     Explanation {
-        meaning: "the controller is frozen that the queue is under, in version 2 alone",
+        meaning: "the controller is frozen that the queue is under, from version 2 on",
         cause: "a run or a guest froze it for all its queues",
         advice: None,
         shown: Shown::Scenario,

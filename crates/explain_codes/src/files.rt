@@ -35,7 +35,7 @@ pub(crate) const MANIFESTS: &[Explanation] = &[
     },
     // M4
     Explanation {
-        meaning: "`version` is neither 1 nor 2, `openings` not 1 to 255, `length` not 1 to 4096, `controllers` not 1 to 8, or `controller` not below it",
+        meaning: "`version` is none of 1, 2 and 3, `openings` not 1 to 255, `length` not 1 to 4096, `controllers` not 1 to 8, `controller` not below it, or `words` has more words than the table, or a negative one",
         cause: "controllers are counted from 1: they are numbered from 0",
         advice: Some("write a number of the range"),
         shown: Shown::Manifest,
@@ -80,7 +80,7 @@ pub(crate) const MANIFESTS: &[Explanation] = &[
     },
     // M9
     Explanation {
-        meaning: "of `migrate` alone: the version is 2 already",
+        meaning: "of `migrate` alone: the version is that one already, or a later one",
         cause: "the manifest was migrated before",
         advice: None,
         shown: Shown::Migration,
@@ -120,7 +120,7 @@ pub(crate) const SCENARIOS: &[Explanation] = &[
     },
     // N4
     Explanation {
-        meaning: "of `camr live` alone: the manifest lacks a queue or a controller that a live CCB or a freeze names",
+        meaning: "of `camr live` alone: the manifest lacks a queue or a controller that a live CCB or a freeze names, or is of version 1 or 2 while a live CCB has a class or an advice",
         cause: "a queue was taken out of the manifest while one of its CCBs waits",
         advice: None,
         shown: Shown::Command,
@@ -164,7 +164,7 @@ pub(crate) const JOURNALS: &[Explanation] = &[
 pub(crate) const TRACES: &[Explanation] = &[
     // X1
     Explanation {
-        meaning: "the text does not begin with `camr-trace 1` or `camr-trace 2`, alone or with `continued` after a blank, and a line feed",
+        meaning: "the text does not begin with `camr-trace 1`, `camr-trace 2` or `camr-trace 3`, alone or with `continued` after a blank, and a line feed",
         cause: "the file is no trace",
         advice: None,
         shown: Shown::Trace,

@@ -56,8 +56,10 @@ pub(crate) const POLICIES: &[Explanation] = &[
     // V6
     Explanation {
         meaning: "no such helper",
-        cause: "helper 13 or 14 in a manifest of version 1",
-        advice: Some("call one of the helpers that there are; 13 and 14 want `version = 2`"),
+        cause: "helper 13, 14 or 15 in a manifest of a lower version",
+        advice: Some(
+            "call one of the helpers that there are; 13 and 14 want `version = 2`, and 15 wants `version = 3`",
+        ),
         shown: Shown::Head,
         example: "mov64 r6, r2\ncall 15\nmov64 r2, r6",
         mended: "mov64 r6, r2\ncall 14\nmov64 r2, r6",
@@ -97,9 +99,9 @@ pub(crate) const POLICIES: &[Explanation] = &[
     },
     // V10
     Explanation {
-        meaning: "the CCB is disposed of twice",
+        meaning: "the CCB is disposed of twice, or advised after it is disposed of",
         cause: "it is requeued, and finished further down",
-        advice: Some("call helper 4 or 5 once on each path"),
+        advice: Some("call helper 4 or 5 once on each path, and helper 15 before it"),
         shown: Shown::Program,
         example: "mov64 r6, r2\nmov64 r1, 1\ncall 4\nmov64 r1, 5\ncall 5\njeq r6, 0, +2\nmov64 r1, r6\ncall 2\nmov64 r0, 0\nexit",
         mended: "mov64 r6, r2\nmov64 r1, 5\ncall 5\njeq r6, 0, +2\nmov64 r1, r6\ncall 2\nmov64 r0, 0\nexit",

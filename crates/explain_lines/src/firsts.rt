@@ -2,11 +2,12 @@
 // the rest, on `trace_lines` and `scenario` for words, on `ccb` for refusals, and on `strsim` for words that are near.
 
 use crate::answers::answered_slip;
-use crate::fields::fields_slip;
+use crate::fields::asked_slip;
 use crate::lines::without_return;
 use crate::numbers::character_slip;
 use crate::slips::{Advice, Found, Slip};
 use crate::stops::{blanks_of, first_word};
+use base::OrMemory;
 use ccb::CallRefusal;
 use scenario::is_of_run;
 use std::alloc::{AllocError, Global};
@@ -34,26 +35,35 @@ const LIVE: [&str; 6] = ["step", "drive", "totals", "ccbs", "quit", "help"];
 /// The words with which a comment begins elsewhere.
 const COMMENTS: [&str; 5] = ["//", "/*", "--", ";", "%"];
 
-/// What is against a line that is not of the form. If it ends with a carriage return, that is all only if there is nothing else.
-pub fn line_slip(alloc: Global, line: &str, kept: Kept) -> Result<Found, AllocError> {
+/// What is against a line that is not of the form, in a trace of that version, or in a scenario over such a manifest. If it ends with a carriage return, that is all only if there is nothing else.
+pub fn line_slip(
+    alloc: Global,
+    line: &str,
+    kept: Kept,
+    version: Version,
+) -> Result<Found, AllocError> {
     let whole = without_return(line);
     if let Some(found) = front_slip(whole, kept) {
         return Ok(found);
     }
     let name = first_word(whole);
     let found = match Word::named(name) {
-        Some(word) => known_slip(word, whole, kept),
+        Some(word) => known_slip(word, whole, kept, version),
         None => Some(unknown_slip(alloc, whole, name, kept)?),
     };
     Ok(match found {
         Some(found) => found,
         None if whole.len() < line.len() => Found::of(Slip::Return, whole.len(), line.len()),
-        None => last_found(last_slip(alloc, line)?, line),
+        None => last_found(last_slip(alloc, line, kept, version)?, line),
     })
 }
 
-// That slip of a line in which nothing else is found: if only its answer is one of version 2, of this one.
+// That slip of a line in which nothing else is found: if only its answer is one of version 2, of this one, and of a class, of it alone.
 fn last_found(slip: Slip, line: &str) -> Found {
+    if slip.is(Slip::Classed) {
+        let begin = line.rfind(' ').unwrap_or(0).saturating_add(1);
+        return Found::of(slip, begin, line.len());
+    }
     let begin = match line.rsplit_once(" = ") {
         Some((asked, answer)) if is_later(answer) => asked.len().saturating_add(3),
         _ => 0,
@@ -69,11 +79,38 @@ fn is_later(answer: &str) -> bool {
     }
 }
 
-// What is against a line in which nothing else is found: it is one of version 2, or that is not known.
-fn last_slip(alloc: Global, line: &str) -> Result<Slip, AllocError> {
-    match read_record(alloc, Version::Two, line)? {
-        Some(_) => Ok(Slip::SecondVersion),
+// What is against a line in which nothing else is found: it is one of another version, or that is not known.
+fn last_slip(alloc: Global, line: &str, kept: Kept, version: Version) -> Result<Slip, AllocError> {
+    if kept == Kept::Scenario {
+        return Ok(if is_faulty(alloc, Version::Three, line)? {
+            Slip::Other
+        } else {
+            Slip::Classed
+        });
+    }
+    if read_record(alloc, Version::Two, line)?.is_some() {
+        return Ok(lower_slip(version));
+    }
+    match read_record(alloc, Version::Three, line)? {
+        Some(_) => Ok(Slip::ThirdVersion),
         None => Ok(Slip::Other),
+    }
+}
+
+/// Whether a line by itself is no scenario over a manifest of that version.
+pub fn is_faulty(alloc: Global, version: Version, line: &str) -> Result<bool, AllocError> {
+    match scenario::read(alloc, version, line) {
+        Ok(_) => Ok(false),
+        Err(OrMemory::OutOfMemory) => Err(AllocError),
+        Err(OrMemory::Fault(_)) => Ok(true),
+    }
+}
+
+// What is against a line of version 2, which may be one of version 1 too, in a trace of another one.
+fn lower_slip(version: Version) -> Slip {
+    match version {
+        Version::One | Version::Two => Slip::SecondVersion,
+        Version::Three => Slip::LowerVersion,
     }
 }
 
@@ -104,13 +141,13 @@ fn blank_slip(rest: &str) -> Slip {
 }
 
 // What is against a line that begins with a word that lines begin with.
-fn known_slip(word: Word, line: &str, kept: Kept) -> Option<Found> {
+fn known_slip(word: Word, line: &str, kept: Kept, version: Version) -> Option<Found> {
     match (kept, word) {
         (Kept::Scenario, word) if is_of_run(word) => {
             Some(Found::of(Slip::OfRuns, 0, word.text().len()))
         }
-        (Kept::Scenario, _) => fields_slip(&word.row().fields, line, word.text().len()),
-        (Kept::Trace, _) => answered_slip(word, line),
+        (Kept::Scenario, _) => asked_slip(&word.row(), line, word.text().len(), version),
+        (Kept::Trace, _) => answered_slip(word, line, version),
     }
 }
 

@@ -4,7 +4,7 @@
 
 use crate::lines::{Line, line_of};
 use crate::telling::{put_cause, put_code, put_line};
-use crate::traces::is_continued;
+use crate::traces::{is_continued, version_of};
 use carried_lines::{continued_header, read_carried};
 use cli_text_page::Page;
 use engine_core::{Config, NumberedEngine};
@@ -27,7 +27,7 @@ pub fn put(
 ) -> Result<(), AllocError> {
     match fault {
         ReplayFault::Header => {
-            put_version(&line_of(path, text, 1), config, page);
+            put_version(&line_of(path, text, 1), version_of(text), config, page);
             put_code(page, "X3");
             page.text("  = to mend it: give the manifest over which the trace was written\n");
         }
@@ -99,10 +99,11 @@ fn first_unfollowed(
 
 // The carried lines with which a text begins.
 fn carried_of(alloc: Global, text: &str) -> Result<Vec<CarriedLine>, AllocError> {
+    let version = version_of(text);
     let mut carried = Vec::new(alloc);
     if is_continued(text) {
         for line in text.split('\n').skip(1) {
-            match read_carried(line) {
+            match read_carried(version, line) {
                 Some(line) => carried.push(line)?,
                 None => break,
             }
@@ -160,16 +161,24 @@ fn is_followed(
 }
 
 // Puts that a trace is of another version than a manifest.
-fn put_version(line: &Line<'_>, config: &Config, page: &mut Page) {
+fn put_version(line: &Line<'_>, trace: Version, config: &Config, page: &mut Page) {
     put_line(page, line, 0, line.line.len());
     let version = Version::of(config.helpers());
-    page.text(match version {
-        Version::One => "  = here: the trace is of version 2, and the manifest of version 1\n",
-        Version::Two => "  = here: the trace is of version 1, and the manifest of version 2\n",
-    });
+    page.fill(
+        "  = here: the trace is of version {}, and the manifest of version {}\n",
+        &[number_of(trace), number_of(version)],
+    );
     page.text("  = would have been the first line: ");
     page.text(header(version).trim_end());
     page.text("\n");
+}
+
+fn number_of(version: Version) -> u64 {
+    match version {
+        Version::One => 1,
+        Version::Two => 2,
+        Version::Three => 3,
+    }
 }
 
 // Puts the line that would have followed so many records, if the same was asked as in a line.

@@ -8,14 +8,15 @@ use crate::slips::Field;
 use ccb::REFUSALS;
 use cli_text_page::Page;
 use helpers::{HELPERS, Tells};
-use trace_lines::{Form, Kind, LINES, Row, Slots, Word};
+use trace_lines::{Form, Kind, LINES, Row, Slots, Word, has_classes};
 use world_calls::Version;
 
 /// The names of a line's fields, of each word at its place, as camr-scenario(5) and camr-trace(5) have them.
-const NAMES: [[&str; 4]; 10] = [
-    ["Q", "PRIORITY", "RETRIES", ""],
+const NAMES: [[&str; 4]; 11] = [
+    ["Q", "PRIORITY", "RETRIES", "CLASS"],
     ["Q", "", "", ""],
     ["C", "STATUS", "SCSI", "SENSE"],
+    ["C", "", "", ""],
     ["R", "N", "STOP", ""],
     ["Q", "G", "", ""],
     ["C", "G", "", ""],
@@ -33,7 +34,7 @@ pub fn put_form(page: &mut Page, word: Word, kept: Kept, version: Version) {
     let row = word.row();
     page.text("  = form: ");
     page.text(word.text());
-    put_names(page, word, &row.fields);
+    put_names(page, word, &row.fields, kept, version);
     if kept == Kept::Trace {
         page.text(" = ");
         put_answer(page, &row, version);
@@ -41,14 +42,33 @@ pub fn put_form(page: &mut Page, word: Word, kept: Kept, version: Version) {
     page.text("\n");
 }
 
-fn put_names(page: &mut Page, word: Word, fields: &Slots<Kind>) {
+fn put_names(page: &mut Page, word: Word, fields: &Slots<Kind>, kept: Kept, version: Version) {
     let kinds = [fields.first, fields.second, fields.third, fields.fourth];
     for (place, kind) in kinds.iter().enumerate() {
-        if kind.is_some() {
-            page.text(" ");
-            page.text(name_of(Some(word), place));
+        let name = name_of(Some(word), place);
+        match kind {
+            Some(Kind::Class) => put_class(page, name, kept, version),
+            Some(_) => {
+                page.text(" ");
+                page.text(name);
+            }
+            None => {}
         }
     }
+}
+
+// Puts the name of a class: a scenario may leave it out, and a trace says it, if CCBs have one.
+fn put_class(page: &mut Page, name: &str, kept: Kept, version: Version) {
+    if !has_classes(version) {
+        return;
+    }
+    let (before, after) = match kept {
+        Kept::Scenario => (" [", "]"),
+        Kept::Trace => (" ", ""),
+    };
+    page.text(before);
+    page.text(name);
+    page.text(after);
 }
 
 /// The name of a field of the line of a word, or of a trace's last line.
@@ -64,6 +84,8 @@ pub fn name_of(word: Option<Word>, place: usize) -> &'static str {
 fn put_answer(page: &mut Page, row: &Row, version: Version) {
     page.text(match row.form {
         Form::Ccb => "ccb C",
+        Form::Start if has_classes(version) => "ccb C advice W",
+        Form::Start => "ccb C",
         Form::Completed => "done, or run R freeze F",
         Form::Freeze => "freeze F",
         Form::Left => "LEFT",
@@ -83,7 +105,8 @@ fn put_answer(page: &mut Page, row: &Row, version: Version) {
 fn is_of_version(since: u8, version: Version) -> bool {
     match version {
         Version::One => since <= 1,
-        Version::Two => true,
+        Version::Two => since <= 2,
+        Version::Three => true,
     }
 }
 
@@ -118,7 +141,7 @@ pub fn put_field(page: &mut Page, word: Option<Word>, field: Field) {
     page.text(name_of(word, field.place));
     page.text(": ");
     match field.kind {
-        Kind::Number | Kind::LongNumber | Kind::Instructions => page.fill(
+        Kind::Number | Kind::LongNumber | Kind::Instructions | Kind::Class => page.fill(
             "a number from {} to {}, in decimal digits without a sign and without leading zeros\n",
             &[least_of(field.kind), most_of(field.kind)],
         ),

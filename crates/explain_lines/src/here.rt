@@ -26,7 +26,7 @@ pub struct Said {
 }
 
 /// The slips, each at its place.
-const SLIPS: [Said; 57] = [
+const SLIPS: [Said; 60] = [
     Said {
         slip: Slip::Mark,
         here: "a byte order mark stands before the line",
@@ -319,6 +319,24 @@ const SLIPS: [Said; 57] = [
         slip: Slip::SecondVersion,
         here: "the line is one of version 2, and the trace begins as one of version 1",
         mending: "take the trace as it was printed: its first line says its version",
+        shows: Shows::Form,
+    },
+    Said {
+        slip: Slip::ThirdVersion,
+        here: "the line is one of version 3, and the trace begins as one of a lower version",
+        mending: "take the trace as it was printed: its first line says its version",
+        shows: Shows::Form,
+    },
+    Said {
+        slip: Slip::LowerVersion,
+        here: "the line is one of version 1 or 2, and the trace begins as one of version 3",
+        mending: "take the trace as it was printed: its first line says its version",
+        shows: Shows::Form,
+    },
+    Said {
+        slip: Slip::Classed,
+        here: "a class belongs to version 3, and the manifest is of a lower one",
+        mending: "leave the class out, or give a manifest of version 3",
         shows: Shows::Form,
     },
     Said {

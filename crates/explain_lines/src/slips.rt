@@ -69,8 +69,13 @@ pub enum Slip {
     NoAnswer,
     OtherRefusal,
     OtherAnswer,
-    /// The line is one of version 2, in a trace of version 1.
+    /// The line is one of version 2, in a trace of version 1; one of version 3, in a trace of a lower version; or one of the lower versions, in
+    /// a trace of version 3.
     SecondVersion,
+    ThirdVersion,
+    LowerVersion,
+    /// A class stands in a scenario over a manifest whose CCBs have none.
+    Classed,
     /// Of a trace's end: the line feed is missing, a part of the line is, the last line is, or something follows it.
     NoFeed,
     CutOff,

@@ -8,20 +8,26 @@ use crate::lines::{Line, count_returns, without_return};
 use crate::numbers::has_digits16;
 use crate::slips::{Advice, Field, Found, Slip};
 use crate::stops::first_word;
-use crate::traces::version_of;
 use cli_text_page::Page;
 use explain_codes::{Code, put_rule};
 use explain_layout::{Span, excerpt};
 use trace_lines::{Kind, Word};
 use world_calls::Version;
 
-/// Puts what is against a line of a file, by that code.
-pub fn put(page: &mut Page, line: &Line<'_>, found: &Found, kept: Kept, code: &str) {
+/// Puts what is against a line of a file, by that code. The version is that of the trace, or of the manifest of the scenario.
+pub fn put(
+    page: &mut Page,
+    line: &Line<'_>,
+    found: &Found,
+    kept: Kept,
+    version: Version,
+    code: &str,
+) {
     put_line(page, line, found.start, found.end);
     page.text("  = here: ");
     put_here(page, line.line, found);
     page.text("\n");
-    put_expected(page, line, found, kept);
+    put_expected(page, line, found, kept, version);
     put_code(page, code);
     put_mending(page, line.line, found);
     if found.slip.is(Slip::Return) {
@@ -129,9 +135,8 @@ pub fn put_code(page: &mut Page, code: &str) {
 }
 
 // Puts which forms were expected.
-fn put_expected(page: &mut Page, of: &Line<'_>, found: &Found, kept: Kept) {
+fn put_expected(page: &mut Page, of: &Line<'_>, found: &Found, kept: Kept, version: Version) {
     let line = of.line;
-    let version = version_of(of.text);
     let name = match found.advice {
         Advice::Word(word) => word,
         _ => first_word(without_return(line)),

@@ -11,7 +11,7 @@ use carried_lines::{Order, continued_header, read_carried};
 use cli_text_page::Page;
 use std::alloc::{AllocError, Global};
 use trace::{TraceFault, header, read_record, read_totals};
-use trace_lines::{Kind, Slots};
+use trace_lines::{Kind, Slots, has_classes};
 use world_calls::Version;
 
 /// The kinds of the sums in the last line.
@@ -36,6 +36,17 @@ const CARRIED: &str = "\
           freeze F, `queue Q` or `controller C`, and `timer T` or `guest G`
 ";
 
+/// The same of version 3.
+const CLASSED: &str = "\
+  = note: what was carried over is told by these lines, in this order, those of a kind by rising number
+          numbers CCB FREEZE RUN
+          clock T
+          openings Q N, for each queue from 0 on
+          word K I W, for each word that is not 0
+          ccb C Q PRIORITY RETRIES ATTEMPTS CLASS ADVICE, and `waiting` or `active`
+          freeze F, `queue Q` or `controller C`, and `timer T` or `guest G`
+";
+
 /// Puts what there is to say of a text, its path and itself, that is no trace by that fault.
 pub fn put(
     alloc: Global,
@@ -49,9 +60,14 @@ pub fn put(
         TraceFault::Line(number) => {
             let found = faulty_slip(alloc, text, number)?;
             let line = line_of(path, text, number);
-            put_line_report(page, &line, &found, Kept::Trace, "X2");
+            let version = version_of(text);
+            put_line_report(page, &line, &found, Kept::Trace, version, "X2");
             if found.slip.is(Slip::Carried) {
-                page.text(CARRIED);
+                page.text(if has_classes(version) {
+                    CLASSED
+                } else {
+                    CARRIED
+                });
             }
         }
     }
@@ -60,9 +76,10 @@ pub fn put(
 
 // Puts what is against the first line of a text.
 fn put_header(line: &Line<'_>, page: &mut Page) {
-    put_line_report(page, line, &header_slip(line.line), Kept::Trace, "X1");
+    let found = header_slip(line.line);
+    put_line_report(page, line, &found, Kept::Trace, Version::Two, "X1");
     page.text(
-        "  = note: the first line is `camr-trace 1`, or `camr-trace 2` if the manifest is of version 2\n",
+        "  = note: the first line is `camr-trace N`, where N is the version of the manifest: 1, 2 or 3\n",
     );
 }
 
@@ -96,7 +113,9 @@ fn header_slip(line: &str) -> Found {
 
 // Whether a line is the first one of a version.
 fn is_header(line: &str) -> bool {
-    is_header_of(line, Version::One) || is_header_of(line, Version::Two)
+    is_header_of(line, Version::One)
+        || is_header_of(line, Version::Two)
+        || is_header_of(line, Version::Three)
 }
 
 fn is_header_of(line: &str, version: Version) -> bool {
@@ -140,7 +159,7 @@ fn faulty_slip(alloc: Global, text: &str, number: usize) -> Result<Found, AllocE
     if first_word(whole) == "end" {
         return Ok(last_slip(whole, line.line));
     }
-    line_slip(alloc, line.line, Kept::Trace)
+    line_slip(alloc, line.line, Kept::Trace, version_of(text))
 }
 
 // Whether the line of that number, which is not of the form, stands where a carried line may stand: all before it are carried lines, and
@@ -149,9 +168,10 @@ fn is_among_carried(text: &str, number: usize) -> bool {
     if !is_continued(text) {
         return false;
     }
+    let version = version_of(text);
     let mut order = Order::new();
     for line in text.split('\n').skip(1).take(number.saturating_sub(2)) {
-        match read_carried(line) {
+        match read_carried(version, line) {
             Some(line) => {
                 order.take(&line);
             }
@@ -175,6 +195,7 @@ fn is_begun_as_carried(line: &str) -> bool {
 pub fn is_continued(text: &str) -> bool {
     text.starts_with(continued_header(Version::One))
         || text.starts_with(continued_header(Version::Two))
+        || text.starts_with(continued_header(Version::Three))
 }
 
 // What is against the last line, with and without a carriage return at its end.
@@ -189,7 +210,7 @@ fn last_slip(whole: &str, line: &str) -> Found {
 // Whether a line is that of a record which a text may have that begins so, or has sums.
 fn is_of_form(alloc: Global, text: &str, line: &str) -> Result<bool, AllocError> {
     let version = version_of(text);
-    if is_continued(text) && read_carried(line).is_some() {
+    if is_continued(text) && read_carried(version, line).is_some() {
         return Ok(true);
     }
     Ok(read_totals(line).is_some() || read_record(alloc, version, line)?.is_some())
@@ -197,9 +218,16 @@ fn is_of_form(alloc: Global, text: &str, line: &str) -> Result<bool, AllocError>
 
 /// The version that a text's first line says; the second if it says none.
 pub fn version_of(text: &str) -> Version {
-    if text.starts_with(header(Version::One)) || text.starts_with(continued_header(Version::One)) {
+    if begins(text, Version::One) {
         Version::One
+    } else if begins(text, Version::Three) {
+        Version::Three
     } else {
         Version::Two
     }
+}
+
+// Whether a text begins as one of a version, or as a continued one.
+fn begins(text: &str, version: Version) -> bool {
+    text.starts_with(header(version)) || text.starts_with(continued_header(version))
 }

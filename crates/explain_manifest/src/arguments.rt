@@ -124,6 +124,9 @@ fn put_advice(
             Helper::Requeue => page.text(
                 "put 1 into r1 for a failure that uses up a retry, or 0 for one that does not",
             ),
+            Helper::Advise => page.text(
+                "put a word of advice from 0 to 4294967295 into r1; `mov32 r1, r1` keeps the lower half of a number alone",
+            ),
             Helper::ReleaseAfter => page.text(
                 "let r2 be a time from 1 to 600000 ms on each path; to give the freeze back at once, call 2",
             ),

@@ -10,7 +10,7 @@ use bpf_insn::{Callee, Insn, LoadForm, Operand, Reg, StoreSize};
 use check_register_kinds::{Cause, Certainty, Held, Kind, Region};
 use cli_text_page::Page;
 use explain_path::{Open, Path, Registers, Sketch};
-use helpers::Helper;
+use helpers::{Helper, HelperSet};
 
 /// How many bytes a frame has.
 const FRAME_BYTES: u16 = 512;
@@ -318,9 +318,15 @@ fn put_shorter(page: &mut Page, insn: Insn, known: &Sketch) -> bool {
 
 // Puts which helpers may be called, where another one is.
 fn put_helpers(page: &mut Page, told: &Told<'_>, insn: Insn) -> bool {
-    if helper_of(insn).is_some() {
-        page.text(
-            "  = to mend it: write a manifest of version 2, in which programs have this helper too\n",
+    if let Some(helper) = helper_of(insn) {
+        let version = if HelperSet::Controllers.has(helper) {
+            2
+        } else {
+            3
+        };
+        page.fill(
+            "  = to mend it: write a manifest of version {}, in which programs have this helper too\n",
+            &[version],
         );
     } else {
         page.fill(

@@ -24,9 +24,16 @@ const MOST: usize = 64;
 
 const MOST_TABLES: usize = 16;
 
-/// What to do about a key that is one of version 2 alone.
+/// The latest version.
+const LATEST: u8 = 3;
+
+/// What to do about a key that no version below 2 has.
 const SECOND: &str =
     "write `version = 2`, with `controllers` and each queue's `controller`, or leave this key out";
+
+/// What to do about a key of version 3 alone.
+const THIRD: &str =
+    "write `version = 3`, with `controllers` and each queue's `controller`, or leave this key out";
 
 /// What to do about a key that is near none.
 const UNKNOWN: &str = "leave it out, or write one of the keys that are named above in its place";
@@ -54,15 +61,15 @@ pub fn print(
     fault: &ManifestFault,
     page: &mut Page,
 ) -> Result<Option<&'static str>, AllocError> {
-    let is_second = !matches!(document.get("version"), Some(Value::Integer(1)));
+    let judged = judged_as(document);
     if let Some(version) = wrong_version(document, fault) {
         put_version(path, text, layout, version, fault, page);
-        return Ok(find("", "version", is_second).map(|key| key.advice));
+        return Ok(find("", "version", judged).map(|key| key.advice));
     }
     let found = match fault {
-        ManifestFault::Key => print_key(alloc, path, text, layout, is_second, page)?,
-        ManifestFault::Form => print_form(alloc, path, text, layout, is_second, page)?,
-        _ => print_range(alloc, path, text, layout, is_second, page)?,
+        ManifestFault::Key => print_key(alloc, path, text, layout, judged, page)?,
+        ManifestFault::Form => print_form(alloc, path, text, layout, judged, page)?,
+        _ => print_range(alloc, path, text, layout, judged, page)?,
     };
     if found.is_none() {
         print_end(path, text, layout, page);
@@ -70,13 +77,22 @@ pub fn print(
     Ok(found)
 }
 
-// A manifest's version that is neither 1 nor 2. If the fault is the type of a value, that value is told of.
+// The version by whose rules a manifest is judged: 1 and 2 if it says so, and else 3.
+fn judged_as(document: &Value) -> u8 {
+    match document.get("version") {
+        Some(Value::Integer(1)) => 1,
+        Some(Value::Integer(2)) => 2,
+        _ => 3,
+    }
+}
+
+// A manifest's version that is none of 1, 2 and 3. If the fault is the type of a value, that value is told of.
 fn wrong_version(document: &Value, fault: &ManifestFault) -> Option<i64> {
     if let ManifestFault::Form = fault {
         return None;
     }
     match document.get("version") {
-        Some(Value::Integer(version)) if *version != 1 && *version != 2 => Some(*version),
+        Some(Value::Integer(version)) if *version < 1 || 3 < *version => Some(*version),
         _ => None,
     }
 }
@@ -95,10 +111,10 @@ fn put_version(
         None => end(layout),
     };
     excerpt::print(page, path, text, place);
-    page.text("  = here: `version` is 1 or 2, and not ");
+    page.text("  = here: `version` is 1, 2 or 3, and not ");
     page.signed(version);
     if let ManifestFault::Key = fault {
-        page.text(", so the keys are judged as those of version 2");
+        page.text(", so the keys are judged as those of version 3");
         if layout.entry(0, "controllers").is_none() {
             page.text(", and `controllers` is missing");
         }
@@ -133,24 +149,24 @@ fn print_key(
     path: &str,
     text: &str,
     layout: &Layout,
-    is_second: bool,
+    version: u8,
     page: &mut Page,
 ) -> Result<Option<&'static str>, AllocError> {
     for entry in &layout.entries {
         let table = table_of(layout, entry);
         let name = entry.name.as_str();
-        if is_table(table) && find(table, name, is_second).is_none() {
+        if is_table(table) && find(table, name, version).is_none() {
             excerpt::print(page, path, text, entry.key);
-            return put_unknown(alloc, page, table, name, is_second);
+            return put_unknown(alloc, page, table, name, version);
         }
     }
     for table in &layout.tables {
         if !is_table(table.name.as_str()) {
             excerpt::print(page, path, text, table.span);
-            return put_unknown(alloc, page, "", table.name.as_str(), is_second);
+            return put_unknown(alloc, page, "", table.name.as_str(), version);
         }
     }
-    print_missing(alloc, path, text, layout, is_second, page)
+    print_missing(alloc, path, text, layout, version, page)
 }
 
 // Puts that a table has no key of that name, and which is near or which there are, and answers how that is mended.
@@ -159,34 +175,34 @@ fn put_unknown(
     page: &mut Page,
     table: &str,
     name: &str,
-    is_second: bool,
+    version: u8,
 ) -> Result<Option<&'static str>, AllocError> {
     page.text("  = here: ");
     page.text(called(table));
     page.text(" has no key `");
     put_foreign(page, name);
     page.text("`");
-    if find(table, name, true).is_some() {
-        page.text(" in version 1\n");
-        return Ok(Some(SECOND));
+    if let Some(key) = find(table, name, LATEST) {
+        page.fill(" in version {}\n", &[u64::from(version)]);
+        return Ok(Some(if key.since() > 2 { THIRD } else { SECOND }));
     }
-    match nearest_key(alloc, table, name, is_second)? {
+    match nearest_key(alloc, table, name, version)? {
         Some(key) => {
             put_near(page, key.name);
             Ok(Some(key.advice))
         }
         None => {
-            put_keys(page, table, is_second);
+            put_keys(page, table, version);
             Ok(Some(UNKNOWN))
         }
     }
 }
 
 // Puts which keys a table may have, and ends the line.
-fn put_keys(page: &mut Page, table: &str, is_second: bool) {
+fn put_keys(page: &mut Page, table: &str, version: u8) {
     let mut has_any = false;
     for key in KEYS.iter() {
-        if key.table == table && key.may_stand(is_second) {
+        if key.table == table && key.may_stand(version) {
             page.text(if has_any { ", `" } else { "; its keys are `" });
             page.text(key.name);
             page.text("`");
@@ -202,13 +218,13 @@ fn print_missing(
     path: &str,
     text: &str,
     layout: &Layout,
-    is_second: bool,
+    version: u8,
     page: &mut Page,
 ) -> Result<Option<&'static str>, AllocError> {
     let present = present_keys(alloc, layout)?;
     for (table, keys) in layout.tables.iter().zip(present.iter()) {
         let name = table.name.as_str();
-        if let Some(key) = missing_key(name, *keys, is_second) {
+        if let Some(key) = missing_key(name, *keys, version) {
             excerpt::print(page, path, text, table.span);
             put_missing(page, key);
             return Ok(Some(key.advice));
@@ -276,9 +292,9 @@ fn bit_at(place: usize) -> u16 {
 }
 
 // The first key that has to stand in a table of that name, and is none of these.
-fn missing_key(name: &str, keys: u16, is_second: bool) -> Option<&'static Key> {
+fn missing_key(name: &str, keys: u16, version: u8) -> Option<&'static Key> {
     for (place, key) in KEYS.iter().enumerate() {
-        if key.table == name && key.must_stand(is_second) && keys & bit_at(place) == 0 {
+        if key.table == name && key.must_stand(version) && keys & bit_at(place) == 0 {
             return Some(key);
         }
     }
@@ -301,12 +317,12 @@ fn nearest_key(
     alloc: Global,
     table: &str,
     word: &str,
-    is_second: bool,
+    version: u8,
 ) -> Result<Option<&'static Key>, AllocError> {
     let mut nearest = KEYS.len();
     let mut least = NEAR + 1;
     for (place, key) in KEYS.iter().enumerate() {
-        if key.table == table && key.may_stand(is_second) && word.len() <= LONGEST {
+        if key.table == table && key.may_stand(version) && word.len() <= LONGEST {
             let distance = levenshtein(alloc, word, key.name)?;
             if distance < least {
                 least = distance;
@@ -333,7 +349,7 @@ fn print_form(
     path: &str,
     text: &str,
     layout: &Layout,
-    is_second: bool,
+    version: u8,
     page: &mut Page,
 ) -> Result<Option<&'static str>, AllocError> {
     for table in &layout.tables {
@@ -345,7 +361,7 @@ fn print_form(
         }
     }
     for entry in &layout.entries {
-        let Some(key) = find(table_of(layout, entry), entry.name.as_str(), is_second) else {
+        let Some(key) = find(table_of(layout, entry), entry.name.as_str(), version) else {
             continue;
         };
         let value = written(text, entry.value);
@@ -385,8 +401,64 @@ fn is_of_form(alloc: Global, wants: Wants, value: &str) -> Result<bool, AllocErr
         Wants::Number { .. } => number_in(alloc, value)?.is_some(),
         Wants::Text => starts_string(value),
         Wants::Code => is_code(alloc, value)?,
+        Wants::Words => elements_in(alloc, value)?.are_numbers,
         Wants::Tables => value.starts_with('['),
     })
+}
+
+// The elements of an array: how many there are, whether all are whole numbers, and the first negative one.
+#[derive(Clone, Copy)]
+struct Elements {
+    count: u64,
+    are_numbers: bool,
+    negative: Option<i64>,
+}
+
+impl Elements {
+    fn see(&mut self, alloc: Global, word: &str) -> Result<(), AllocError> {
+        self.count = self.count.saturating_add(1);
+        match number_in(alloc, word)? {
+            Some(number) => {
+                if number < 0 && self.negative.is_none() {
+                    self.negative = Some(number);
+                }
+            }
+            None => self.are_numbers = false,
+        }
+        Ok(())
+    }
+}
+
+// The elements of a value, of an array of numbers: what commas and line feeds part, without comments and blanks.
+fn elements_in(alloc: Global, value: &str) -> Result<Elements, AllocError> {
+    let mut elements = Elements {
+        count: 0,
+        are_numbers: value.starts_with('['),
+        negative: None,
+    };
+    for line in inside(value).split('\n') {
+        for word in uncommented(line).split(',') {
+            let word = word.trim();
+            if !word.is_empty() {
+                elements.see(alloc, word)?;
+            }
+        }
+    }
+    Ok(elements)
+}
+
+// What stands between the brackets of an array.
+fn inside(value: &str) -> &str {
+    let end = value.len().saturating_sub(1);
+    value.get(1..end).unwrap_or("")
+}
+
+// A line without its comment.
+fn uncommented(line: &str) -> &str {
+    match line.split_once('#') {
+        Some((before, _)) => before,
+        None => line,
+    }
 }
 
 // The whole number that is written so.
@@ -451,6 +523,7 @@ fn put_wants(page: &mut Page, key: &Key) {
             page.text("a whole number, ");
             put_between(page, least, most);
         }
+        Wants::Words => page.text("an array of whole numbers"),
         Wants::Text => page.text("a text in quotes"),
         Wants::Code => page.text(
             "a text of pairs of the digits 0 to 9 and a to f, with blanks and line feeds between them",
@@ -472,7 +545,7 @@ fn print_range(
     path: &str,
     text: &str,
     layout: &Layout,
-    is_second: bool,
+    version: u8,
     page: &mut Page,
 ) -> Result<Option<&'static str>, AllocError> {
     let controllers = match layout.entry(0, "controllers") {
@@ -480,9 +553,15 @@ fn print_range(
         None => None,
     };
     for entry in &layout.entries {
-        let Some(key) = find(table_of(layout, entry), entry.name.as_str(), is_second) else {
+        let Some(key) = find(table_of(layout, entry), entry.name.as_str(), version) else {
             continue;
         };
+        if key.wants == Wants::Words {
+            if print_words(alloc, path, text, layout, entry, page)? {
+                return Ok(Some(key.advice));
+            }
+            continue;
+        }
         let Some((least, most)) = range_of(key, controllers) else {
             continue;
         };
@@ -502,6 +581,39 @@ fn print_range(
         }
     }
     Ok(None)
+}
+
+// Puts that a table begins with too many words, or with a negative one, and answers whether it does.
+fn print_words(
+    alloc: Global,
+    path: &str,
+    text: &str,
+    layout: &Layout,
+    entry: &Entry,
+    page: &mut Page,
+) -> Result<bool, AllocError> {
+    let elements = elements_in(alloc, written(text, entry.value))?;
+    if let Some(number) = elements.negative {
+        excerpt::print(page, path, text, entry.value);
+        page.text("  = here: a word is 0 or more, and not ");
+        page.signed(number);
+        page.text("\n");
+        return Ok(true);
+    }
+    let length = match layout.entry(entry.table, "length") {
+        Some(length) => number_in(alloc, written(text, length.value))?,
+        None => None,
+    };
+    let length = u64::try_from(length.unwrap_or(i64::MAX)).unwrap_or(0);
+    if elements.count <= length {
+        return Ok(false);
+    }
+    excerpt::print(page, path, text, entry.value);
+    page.fill(
+        "  = here: there are {} first words, and `length` is {}\n",
+        &[elements.count, length],
+    );
+    Ok(true)
 }
 
 // The numbers that a key may have, where there are so many controllers.
@@ -561,7 +673,7 @@ fn print_count(
             return if count > most {
                 Some(FEWER)
             } else {
-                find("", name, true).map(|key| key.advice)
+                find("", name, LATEST).map(|key| key.advice)
             };
         }
     }

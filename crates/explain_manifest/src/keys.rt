@@ -6,6 +6,8 @@
 pub enum Wants {
     /// A whole number, both ends included.
     Number { least: i64, most: i64 },
+    /// Whole numbers from 0 on, at most as many as the table's length, in an array.
+    Words,
     Text,
     /// Bytes as pairs of digits.
     Code,
@@ -18,8 +20,10 @@ pub enum Wants {
 pub enum Presence {
     Always,
     Sometimes,
-    /// In version 2, and there always.
+    /// From version 2 on, and there always.
     Second,
+    /// In version 3, and there sometimes.
+    Third,
     /// It, or the other one that is so.
     Either,
 }
@@ -37,13 +41,13 @@ pub struct Key {
 }
 
 /// All keys.
-pub const KEYS: [Key; 12] = [
+pub const KEYS: [Key; 13] = [
     Key {
         table: "",
         name: "version",
-        wants: Wants::Number { least: 1, most: 2 },
+        wants: Wants::Number { least: 1, most: 3 },
         presence: Presence::Always,
-        advice: "write `version = 1`, or `version = 2` if the manifest has controllers; `camr migrate` makes a manifest of version 2 from one of version 1",
+        advice: "write `version = 1`, or `version = 2` if the manifest has controllers, or `version = 3` if CCBs have classes too; `camr migrate` makes a manifest of a later version from one of a lower version",
     },
     Key {
         table: "",
@@ -57,7 +61,7 @@ pub const KEYS: [Key; 12] = [
         name: "queue",
         wants: Wants::Tables,
         presence: Presence::Always,
-        advice: "write a [[queue]] table for each queue, with `openings`, `program` and, in version 2, `controller`",
+        advice: "write a [[queue]] table for each queue, with `openings`, `program` and, from version 2 on, `controller`",
     },
     Key {
         table: "",
@@ -108,6 +112,13 @@ pub const KEYS: [Key; 12] = [
         advice: "write `length = N`, how many words the table has, 1 to 4096",
     },
     Key {
+        table: "table",
+        name: "words",
+        wants: Wants::Words,
+        presence: Presence::Third,
+        advice: "write `words = [W, ..]`, the first words of the table, at most `length` of them and each 0 or more; all others are 0",
+    },
+    Key {
         table: "program",
         name: "name",
         wants: Wants::Text,
@@ -132,23 +143,32 @@ pub const KEYS: [Key; 12] = [
 
 impl Key {
     /// Whether it may stand in a manifest of that version.
-    pub fn may_stand(&self, is_second: bool) -> bool {
-        is_second || self.presence != Presence::Second
+    pub fn may_stand(&self, version: u8) -> bool {
+        version >= self.since()
+    }
+
+    /// The first version in which it may stand.
+    pub fn since(&self) -> u8 {
+        match self.presence {
+            Presence::Always | Presence::Sometimes | Presence::Either => 1,
+            Presence::Second => 2,
+            Presence::Third => 3,
+        }
     }
 
     /// Whether it has to stand there by itself.
-    pub fn must_stand(&self, is_second: bool) -> bool {
+    pub fn must_stand(&self, version: u8) -> bool {
         match self.presence {
             Presence::Always => true,
-            Presence::Second => is_second,
-            Presence::Sometimes | Presence::Either => false,
+            Presence::Second => version >= 2,
+            Presence::Sometimes | Presence::Third | Presence::Either => false,
         }
     }
 }
 
 /// The key of that name in a table of that name, if there is one in that version.
-pub fn find(table: &str, name: &str, is_second: bool) -> Option<&'static Key> {
-    KEYS.iter().find(|key| key.table == table && key.name == name && key.may_stand(is_second))
+pub fn find(table: &str, name: &str, version: u8) -> Option<&'static Key> {
+    KEYS.iter().find(|key| key.table == table && key.name == name && key.may_stand(version))
 }
 
 /// Whether a table of a manifest has that name.

@@ -21,6 +21,7 @@ use std::alloc::{AllocError, Global};
 use std::fmt;
 use std::fmt::Display;
 use toml::Value;
+use world_calls::Version;
 
 /// How many programs are told of in full, of those that are refused.
 const MOST_WHOLE: usize = 8;
@@ -435,11 +436,15 @@ pub fn read(
 
 // The limits under which the programs of a plan are judged.
 fn limits_of(alloc: Global, plan: &Plan<'_>) -> Result<HelperLimits, AllocError> {
-    let helpers = match plan.controllers {
-        None => HelperSet::Queues,
-        Some(_) => HelperSet::Controllers,
+    let helpers = match plan.version {
+        Version::One => HelperSet::Queues,
+        Version::Two => HelperSet::Controllers,
+        Version::Three => HelperSet::Classes,
     };
-    let lengths = Vec::from_slice(alloc, plan.tables.as_slice())?;
+    let mut lengths = Vec::new(alloc);
+    for table in &plan.tables {
+        lengths.push(table.length)?;
+    }
     Ok(HelperLimits {
         helpers,
         queues: u32::try_from(plan.queues.len()).unwrap_or(u32::MAX),

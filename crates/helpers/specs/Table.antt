@@ -1,5 +1,5 @@
 -- The table of the helper functions, by its rows: the number of each is its row's place, from 1.
-use Rattle.std.specs.Prelude.{ℕ, ℤ, pos, ◌+◌, ◌==◌, nat_le, Bool, Option, Some, None, List, [], length, find, slice_index_or}
+use Rattle.std.specs.Prelude.{ℕ, ℤ, pos, ◌+◌, ◌==◌, nat_le, Bool, true, false, Option, Some, None, List, [], length, find, slice_index_or}
 use Rattle.std.specs.Option.{option_map}
 use Rattle.std.specs.Ordering.{int_eq}
 use Rattle.helpers.specs.declared.table.Helper.{Helper}
@@ -13,10 +13,10 @@ use Rattle.helpers.specs.declared.columns.Change.TheVariants as changes
 use Rattle.helpers.specs.declared.columns.Tells.TheVariants as tells
 use Rattle.helpers.specs.declared.table.HelperEffect.TheVariants as effects
 use Rattle.helpers.specs.declared.table.Row.{Row}
-use Rattle.helpers.specs.declared.table.TheConstants.{CONTROLLER_HELPERS, HELPERS, QUEUE_HELPERS}
+use Rattle.helpers.specs.declared.table.TheConstants.{CLASS_HELPERS, CONTROLLER_HELPERS, HELPERS, QUEUE_HELPERS}
 use Rattle.helpers.specs.declared.limits.HelperLimits.{HelperLimits}
 use Rattle.helpers.specs.declared.limits.HelperSet.{HelperSet}
-use Rattle.helpers.specs.declared.limits.HelperSet.TheVariants.{Controllers, Queues}
+use Rattle.helpers.specs.declared.limits.HelperSet.TheVariants.{Classes, Controllers, Queues}
 use Rattle.helpers.specs.declared.request.Arguments.{Arguments}
 use Rattle.helpers.specs.declared.request.Request.{Request}
 use Rattle.helpers.specs.declared.request.Answer.{Answer}
@@ -56,10 +56,17 @@ arity name = counted (asks name).first + counted (asks name).second + counted (a
 abbrev pub helper_of : ℤ → Option Helper
 helper_of number = option_map (λ row. row.helper) (find (λ row. int_eq (pos (number_of row.helper)) number) HELPERS)
 
--- how many helpers there are, where what freezes is a queue, and where it may be a controller
+-- how many helpers there are: where what freezes is a queue, where it may be a controller, and where CCBs have a class and an advice, too
 abbrev pub helper_count : HelperSet → ℕ
 helper_count Queues = QUEUE_HELPERS
 helper_count Controllers = CONTROLLER_HELPERS
+helper_count Classes = CLASS_HELPERS
+
+-- CCBs have a class and an advice
+abbrev pub are_classed : HelperSet → Bool
+are_classed Queues = false
+are_classed Controllers = false
+are_classed Classes = true
 
 -- the helper is one of those
 abbrev pub is_there : HelperSet → Helper → Bool

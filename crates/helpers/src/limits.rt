@@ -4,9 +4,9 @@
 ghost use Rattle.std.specs.Prelude.{◌≡◌, ◌↔◌, nat_eq, IsTrue, IfOk};
 ghost use Rattle.std.specs.Cmp.Lexicographic.{pointwise, lists_per, lists_equiv, nat_list_eq_equiv};
 ghost use Rattle.std.specs.Cmp.{partial_equiv_from_equiv};
-ghost use Rattle.helpers.specs.Table.{helper_count, is_there};
+ghost use Rattle.helpers.specs.Table.{are_classed, helper_count, is_there};
 
-use crate::table::{CONTROLLER_HELPERS, Helper, QUEUE_HELPERS};
+use crate::table::{CLASS_HELPERS, CONTROLLER_HELPERS, Helper, QUEUE_HELPERS};
 use std::alloc::AllocError;
 use std::marker::Model;
 
@@ -74,6 +74,8 @@ pub enum HelperSet {
     Queues,
     /// What freezes is a queue or a controller.
     Controllers,
+    /// What freezes is a queue or a controller, and CCBs have a class and an advice.
+    Classes,
 }
 
 impl HelperSet {
@@ -84,6 +86,17 @@ impl HelperSet {
         match self {
             HelperSet::Queues => QUEUE_HELPERS,
             HelperSet::Controllers => CONTROLLER_HELPERS,
+            HelperSet::Classes => CLASS_HELPERS,
+        }
+    }
+
+    /// Whether CCBs have a class and an advice.
+    pub fn has_classes(self) -> bool
+        ensures { result ≡ are_classed self }
+    {
+        match self {
+            HelperSet::Queues | HelperSet::Controllers => false,
+            HelperSet::Classes => true,
         }
     }
 

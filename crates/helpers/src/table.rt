@@ -23,6 +23,7 @@ pub enum Helper {
     SetOpenings,
     FreezeController,
     ControllerFreezes,
+    Advise,
 }
 
 /// What a call does to queues, CCBs, freezes and tables.
@@ -56,6 +57,8 @@ pub enum HelperEffect {
     FreezeController,
     /// How many freezes that controller has.
     TellController,
+    /// What the run's CCB advises the host to do before its next start is now the word in R1: 0.
+    Advise,
 }
 
 /// All that there is to know of a helper. Its number is its place in the table, from 1.
@@ -73,6 +76,9 @@ pub struct Row {
 /// The greatest word of a table.
 const GREATEST_WORD: u64 = u64::MAX;
 
+/// The greatest word of advice.
+const GREATEST_ADVICE: u64 = 4_294_967_295;
+
 /// The last clock reading, in milliseconds: 2^62.
 const LAST_READING: u64 = 1 << 62;
 
@@ -82,8 +88,11 @@ pub const QUEUE_HELPERS: u8 = 12;
 /// How many there are where controllers freeze too.
 pub const CONTROLLER_HELPERS: u8 = 14;
 
+/// How many there are where CCBs have a class and an advice, too.
+pub const CLASS_HELPERS: u8 = 15;
+
 /// The helpers, in the order of their numbers, which begin at 1. The comment of a row has its words for people.
-pub const HELPERS: [Row; 14] = [
+pub const HELPERS: [Row; 15] = [
     // 1 freeze(queue)
     Row {
         helper: Helper::Freeze,
@@ -307,10 +316,27 @@ pub const HELPERS: [Row; 14] = [
         tells: Tells::Name,
         effect: HelperEffect::TellController,
     },
+    // 15 advise(word)
+    Row {
+        helper: Helper::Advise,
+        asks: Asks {
+            first: Some(ArgKind::Within {
+                least: 0,
+                most: GREATEST_ADVICE,
+            }),
+            second: None,
+            third: None,
+        },
+        needs: Needs::Undisposed,
+        gives: Gives::Number { least: 0, most: 0 },
+        machine: Change::Nothing,
+        tells: Tells::Name,
+        effect: HelperEffect::Advise,
+    },
 ];
 
 /// How the helpers are written for people, in the order of their numbers.
-const SIGNATURES: [&str; 14] = [
+const SIGNATURES: [&str; 15] = [
     "freeze(queue)",
     "release(freeze)",
     "release_after(freeze, ms)",
@@ -325,6 +351,7 @@ const SIGNATURES: [&str; 14] = [
     "set_openings(n)",
     "freeze_controller()",
     "controller_frozen()",
+    "advise(word)",
 ];
 
 impl Helper {

@@ -76,6 +76,7 @@ started old new outcome (answers.Started r f) run freeze is it =
     let f_is : f ≡ freeze = ap (λ (o : Option (ℕ × ℕ)). (unwrap_or o (0, 0)).1) is in
     subst (λ (n : ℕ). RecordFollows old (failed outcome n freeze) new) r_is (subst (λ (n : ℕ). RecordFollows old (failed outcome r n) new) f_is it)
 started old new outcome (answers.Ccb ccb) run freeze is it = absurd cc
+started old new outcome (answers.Advised ccb advice) run freeze is it = absurd cc
 started old new outcome answers.Done run freeze is it = absurd cc
 started old new outcome (answers.Freeze freeze_taken) run freeze is it = absurd cc
 started old new outcome (answers.Left count) run freeze is it = absurd cc

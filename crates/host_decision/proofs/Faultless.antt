@@ -2,13 +2,13 @@
 use Rattle.std.proofs.Common.{◌≡◌, ◌∙◌, ◌+◌, ◌<◌, ◌≤◌, ℕ, List, Option, Some, ap, below_more, length, slice_get, subst, sym, take, unwrap_or, arith}
 use Rattle.std.proofs.lemmas.Option.{slice_get_within}
 use Rattle.std.specs.Prelude.{IfNone, IfSome, None, true}
-use Rattle.world.specs.World.{Setup, queue_count}
+use Rattle.world.specs.World.{Setup, has_classes, queue_count}
 use Rattle.show_question.specs.declared.TableWord.{TableWord}
 use Rattle.show_question.specs.declared.Question.{Question}
-use Rattle.host_decision.specs.Faults.{AreFaultless, IsFault, IsFaultAmong, IsFaultAt, IsFaulty, IsPossible, has_failed}
+use Rattle.host_decision.specs.Faults.{AreFaultless, IsFault, IsFaultAmong, IsFaultAt, IsFaulty, IsPossible, has_failed, may_have}
 use Rattle.host_decision.specs.declared.undecided.TheConstants.{LAST_READING}
 use Rattle.host_decision.specs.declared.undecided.Undecided.{Undecided}
-use Rattle.host_decision.specs.declared.undecided.Undecided.TheVariants.{Queue, Status, Clock, Word, Lines, Sense}
+use Rattle.host_decision.specs.declared.undecided.Undecided.TheVariants.{Queue, Status, Clock, Class, Word, Lines, Sense}
 
 -- the word at a place is the one that is read there
 word_there : (words : List TableWord) (place : ℕ) (one other : TableWord) → slice_get words place ≡ Some one → slice_get words place ≡ Some other → other ≡ one
@@ -27,17 +27,18 @@ faultless config words k all before = λ place found. before place (omega (arith
 
 -- and so nothing of the question is at fault
 pub possible : (config : Setup) (question : Question) (found : Option Undecided) → question.failure.queue.0 < queue_count config → has_failed question.failure.status ≡ true
-    → question.failure.clock ≤ LAST_READING → IfNone found (AreFaultless config question.words.items) → IfNone found (IsPossible config question)
-possible config question None queue status clock words = record { queue = queue; status = status; clock = clock; words = words }
-possible config question (Some fault) queue status clock words = tt
+    → question.failure.clock ≤ LAST_READING → may_have (has_classes config) question.failure.class ≡ true → IfNone found (AreFaultless config question.words.items) → IfNone found (IsPossible config question)
+possible config question None queue status clock class words = record { queue = queue; status = status; clock = clock; class_may = class; words = words }
+possible config question (Some fault) queue status clock class words = tt
 
 -- and so the first word that cannot be is the first fault
 pub first : (config : Setup) (question : Question) (found : Option Undecided) → question.failure.queue.0 < queue_count config → has_failed question.failure.status ≡ true
-    → question.failure.clock ≤ LAST_READING → IfSome found (IsFaultAmong config question.words.items) → IfSome found (IsFault config question)
-first config question None queue status clock fault = tt
-first config question (Some (Word place)) queue status clock fault = (((queue, status), clock), fault)
-first config question (Some Queue) queue status clock fault = absurd fault
-first config question (Some Status) queue status clock fault = absurd fault
-first config question (Some Clock) queue status clock fault = absurd fault
-first config question (Some Lines) queue status clock fault = absurd fault
-first config question (Some Sense) queue status clock fault = absurd fault
+    → question.failure.clock ≤ LAST_READING → may_have (has_classes config) question.failure.class ≡ true → IfSome found (IsFaultAmong config question.words.items) → IfSome found (IsFault config question)
+first config question None queue status clock class fault = tt
+first config question (Some (Word place)) queue status clock class fault = ((((queue, status), clock), class), fault)
+first config question (Some Queue) queue status clock class fault = absurd fault
+first config question (Some Status) queue status clock class fault = absurd fault
+first config question (Some Clock) queue status clock class fault = absurd fault
+first config question (Some Class) queue status clock class fault = absurd fault
+first config question (Some Lines) queue status clock class fault = absurd fault
+first config question (Some Sense) queue status clock class fault = absurd fault

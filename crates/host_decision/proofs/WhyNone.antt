@@ -11,7 +11,7 @@ use Rattle.host_decision.specs.Ran.{IsUndecided, NoRunStarts, failed}
 use Rattle.host_decision.specs.Steps.{CannotFail, IsFresh, IsUnbegun}
 use Rattle.host_decision.specs.declared.ran.Ran.{Ran}
 use Rattle.host_decision.specs.declared.undecided.Undecided.{Undecided}
-use Rattle.host_decision.specs.declared.undecided.Undecided.TheVariants.{Queue, Status, Clock, Word, Lines, Sense}
+use Rattle.host_decision.specs.declared.undecided.Undecided.TheVariants.{Queue, Status, Clock, Class, Word, Lines, Sense}
 
 -- no engine begins with the lines
 pub unbegun : (config : Setup) (lines : List CarriedLine) (outcome : Outcome) (error : OrMemory Undecided) → IsUnbegun config lines error → IsUndecided config lines outcome error
@@ -20,6 +20,7 @@ unbegun config lines outcome (Fault Lines) is = is
 unbegun config lines outcome (Fault Queue) is = is
 unbegun config lines outcome (Fault Status) is = absurd is
 unbegun config lines outcome (Fault Clock) is = is
+unbegun config lines outcome (Fault Class) is = is
 unbegun config lines outcome (Fault (Word place)) is = is
 unbegun config lines outcome (Fault Sense) is = is
 
@@ -35,5 +36,6 @@ unfailed config lines outcome start (Fault Status) fresh is = inr (record {
 unfailed config lines outcome start (Fault Lines) fresh is = absurd is
 unfailed config lines outcome start (Fault Queue) fresh is = is
 unfailed config lines outcome start (Fault Clock) fresh is = is
+unfailed config lines outcome start (Fault Class) fresh is = is
 unfailed config lines outcome start (Fault (Word place)) fresh is = is
 unfailed config lines outcome start (Fault Sense) fresh is = is

@@ -6,7 +6,7 @@ use Rattle.world.specs.Lookups.{ccb_of}
 use Rattle.world.specs.World.{Setup, queue_count}
 use Rattle.show_question.specs.declared.Failure.{Failure}
 use Rattle.host_decision.specs.Asked.{outcome_of}
-use Rattle.host_decision.specs.Decided.{end_of, others_of, time_at}
+use Rattle.host_decision.specs.Decided.{advice_of, end_of, others_of, time_at}
 use Rattle.host_decision.specs.Ran.{AreOfRun, IsAtEnd, IsLedTo, instructions_of}
 use Rattle.host_decision.specs.declared.decided.Decided.{Decided}
 
@@ -18,5 +18,6 @@ pub record IsDecided (config : Setup) (lines : List CarriedLine) (failure : Fail
   pub ended : IsAtEnd it.ran.engine it.ran.run
   pub instructions : it.ran.instructions ≡ sum_by instructions_of it.ran.records.items
   pub end_is : it.decision.end ≡ end_of (ccb_of 1 it.ran.engine.transport.live) it.ran.records.items
+  pub advice_is : it.decision.advice ≡ advice_of (ccb_of 1 it.ran.engine.transport.live)
   pub freeze_is : failure.queue.0 < queue_count config → it.decision.freeze ≡ time_at it.ran.engine (Device failure.queue) it.ran.freeze
   pub others_are : it.decision.others.items ≡ others_of it.ran.engine it.ran.freeze

@@ -26,7 +26,9 @@ ccb_line it = lines.Ccb (record {
   queue = it.queue;
   priority = 0;
   retries = it.retries;
+  class = it.class;
   attempts = it.attempts;
+  advice = 0;
   is_active = true;
 })
 

@@ -49,6 +49,11 @@ abbrev pub end_of : Option LiveCcb → List Record → End
 end_of None records = Finished (code_in records)
 end_of (Some live) records = end_in live.state live.ccb.retries
 
+-- what is advised for the next start of a CCB; 0 if it is not live
+abbrev pub advice_of : Option LiveCcb → ℕ
+advice_of None = 0
+advice_of (Some live) = live.ccb.advice
+
 -- how long it is until a timer comes
 abbrev pub time_of : Holder → ℕ → ℕ
 time_of (holders.Timer due) clock = due - clock

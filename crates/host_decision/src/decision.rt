@@ -6,7 +6,7 @@ ghost use Rattle.ccb.specs.declared.place.Place.TheVariants.{Device as TheDevice
 ghost use Rattle.world.specs.Lookups.{ccb_of};
 ghost use Rattle.world.specs.Refusals.{is_unknown};
 ghost use Rattle.world.specs.World.{queue_count};
-ghost use Rattle.host_decision.specs.Decided.{code_at, code_in, code_told, controller, end_of, left_at, left_below, left_in, others_of, time_at, time_of};
+ghost use Rattle.host_decision.specs.Decided.{advice_of, code_at, code_in, code_told, controller, end_of, left_at, left_below, left_in, others_of, time_at, time_of};
 
 use crate::opening_lines::FAILED;
 use crate::ran::Ran;
@@ -38,6 +38,8 @@ pub struct LeftFreeze {
 #[derive(Drop)]
 pub struct Decision {
     pub end: End,
+    /// What is advised for the CCB's next start; 0 if nothing is.
+    pub advice: u32,
     /// Of the freeze that was taken for the failure: how long a timer has it still; none if it was given back.
     pub freeze: Option<u64>,
     /// All other freezes that the run left: those of controllers, and then those of queues.
@@ -48,6 +50,7 @@ impl Decision {
     /// What a run of a queue's policy decided.
     pub fn of(alloc: Global, ran: &Ran<'_>, queue: QueueId) -> Result<Self, AllocError>
         ensures end { IfOk result (λ it. it.end ≡ end_of (ccb_of 1 ran.now.engine.transport.live) ran.now.records.items) }
+        ensures advice { IfOk result (λ it. it.advice ≡ advice_of (ccb_of 1 ran.now.engine.transport.live)) }
         ensures freeze { IfOk result (λ it. is_unknown ran.now.engine.setup (TheDevice queue) ≡ false → it.freeze ≡ time_at ran.now.engine (TheDevice queue) ran.now.freeze) }
         ensures others { IfOk result (λ it. it.others.items ≡ others_of ran.now.engine ran.now.freeze) }
     {
@@ -55,6 +58,7 @@ impl Decision {
         add_others(&mut others, ran)?;
         Ok(Decision {
             end: end_of(ran),
+            advice: advice_of(ran),
             freeze: left_for(ran, Place::Device(queue), ran.freeze),
             others,
         })
@@ -71,6 +75,16 @@ fn end_of(ran: &Ran<'_>) -> End
             CcbState::Active | CcbState::InRecovery => End::Kept,
         },
         None => End::Finished(final_code(&ran.records)),
+    }
+}
+
+// What is advised for the CCB's next start; 0 if nothing is, or the CCB is finished.
+fn advice_of(ran: &Ran<'_>) -> u32
+    ensures { result ≡ advice_of (ccb_of 1 ran.now.engine.transport.live) }
+{
+    match ran.engine.ccb(CcbId(FAILED)) {
+        Some(live) => live.ccb().advice,
+        None => 0,
     }
 }
 

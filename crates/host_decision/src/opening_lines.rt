@@ -92,7 +92,9 @@ fn ccb_line(failure: &Failure) -> CarriedLine
         queue: failure.queue,
         priority: 0,
         retries: failure.retries,
+        class: failure.class,
         attempts: failure.attempts,
+        advice: 0,
         is_active: true,
     })
 }

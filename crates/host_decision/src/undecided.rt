@@ -1,7 +1,8 @@
 // Why nothing is decided. It relies on `engine_config` for queues and tables.
 
 ghost use Rattle.std.specs.Prelude.{◌≡◌, IfNone, IfSome, MatchBool};
-ghost use Rattle.host_decision.specs.Faults.{AreFaultless, HasPlace, IsAmong, IsFault, IsFaultAmong, IsFaulty, IsPossible, IsSame, has_failed};
+ghost use Rattle.world.specs.World.{has_classes};
+ghost use Rattle.host_decision.specs.Faults.{AreFaultless, HasPlace, IsAmong, IsFault, IsFaultAmong, IsFaulty, IsPossible, IsSame, has_failed, may_have};
 
 use base::OrMemory;
 use ccb::CamStatus;
@@ -11,7 +12,7 @@ use show_question::{Question, TableWord};
 /// The greatest clock reading.
 pub const LAST_READING: u64 = 1 << 62;
 
-/// What of a question an engine cannot take: of the first four the first one that holds.
+/// What of a question an engine cannot take: of the first five the first one that holds.
 #[derive(Clone, Copy, Debug)]
 pub enum Undecided {
     /// There is no such queue.
@@ -20,6 +21,8 @@ pub enum Undecided {
     Status,
     /// The clock cannot read so.
     Clock,
+    /// The CCB has a class, and those of the configuration have none.
+    Class,
     /// The word at this place, from 0, of those that are given: no table has it, it is 0, or it is given twice.
     Word(usize),
     /// An engine of the configuration cannot begin so, which no other of these says.
@@ -45,6 +48,9 @@ pub(crate) fn fault_of(config: &Config, question: &Question) -> Option<Undecided
     if question.failure.clock > LAST_READING {
         return Some(Undecided::Clock);
     }
+    if !may_have(config, question.failure.class) {
+        return Some(Undecided::Class);
+    }
     faulty_word(config, &question.words)
 }
 
@@ -55,6 +61,17 @@ fn has_failed(status: CamStatus) -> bool
     match status {
         CamStatus::RequestCompleted | CamStatus::RequestInProgress => false,
         _ => true,
+    }
+}
+
+// Whether a CCB may have that class.
+fn may_have(config: &Config, class: u32) -> bool
+    ensures { result ≡ may_have (has_classes config.now) class }
+{
+    if config.has_classes() {
+        true
+    } else {
+        class == 0
     }
 }
 

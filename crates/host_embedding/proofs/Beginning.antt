@@ -62,21 +62,21 @@ begun old new is_continued lines later knows setup some = record {
 -- ---- the lines that are put
 
 pub left_so : (result : CallResult) (version : Version) (carried : Option World) (history : List Record) (lines : List CarriedLine) (from : ℕ) (before place : List ℕ) (written next : ℕ) → true ≡ is_some carried → length history ≡ 0
-    → ((world : World) → carried ≡ Some world → lines ≡ lines_of world) → PutsLines carried_text result (continued_header version) lines 0 from before place written next
+    → ((world : World) → carried ≡ Some world → lines ≡ lines_of world) → PutsLines (carried_text version) result (continued_header version) lines 0 from before place written next
     → PutsLeft result version (carried_until carried history) from before place written next
 left_so result version None history lines from before place written next some none are puts = absurd cc
 left_so result version (Some world) (first ∷ rest) lines from before place written next some none are puts = absurd (omega (arith, none))
 left_so result version (Some world) [] lines from before place written next some none are puts =
-    subst (λ (its : List CarriedLine). PutsLines carried_text result (continued_header version) its 0 from before place written next) (are world refl) puts
+    subst (λ (its : List CarriedLine). PutsLines (carried_text version) result (continued_header version) its 0 from before place written next) (are world refl) puts
 
 pub none_there : (history : List Record) → length history ≡ 0 → history ≡ []
 none_there [] none = refl
 none_there (first ∷ rest) none = absurd (omega (arith, none))
 
 pub puts_carried : (state : EngineState) (is_continued : Bool) (lines : List CarriedLine) (result : CallResult) (first : List ℕ) (from : ℕ) (before place : List ℕ) (written next : ℕ) → KnowsBeginning state is_continued lines
-    → is_continued ≡ true → length state.history ≡ 0 → first ≡ continued_header (version_of state.setup) → PutsLines carried_text result first lines 0 from before place written next
+    → is_continued ≡ true → length state.history ≡ 0 → first ≡ continued_header (version_of state.setup) → PutsLines (carried_text (version_of state.setup)) result first lines 0 from before place written next
     → PutsCarried result state from before place written next
 puts_carried state is_continued lines result first from before place written next knows continued none is puts =
     left_so result (version_of state.setup) state.setup.carried state.history lines from before place written next (sym continued ∙ knows.continued) none
     (knows.lines_are (none_there state.history none))
-    (subst (λ (text : List ℕ). PutsLines carried_text result text lines 0 from before place written next) is puts)
+    (subst (λ (text : List ℕ). PutsLines (carried_text (version_of state.setup)) result text lines 0 from before place written next) is puts)

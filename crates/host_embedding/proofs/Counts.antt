@@ -1,5 +1,5 @@
 -- Records that are counted after a call: which those are, and what was noted before each.
-use Rattle.std.proofs.Common.{◌≡◌, ◌<◌, ◌≤◌, ◌+◌, ◌∙◌, ℕ, Bool, true, false, All, Option, Some, None, Result, Ok, Err, List, [], ◌∷◌, ◌++◌, drop, get_or, length, map, refl, sym, ap, subst, arith, append-nil, append_assoc, length-append, inl, inr}
+use Rattle.std.proofs.Common.{◌≡◌, ◌<◌, ◌≤◌, ◌+◌, ◌∙◌, ℕ, Bool, All, Option, Some, None, Result, List, [], ◌∷◌, ◌++◌, drop, get_or, length, map, refl, sym, ap, subst, arith, append-nil, append_assoc, length-append, inl, inr}
 use Rattle.std.specs.Prelude.{IfSome}
 use Rattle.std.specs.Global.{Box}
 use Rattle.std.specs.List.{between}
@@ -15,7 +15,6 @@ use Rattle.ccb.specs.Completion.{Outcome}
 use Rattle.world_calls.specs.declared.call.Call.{Call}
 use Rattle.world_calls.specs.declared.call.Call.TheVariants.{Complete, Dispatch, GuestFreeze, GuestRelease, Park, Resume}
 use Rattle.world_calls.specs.declared.call_answer.CallAnswer.{CallAnswer}
-use Rattle.world_calls.specs.declared.call_answer.CallAnswer.TheVariants as answers
 use Rattle.world_calls.specs.declared.record.Record.{Record}
 use Rattle.world_calls.specs.declared.record.Record.TheVariants.{Advance, Called}
 use Rattle.world_calls.specs.declared.record.StoppedAt.{StoppedAt}

@@ -1,5 +1,9 @@
 -- A run that is driven: what the engine is then, and what of it is kept.
-use Rattle.std.proofs.Common.{◌≡◌, ◌∙◌, ℕ, Bool, true, false, List, Some, refl, ap}
+use Rattle.std.proofs.Common.{◌≡◌, ◌∙◌, ℕ, Bool, true, false, List, Option, None, Some, refl, ap, subst, sym}
+use Rattle.world.specs.World.{LiveRun}
+use Rattle.engine_runs.specs.Admits.{IsOutWith}
+use Rattle.host_embedding.specs.Held.{out_of}
+use Rattle.host_embedding.proofs.Taking.{is_out_by, out_with}
 use Rattle.freeze_ledger.specs.declared.freeze.Freeze.{Freeze}
 use Rattle.engine_core.specs.declared.answers.AdvanceFault.{AdvanceFault}
 use Rattle.engine_core.specs.declared.answers.AdvanceFault.TheVariants.{NotOut, OutOfMemory}
@@ -8,7 +12,7 @@ use Rattle.engine_core.specs.EngineState.{EngineState}
 use Rattle.engine_core.specs.Faults.{AdmitsUnlessTold}
 use Rattle.engine_core.specs.RunState.{IsOut, RunState}
 use Rattle.host_embedding.specs.declared.call_result.CallResult.{CallResult}
-use Rattle.host_embedding.specs.declared.call_result.CallResult.TheVariants.{Done}
+use Rattle.host_embedding.specs.declared.call_result.CallResult.TheVariants.{Done, NotOut as told_out, OutOfMemory as told_memory}
 use Rattle.host_embedding.specs.declared.run_handle.HeldRun.{HeldRun}
 use Rattle.host_embedding.specs.declared.run_handle.HeldRun.TheVariants.{Out, Spent}
 use Rattle.host_embedding.specs.Calls.{HasMoreRecords, IsDriven}
@@ -51,3 +55,31 @@ guests_at_stop old new run back OutOfMemory r0 tokens has came = went_guests old
 pub stops : (old new : EngineState) (run back : RunState) (fault : AdvanceFault) (r0 : ℕ) (held : HeldRun) (ended : Bool) (result : CallResult) → ComesBack old run fault back r0 new → AdmitsUnlessTold fault (IsOut old.world run) → held ≡ Out back → ended ≡ false → result ≡ advanced_result fault → IsDriven result (Some run) held old new r0 ended
 stops old new run back NotOut r0 held ended result came admits is unended is_result = rw is_result (is ∙ ap Out came.0, came.2, admits, came.1, unended)
 stops old new run back OutOfMemory r0 held ended result came admits is unended is_result = rw is_result ((back, is, came), admits, unended)
+
+-- one that the engine was not asked for: memory was refused, or it is not out
+
+pub not_begun : (was held : HeldRun) (run : RunState) (state : EngineState) (runs : List LiveRun) (result : CallResult) → out_of was ≡ Some run → held ≡ Out run → runs ≡ state.world.runs.list
+    → IsOutWith runs run.number run.program.program run.machine → result ≡ told_memory → IsDriven result (out_of was) held state state 0 false
+not_begun was held run state runs result was_is held_is those out told =
+    rw (was_is, told) ((run, held_is, begins), is_out_by state.world run (subst (λ (rs : List LiveRun). IsOutWith rs run.number run.program.program run.machine) those out), refl)
+
+pub not_out : (was held : HeldRun) (run : RunState) (state : EngineState) (runs : List LiveRun) (result : CallResult) → out_of was ≡ Some run → held ≡ Out run → runs ≡ state.world.runs.list
+    → (IsOutWith runs run.number run.program.program run.machine → ⊥) → result ≡ told_out → IsDriven result (out_of was) held state state 0 false
+not_out was held run state runs result was_is held_is those none told =
+    rw (was_is, told) (held_is, refl, (λ out. none (subst (λ (rs : List LiveRun). IsOutWith rs run.number run.program.program run.machine) (sym those) (out_with state.world run out))), refl, refl)
+
+-- ---- what the engine is then
+
+pub driven_records : (result : CallResult) (out : Option RunState) (held : HeldRun) (old new : EngineState) (r0 : ℕ) (ended : Bool) → IsDriven result out held old new r0 ended → HasMoreRecords old new
+driven_records result None held old new r0 ended told = goes_none old new told.2
+driven_records Done (Some run) held old new r0 ended told = goes_to_exit old new run r0 told.0
+driven_records told_memory (Some run) held old new r0 ended told = went_records old run new told.0.0 r0 told.0.2
+driven_records told_out (Some run) held old new r0 ended told = goes_none old new told.1
+driven_records result (Some run) held old new r0 ended told = absurd told
+
+pub driven_guests : (result : CallResult) (out : Option RunState) (held : HeldRun) (old new : EngineState) (r0 : ℕ) (ended : Bool) (tokens : List Freeze) → HasGuests old tokens → IsDriven result out held old new r0 ended → HasGuests new tokens
+driven_guests result None held old new r0 ended tokens has told = same old new tokens has told.2
+driven_guests Done (Some run) held old new r0 ended tokens has told = guests_at_exit old new run r0 tokens has told.0
+driven_guests told_memory (Some run) held old new r0 ended tokens has told = went_guests old run tokens has new told.0.0 r0 told.0.2
+driven_guests told_out (Some run) held old new r0 ended tokens has told = same old new tokens has told.1
+driven_guests result (Some run) held old new r0 ended tokens has told = absurd told

@@ -30,6 +30,7 @@ fits_itself state run none =
     let begins = left_begins state run none in
     record {
       ccbs = begins.limits.ccbs.queues;
+      plain = begins.limits.ccbs.plain;
       freezes = All-weaker (IsCarriedFreeze state.setup) (λ (freeze : Freeze). is_unknown state.setup freeze.place ≡ false) (λ freeze is. is.place) state.world.transport.freezes begins.freezes;
     }
 

@@ -2,9 +2,11 @@ pub mod Again
 pub mod Beginning
 pub mod Counts
 pub mod Driving
+pub mod Courses
 pub mod Following
 pub mod Going
 pub mod Lines
+pub mod Noting
 pub mod Listing
 pub mod Guests
 pub mod Handing

@@ -1,5 +1,5 @@
 -- An engine that is led on by records, one after the other, and where it stands then.
-use Rattle.std.proofs.Common.{◌≡◌, ℕ, ◌+◌, true, List, [], ◌∷◌, ◌++◌, Some, length, refl, ap, sym, subst, ◌∙◌, arith, append-nil, append_assoc}
+use Rattle.std.proofs.Common.{◌≡◌, true, List, [], ◌∷◌, ◌++◌, Some, length, refl, ap, sym, subst, ◌∙◌, append-nil, append_assoc}
 use Rattle.std.specs.Prelude.{is_some}
 use Rattle.freeze_ledger.specs.declared.freeze.Freeze.{Freeze}
 use Rattle.world_calls.specs.declared.carried_line.CarriedLine.{CarriedLine}
@@ -8,12 +8,14 @@ use Rattle.world.specs.World.{Setup, World}
 use Rattle.engine_beginning.specs.Lines.{lines_of}
 use Rattle.engine_core.specs.ByNumber.{guests_of}
 use Rattle.engine_core.specs.EngineState.{EngineState, IsRun}
-use Rattle.engine_core.specs.Settings.{begun_with, setup_over}
-use Rattle.engine_succession.specs.FromLines.{BeginsWith, IsWorldOf}
+use Rattle.engine_succession.specs.FromLines.{BeginsWith}
 use Rattle.host_embedding.specs.Beginning.{KnowsBeginning}
 use Rattle.host_embedding.specs.Guests.{HasGuests}
 use Rattle.host_embedding.specs.Recovering.{BeginsSo, Follows, FollowsAll, IsChecked, StandsAfter, StandsOver}
 use Rattle.host_embedding.specs.declared.hosted_engine.HostedEngine.{HostedEngine}
+use Rattle.host_embedding.specs.Fates.{KeepsFates}
+use Rattle.host_embedding.specs.declared.fates.RunFate.{RunFate}
+use Rattle.host_embedding.proofs.Courses.{none_kept}
 
 pub follows_none : (state : EngineState) → state.taken ≡ length state.history → FollowsAll state [] state
 follows_none state all = record { setup = refl; history = sym (append-nil state.history); taken = all }
@@ -55,6 +57,10 @@ its_lines config lines engine tokens begins = record {
   lines_are = λ fresh world some.
       sym begins.has.lines_are ∙ ap (λ (w : World). lines_of w) (one_world begins.world world (ap (λ (s : EngineState). s.setup.carried) (sym begins.engine_is) ∙ some));
 }
+
+-- no record, and no run that has done anything
+pub its_fates : (config : Setup) (lines : List CarriedLine) (engine : EngineState) (tokens : List Freeze) (fates : List RunFate) → BeginsWith config lines engine tokens → fates ≡ [] → KeepsFates fates engine.history
+its_fates config lines engine tokens fates begins none = none_kept fates engine.history none (ap (λ (s : EngineState). s.history) begins.engine_is)
 
 pub stands_over : (config : Setup) (lines : List CarriedLine) (records : List Record) (engine : EngineState) (hosted : HostedEngine) → BeginsSo config lines engine → StandsAfter engine.setup records hosted → StandsOver config lines records hosted
 stands_over config lines records engine hosted begins stands = record {

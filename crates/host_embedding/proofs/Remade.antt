@@ -1,10 +1,12 @@
 -- A call that is made once more: there is one record more, or none; and which one, if it is looked at.
-use Rattle.std.proofs.Common.{◌≡◌, ℕ, ◌+◌, ◌⊎◌, Bool, true, false, Option, Some, None, Result, Ok, Err, List, [], ◌∷◌, ◌++◌, inl, inr, length, length-append, refl, ap, sym, subst, ◌∙◌, arith}
+use Rattle.std.proofs.Common.{◌≡◌, ℕ, ◌+◌, Bool, Option, Some, None, Result, Ok, Err, List, [], ◌∷◌, ◌++◌, inl, inr, length, length-append, refl, ap, sym, subst, ◌∙◌, arith}
 use Rattle.std.specs.Prelude.{IfSome, slice_index_or}
 use Rattle.std.specs.Global.{Box}
+use Rattle.ccb.specs.declared.QueueId.{QueueId}
 use Rattle.ccb.specs.declared.place.Place.{Place}
+use Rattle.world.specs.World.{class_kept}
 use Rattle.world_calls.specs.declared.call.Call.{Call}
-use Rattle.world_calls.specs.declared.call.Call.TheVariants.{GuestFreeze, GuestRelease, Park, Resume}
+use Rattle.world_calls.specs.declared.call.Call.TheVariants.{GuestFreeze, GuestRelease, Park, Resume, Submit}
 use Rattle.world_calls.specs.declared.call_answer.CallAnswer.{CallAnswer}
 use Rattle.world_calls.specs.declared.call_answer.CallAnswer.TheVariants as answers
 use Rattle.world_calls.specs.declared.record.Record.{Record}
@@ -30,6 +32,12 @@ called_may Done old new answer call told = inr (answer, told)
 called_may (Refused refusal) old new answer call told = inr (answers.Refused refusal, told)
 called_may OutOfMemory old new answer call told = inl told
 called_may result old new answer call told = absurd told
+
+-- a submission whose class is recorded as it is said
+pub submitted_may : (result : CallResult) (old new : EngineState) (answer : CallAnswer) (queue : QueueId) (priority retries word : ℕ) (class said : Option ℕ) → said ≡ class_kept old.setup word → said ≡ class
+    → IsCalled result old new answer (Submit queue priority retries (class_kept old.setup word)) → MayRecord old (Submit queue priority retries class) new
+submitted_may result old new answer queue priority retries word class said is same told =
+    subst (λ (c : Option ℕ). MayRecord old (Submit queue priority retries c) new) (sym is ∙ same) (called_may result old new answer (Submit queue priority retries (class_kept old.setup word)) told)
 
 pub frozen_may : (result : CallResult) (old new : EngineState) (freeze guest : ℕ) (place : Place) → IsFrozen result old new freeze place guest → MayRecord old (GuestFreeze place guest) new
 frozen_may result old new freeze guest place told = called_may result old new (answers.Freeze freeze) (GuestFreeze place guest) told.0

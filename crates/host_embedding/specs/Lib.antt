@@ -8,3 +8,4 @@ pub mod Beginning
 pub mod Succession
 pub mod Ccbs
 pub mod Counting
+pub mod Fates

@@ -85,7 +85,7 @@ carried_until None history = None
 -- trace. If there are none, or no more, they are told to be taken, and nothing is put.
 abbrev pub PutsLeft : CallResult → Version → Option (List CarriedLine) → ℕ → List ℕ → List ℕ → ℕ → ℕ → Type 0
 PutsLeft result version (Some lines) from before place written next =
-    PutsLines carried_text result (continued_header version) lines 0 from before place written next
+    PutsLines (carried_text version) result (continued_header version) lines 0 from before place written next
 PutsLeft result version None from before place written next = (result ≡ Taken) × (written ≡ 0) × (next ≡ from) × (place ≡ before)
 
 abbrev pub PutsCarried : CallResult → EngineState → ℕ → List ℕ → List ℕ → ℕ → ℕ → Type 0

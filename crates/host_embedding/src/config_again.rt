@@ -2,8 +2,8 @@
 
 ghost use Rattle.std.specs.Prelude.{◌≡◌, IfOk, OnOk, map, [], take};
 ghost use Rattle.std.specs.Arc.{arc_value};
-ghost use Rattle.helpers.specs.declared.limits.HelperSet.TheVariants.{Controllers, Queues};
-ghost use Rattle.engine_config.specs.Configured.{alone_of, queue_of, under_of};
+ghost use Rattle.helpers.specs.declared.limits.HelperSet.TheVariants.{Classes, Controllers, Queues};
+ghost use Rattle.engine_config.specs.Configured.{alone_of, firsts_of, queue_of, under_of};
 
 use bpf_accepted::Accepted;
 use ccb::QueueId;
@@ -19,6 +19,7 @@ pub(crate) fn config_again(alloc: Global, config: &Config) -> Result<Config, All
     match config.helpers() {
         HelperSet::Queues => alone_again(alloc, config),
         HelperSet::Controllers => under_again(alloc, config),
+        HelperSet::Classes => classes_again(alloc, config),
     }
 }
 
@@ -53,6 +54,44 @@ fn under_again(alloc: Global, config: &Config) -> Result<Config, AllocError>
         // It never comes to this, as above.
         None => Err(AllocError),
     }
+}
+
+// The same of one with classes.
+fn classes_again(alloc: Global, config: &Config) -> Result<Config, AllocError>
+    requires { config.now.limits.helpers ≡ Classes }
+    ensures { IfOk result (λ again. again ≡ config.now) }
+{
+    // It is called for what it says of the configuration.
+    let _ = config.queues();
+    let limits = limits_again(config)?;
+    let controllers = config.controllers() as u8;
+    let tables = lists_again(alloc, config.first_words())?;
+    let queues = queues_under(alloc, config)?;
+    match Config::with_classes(limits, controllers, tables, queues) {
+        Some(again) => Ok(again),
+        // It never comes to this, as above.
+        None => Err(AllocError),
+    }
+}
+
+// Lists of words once more.
+#[tactic(auto, using(crate::proofs::Again::list_more))]
+fn lists_again(alloc: Global, lists: &[Vec<u64>]) -> Result<Vec<Vec<u64>>, AllocError>
+    ensures { IfOk result (λ again. firsts_of again.items ≡ firsts_of lists.now) }
+{
+    let mut again = Vec::with_capacity(alloc, lists.len())?;
+    for place in 0..lists.len() {
+        again.push(list_again(alloc, &lists[place])?)?;
+    }
+    Ok(again)
+}
+
+fn list_again(alloc: Global, list: &[u64]) -> Result<Vec<u64>, AllocError>
+    ensures { IfOk result (λ again. again.items ≡ list.now) }
+{
+    let mut again = Vec::new(alloc);
+    again.extend_from_slice(list)?;
+    Ok(again)
 }
 
 // The limits of the helper calls, which those of the first queue's program are.

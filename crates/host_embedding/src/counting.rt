@@ -2,15 +2,19 @@
 // what is counted.
 
 ghost use Rattle.std.specs.Prelude.{◌≡◌, ◌≢◌, ◌≤◌, IfSome, drop, length, true, false};
-ghost use Rattle.world.specs.World.{World};
-ghost use Rattle.world_calls.specs.declared.call.Call.TheVariants.{Submit, Dispatch, Complete, Clock};
+ghost use Rattle.world.specs.World.{World, class_kept, version_of};
+ghost use Rattle.world_calls.specs.declared.call.Call.TheVariants.{Submit, Dispatch, Complete, Withdraw, Clock};
+ghost use Rattle.world_calls.specs.Answered.{started_answer};
 ghost use Rattle.world_calls.specs.declared.call_answer.CallAnswer.TheVariants as answers;
+ghost use Rattle.world_calls.specs.declared.trace.Version.TheVariants.{Three};
 ghost use Rattle.host_embedding.specs.Calls.{IsAdvanced, IsCalled, IsCompleted, IsDriven, IsFrozen, IsParked, IsReleased, IsResumed};
 ghost use Rattle.host_embedding.specs.Counting.{CountsMore, CountsRecords, IsNoted, IsNotedCcb, IsNotedOf, IsNotedRun};
+ghost use Rattle.host_embedding.specs.Fates.{TellsFate};
 ghost use Rattle.host_embedding.specs.Held.{is_same_run, out_of};
 
 use crate::call_result::CallResult;
 use crate::engine_handle::EngineHandle;
+use crate::fates::Fate;
 use crate::hosted_engine::HostedEngine;
 use crate::run_handle::RunHandle;
 use crate::text_lines::entry;
@@ -92,8 +96,15 @@ fn count_more(engine: &EngineHandle, noted: &Noted, metrics: &mut Metrics)
 impl HostedEngine {
     /// Submits a CCB to a queue, as `EngineHandle::submit`.
     #[tactic(auto, using(crate::proofs::Counts::made_called, crate::proofs::Counts::keeps, crate::proofs::Counts::counts))]
-    pub fn submit(&mut self, queue: u32, priority: u32, retries: u32, ccb: &mut u32) -> CallResult
-        ensures recorded { IsCalled result self.old.engine self.new.engine (answers.Ccb (record { 0 = ccb.new })) (Submit (record { 0 = queue }) priority retries) }
+    pub fn submit(
+        &mut self,
+        queue: u32,
+        priority: u32,
+        retries: u32,
+        class: u32,
+        ccb: &mut u32,
+    ) -> CallResult
+        ensures recorded { IsCalled result self.old.engine self.new.engine (answers.Ccb (record { 0 = ccb.new })) (Submit (record { 0 = queue }) priority retries (class_kept self.old.engine.setup class)) }
         ensures kept { result ≢ CallResult.Done → ccb.new ≡ ccb.old }
         ensures counted { CountsRecords self.old self.new }
         ensures untaken { self.new.left ≡ self.old.left }
@@ -102,24 +113,39 @@ impl HostedEngine {
             queue: QueueId(queue),
             priority,
             retries,
+            class: self.engine.class_said(class),
         });
-        let result = self.engine.submit(queue, priority, retries, ccb);
+        let result = self.engine.submit(queue, priority, retries, class, ccb);
         count_more(&self.engine, &noted, &mut self.metrics);
         result
     }
 
     /// Starts the waiting CCB of a queue that goes first, as `EngineHandle::dispatch`.
     #[tactic(auto, using(crate::proofs::Counts::made_called, crate::proofs::Counts::keeps, crate::proofs::Counts::counts))]
-    pub fn dispatch(&mut self, queue: u32, ccb: &mut u32) -> CallResult
-        ensures recorded { IsCalled result self.old.engine self.new.engine (answers.Ccb (record { 0 = ccb.new })) (Dispatch (record { 0 = queue })) }
-        ensures kept { result ≢ CallResult.Done → ccb.new ≡ ccb.old }
+    pub fn dispatch(&mut self, queue: u32, ccb: &mut u32, advice: &mut u32) -> CallResult
+        ensures recorded { IsCalled result self.old.engine self.new.engine (started_answer (version_of self.old.engine.setup) (record { ccb = record { 0 = ccb.new }; advice = advice.new })) (Dispatch (record { 0 = queue })) }
+        ensures kept { result ≢ CallResult.Done → (ccb.new ≡ ccb.old) × (advice.new ≡ advice.old) }
+        ensures unadvised { result ≡ CallResult.Done → version_of self.old.engine.setup ≢ Three → advice.new ≡ 0 }
         ensures counted { CountsRecords self.old self.new }
         ensures untaken { self.new.left ≡ self.old.left }
     {
         let noted = self.engine.note_call(&Call::Dispatch {
             queue: QueueId(queue),
         });
-        let result = self.engine.dispatch(queue, ccb);
+        let result = self.engine.dispatch(queue, ccb, advice);
+        count_more(&self.engine, &noted, &mut self.metrics);
+        result
+    }
+
+    /// Withdraws a CCB that waits, as `EngineHandle::withdraw`.
+    #[tactic(auto, using(crate::proofs::Counts::made_called, crate::proofs::Counts::keeps, crate::proofs::Counts::counts))]
+    pub fn withdraw(&mut self, ccb: u32) -> CallResult
+        ensures recorded { IsCalled result self.old.engine self.new.engine answers.Ok (Withdraw (record { 0 = ccb })) }
+        ensures counted { CountsRecords self.old self.new }
+        ensures untaken { self.new.left ≡ self.old.left }
+    {
+        let noted = self.engine.note_call(&Call::Withdraw { ccb: CcbId(ccb) });
+        let result = self.engine.withdraw(ccb);
         count_more(&self.engine, &noted, &mut self.metrics);
         result
     }
@@ -185,30 +211,44 @@ impl HostedEngine {
 
     /// Takes over what a run did up to its next stop, as `EngineHandle::advance`.
     #[tactic(auto, using(crate::proofs::Counts::made_advanced, crate::proofs::Counts::keeps, crate::proofs::Counts::counts))]
-    pub fn advance(&mut self, run: &mut RunHandle, r0: &mut u64, ended: &mut bool) -> CallResult
+    pub fn advance(
+        &mut self,
+        run: &mut RunHandle,
+        r0: &mut u64,
+        ended: &mut bool,
+        fate: &mut Fate,
+    ) -> CallResult
         ensures recorded { IsAdvanced result run.old.held run.new.held self.old.engine self.new.engine r0.new ended.new }
         ensures kept { result ≢ CallResult.Done → (r0.new ≡ r0.old) × (ended.new ≡ ended.old) }
+        ensures fate { TellsFate result (out_of run.old.held) self.new.engine.history fate.new }
         ensures same { is_same_run run.old run.new }
         ensures counted { CountsRecords self.old self.new }
         ensures untaken { self.new.left ≡ self.old.left }
     {
         let noted = self.engine.note_run(run.out_number());
-        let result = self.engine.advance(run, r0, ended);
+        let result = self.engine.advance(run, r0, ended, fate);
         count_more(&self.engine, &noted, &mut self.metrics);
         result
     }
 
     /// Takes a run from stop to stop until it has ended, as `EngineHandle::drive`.
     #[tactic(auto, using(crate::proofs::Counts::made_driven, crate::proofs::Counts::keeps, crate::proofs::Counts::counts))]
-    pub fn drive(&mut self, run: &mut RunHandle, r0: &mut u64, ended: &mut bool) -> CallResult
+    pub fn drive(
+        &mut self,
+        run: &mut RunHandle,
+        r0: &mut u64,
+        ended: &mut bool,
+        fate: &mut Fate,
+    ) -> CallResult
         ensures driven { IsDriven result (out_of run.old.held) run.new.held self.old.engine self.new.engine r0.new ended.new }
         ensures unended { result ≢ CallResult.Done → ended.new ≡ false }
+        ensures fate { TellsFate result (out_of run.old.held) self.new.engine.history fate.new }
         ensures same { is_same_run run.old run.new }
         ensures counted { CountsRecords self.old self.new }
         ensures untaken { self.new.left ≡ self.old.left }
     {
         let noted = self.engine.note_run(run.out_number());
-        let result = self.engine.drive(run, r0, ended);
+        let result = self.engine.drive(run, r0, ended, fate);
         count_more(&self.engine, &noted, &mut self.metrics);
         result
     }

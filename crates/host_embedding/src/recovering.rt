@@ -153,7 +153,7 @@ impl EngineHandle {
 
 // An engine that begins with these lines, with the tokens of guests' freezes. Lines with which none begins are answered as if memory were
 // refused.
-#[tactic(auto, using(crate::proofs::Recovered::begins_so, crate::proofs::Recovered::its_guests, crate::proofs::Recovered::its_lines))]
+#[tactic(auto, using(crate::proofs::Recovered::begins_so, crate::proofs::Recovered::its_guests, crate::proofs::Recovered::its_lines, crate::proofs::Recovered::its_fates))]
 fn begun(alloc: Global, config: Config, lines: Vec<CarriedLine>) -> Result<EngineHandle, AllocError>
     ensures { IfOk result (BeginsSo config lines.items) }
 {
@@ -166,6 +166,7 @@ fn begun(alloc: Global, config: Config, lines: Vec<CarriedLine>) -> Result<Engin
                 tokens,
                 is_continued: true,
                 lines,
+                fates: Vec::new(alloc),
             })
         }
         Err((_, _)) => Err(AllocError),

@@ -1,13 +1,14 @@
 // The calls that a trace has are made once more, by the numbers of runs and freezes, and the runs that go out are kept. It relies on
 // `engine_handle` and `run_calls` for each call.
 
-ghost use Rattle.std.specs.Prelude.{◌≡◌, ◌<◌, ◌≤◌, IfSome, length};
+ghost use Rattle.std.specs.Prelude.{◌≡◌, ◌<◌, ◌≤◌, IfSome, IsTrue, length};
 ghost use Rattle.world_calls.specs.declared.call.Call.TheVariants as calls;
 ghost use Rattle.host_embedding.specs.Recovering.{IsOf, MayGrow, MayRecord};
 
 use crate::engine_handle::EngineHandle;
+use crate::fates::Fate;
 use crate::run_handle::RunHandle;
-use ccb::{Completion, Place, QueueId};
+use ccb::{CcbId, Completion, Place, QueueId};
 use std::alloc::Global;
 use world_calls::{Call, CompletionRecord};
 
@@ -25,8 +26,10 @@ pub(crate) fn make(
             queue,
             priority,
             retries,
-        } => submit(engine, *queue, *priority, *retries),
+            class,
+        } => submit(engine, *queue, *priority, *retries, *class),
         Call::Dispatch { queue } => dispatch(engine, *queue),
+        Call::Withdraw { ccb } => withdraw(engine, *ccb),
         Call::Complete { completion } => complete(engine, left, alloc, completion),
         Call::GuestFreeze { place, guest } => guest_freeze(engine, *place, *guest),
         Call::GuestRelease { freeze } => guest_release(engine, *freeze),
@@ -54,26 +57,58 @@ pub(crate) fn advance(engine: &mut EngineHandle, left: &mut Vec<Box<RunHandle>>,
 fn goes_on(engine: &mut EngineHandle, handle: &mut RunHandle) -> bool
     ensures { MayGrow engine.old engine.new }
 {
-    let (mut r0, mut ended) = (0, false);
+    let (mut r0, mut ended, mut fate) = (0, false, Fate::Kept);
     handle.stretch();
-    engine.advance(handle, &mut r0, &mut ended);
+    engine.advance(handle, &mut r0, &mut ended, &mut fate);
     !ended
 }
 
-#[tactic(auto, using(crate::proofs::Remade::called_may))]
-fn submit(engine: &mut EngineHandle, queue: QueueId, priority: u32, retries: u32)
-    ensures { MayRecord engine.old (calls.Submit queue priority retries) engine.new }
+// A submission, if it says a class where CCBs have one, and there alone.
+#[tactic(auto, using(crate::proofs::Remade::submitted_may))]
+fn submit(
+    engine: &mut EngineHandle,
+    queue: QueueId,
+    priority: u32,
+    retries: u32,
+    class: Option<u32>,
+)
+    ensures { MayRecord engine.old (calls.Submit queue priority retries class) engine.new }
 {
+    let word = word_of(class);
+    if !is_same(engine.class_said(word), class) {
+        return;
+    }
     let mut ccb = 0;
-    engine.submit(queue.0, priority, retries, &mut ccb);
+    engine.submit(queue.0, priority, retries, word, &mut ccb);
+}
+
+// The class that is said, or 0.
+fn word_of(class: Option<u32>) -> u32 {
+    match class {
+        Some(class) => class,
+        None => 0,
+    }
+}
+
+fn is_same(one: Option<u32>, other: Option<u32>) -> bool
+    ensures { IsTrue result → one ≡ other }
+{
+    one == other
+}
+
+#[tactic(auto, using(crate::proofs::Remade::called_may))]
+fn withdraw(engine: &mut EngineHandle, ccb: CcbId)
+    ensures { MayRecord engine.old (calls.Withdraw ccb) engine.new }
+{
+    engine.withdraw(ccb.0);
 }
 
 #[tactic(auto, using(crate::proofs::Remade::called_may))]
 fn dispatch(engine: &mut EngineHandle, queue: QueueId)
     ensures { MayRecord engine.old (calls.Dispatch queue) engine.new }
 {
-    let mut ccb = 0;
-    engine.dispatch(queue.0, &mut ccb);
+    let (mut ccb, mut advice) = (0, 0);
+    engine.dispatch(queue.0, &mut ccb, &mut advice);
 }
 
 #[tactic(auto, using(crate::proofs::Remade::called_may))]

@@ -99,6 +99,7 @@ impl HostedEngine {
 }
 
 // The handle of an engine of this configuration that begins with what that engine leaves.
+#[tactic(auto, using(crate::proofs::Recovered::its_fates))]
 fn successor(
     alloc: Global,
     engine: &Engine,
@@ -122,6 +123,7 @@ fn successor(
                 tokens,
                 is_continued: true,
                 lines,
+                fates: Vec::new(alloc),
             })
         }
         Err((BeginFault::OutOfMemory, _)) => Err(AllocError),

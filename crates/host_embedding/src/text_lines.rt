@@ -42,10 +42,11 @@ pub(crate) fn put_behind(text: &[u8], place: &mut [u8], written: usize) -> Optio
     Some(count)
 }
 
-// The line of a record, with its line feed.
+// The line of a record, with its line feed. Before it there is room for the first line of a trace, of 13 bytes.
 fn line(entry: &Record) -> Option<Text>
     ensures text { IfSome result (λ text. Some text ≡ with_newline (line_of entry.now)) }
     ensures none { IfNone result (line_of entry.now ≡ None) }
+    ensures short { IfSome result (λ text. length text + 13 ≤ LONGEST_TAKEN) }
 {
     let mut text = Text::none();
     match print_entry(entry, &mut text) {
@@ -72,6 +73,7 @@ fn finds_room(engine: &Engine, place: &[u8], written: usize) -> bool
     requires { engine.now.taken ≡ 0 }
     ensures room { result ≡ true → 0 < length engine.now.history → FindsNoRoom line_of engine.now.history 0 place.now written → ⊥ }
     ensures none { result ≡ false → (0 < length engine.now.history) × FindsNoRoom line_of engine.now.history 0 place.now written }
+    ensures short { result ≡ false → length place.now + 13 < written + LONGEST_TAKEN }
 {
     if engine.recorded() == 0 {
         return true;
@@ -85,11 +87,13 @@ fn finds_room(engine: &Engine, place: &[u8], written: usize) -> bool
 impl EngineHandle {
     /// Puts whole lines of the trace into a place, as many as find room: those of the records from this number on, and before
     /// that of record 0 the first line of a trace, unless the engine follows another one. If the record of this number was handed on,
-    /// or the line of the first of these records finds no room, nothing is put, and the place is as it was. What stands after the lines
-    /// that were put stays as it was.
+    /// or the line of the first of these records finds no room, nothing is put, and the place is as it was. A place of LONGEST_TAKEN bytes
+    /// has room for one line at least. What stands after the lines that were put stays as it was.
+    #[tactic(auto, using(crate::proofs::Handing::few_front))]
     pub fn put_lines(&self, from: u64, place: &mut [u8], put: &mut PutLines) -> CallResult
         ensures room { put.new.written ≤ length place.new }
         ensures lines { PutsLines line_of result (front_of self.now.setup) self.now.history self.now.taken from place.old place.new put.new.written put.new.next }
+        ensures some { LONGEST_TAKEN ≤ length place.old → result ≢ CallResult.NoRoom }
     {
         put_from(&self.engine, self.front(), from, place, put)
     }
@@ -145,6 +149,7 @@ fn put_from(
 ) -> CallResult
     ensures room { put.new.written ≤ length place.new }
     ensures lines { PutsLines line_of result first.now engine.now.history engine.now.taken from place.old place.new put.new.written put.new.next }
+    ensures short { result ≡ CallResult.NoRoom → length place.old + 13 < length first.now + LONGEST_TAKEN }
 {
     put.written = 0;
     put.next = from;
@@ -178,6 +183,7 @@ fn put_records(engine: &Engine, place: &mut [u8], put: &mut PutLines) -> CallRes
     ensures full { result ≡ CallResult.Done → FindsNoRoom line_of engine.now.history put.new.next place.new put.new.written }
     ensures some { result ≡ CallResult.Done → put.old.next < length engine.now.history → put.old.next < put.new.next }
     ensures others { result ≢ CallResult.NoRoom → result ≢ CallResult.Done → (result ≡ CallResult.NoText) × HasNoLine line_of engine.now.history put.new.next }
+    ensures short { result ≡ CallResult.NoRoom → length place.old + 13 < put.old.written + LONGEST_TAKEN }
 {
     let all = engine.recorded();
     let from = put.next;

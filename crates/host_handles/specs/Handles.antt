@@ -7,7 +7,8 @@ use Rattle.world_calls.specs.declared.call.Call.{Call}
 use Rattle.world_calls.specs.declared.call.Call.TheVariants.{Complete, GuestRelease, Park}
 use Rattle.world_calls.specs.declared.call_answer.CallAnswer.{CallAnswer}
 use Rattle.world_calls.specs.declared.call_answer.CallAnswer.TheVariants as answers
-use Rattle.engine_core.specs.Replies.{answer_of, call_of}
+use Rattle.engine_core.specs.Replies.{answer_of, call_of, recorded_call}
+use Rattle.world.specs.World.{Setup}
 use Rattle.engine_core.specs.RunState.{RunState, before_stop}
 use Rattle.engine_core.specs.declared.event.Event.{Event}
 use Rattle.engine_core.specs.declared.event.Event.TheVariants as events
@@ -99,9 +100,9 @@ IsUnheld (GuestRelease freeze) held = HasNoToken freeze held
 IsUnheld (Park run) held = HasNoRun run held
 IsUnheld call held = ⊥
 
--- the event of a call, and an advance of a run
+-- the event of a call, by its record in an engine of any setup, and an advance of a run
 abbrev pub IsOfCall : Call → Event → Type 0
-IsOfCall call event = call_of event ≡ Some call
+IsOfCall call event = (setup : Setup) → call_of setup event ≡ Some (recorded_call setup call)
 
 abbrev pub IsAdvanceOf : ℕ → Event → Type 0
 IsAdvanceOf number (events.Advance run) = run.number ≡ number

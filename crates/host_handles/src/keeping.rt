@@ -47,6 +47,7 @@ fn answer_of(given: &Success) -> CallAnswer
 {
     match given {
         Success::Ccb(ccb) => CallAnswer::Ccb(*ccb),
+        Success::Advised(start) => CallAnswer::Advised(start.ccb, start.advice),
         Success::Done => CallAnswer::Done,
         Success::Started(run, freeze) => CallAnswer::Started {
             run: run.number(),
@@ -55,9 +56,11 @@ fn answer_of(given: &Success) -> CallAnswer
         Success::Freeze(token) => CallAnswer::Freeze(token.number()),
         Success::Left(count) => CallAnswer::Left(*count),
         Success::Removed(count) => CallAnswer::Removed(*count),
-        Success::Goes(_, _) | Success::Ended(_) | Success::Parked | Success::Resumed(_) => {
-            CallAnswer::Ok
-        }
+        Success::Withdrawn
+        | Success::Goes(_, _)
+        | Success::Ended(_)
+        | Success::Parked
+        | Success::Resumed(_) => CallAnswer::Ok,
     }
 }
 
@@ -75,7 +78,9 @@ fn keep_given(runs: &mut Vec<HeldRun>, tokens: &mut Vec<GuestToken>, given: Succ
         }
         Success::Freeze(token) => put(tokens, GuestToken::new(token)),
         Success::Ccb(_)
+        | Success::Advised(_)
         | Success::Done
+        | Success::Withdrawn
         | Success::Ended(_)
         | Success::Left(_)
         | Success::Removed(_)

@@ -2,6 +2,7 @@
 
 ghost use Rattle.std.specs.Prelude.{◌≡◌, ◌<◌, Err, MatchResult, Ok, length, vec_capacity};
 ghost use Rattle.world_calls.specs.declared.call_answer.CallAnswer.{CallAnswer};
+ghost use Rattle.world.specs.World.{class_in};
 ghost use Rattle.host_handles.specs.Handles.{AreSorted, HasNoRun, IsAdvanceOf, IsOfCall, IsSettled, IsUnheld, handles};
 
 use crate::held::HeldRun;
@@ -29,6 +30,7 @@ pub(crate) fn make<A: Responder>(
             queue,
             priority,
             retries,
+            class,
         } => ask(
             runs,
             tokens,
@@ -37,6 +39,7 @@ pub(crate) fn make<A: Responder>(
                 queue: *queue,
                 priority: *priority,
                 retries: *retries,
+                class: class_in(*class),
             },
         ),
         Call::Dispatch { queue } => ask(runs, tokens, asked, Event::Dispatch { queue: *queue }),
@@ -51,6 +54,7 @@ pub(crate) fn make<A: Responder>(
             ),
             None => Err(Unanswered::NotHeld),
         },
+        Call::Withdraw { ccb } => ask(runs, tokens, asked, Event::Withdraw { ccb: *ccb }),
         Call::GuestFreeze { place, guest } => ask(
             runs,
             tokens,
@@ -110,5 +114,15 @@ pub(crate) fn advance<A: Responder>(
     match ask(runs, tokens, asked, Event::Advance { run }) {
         Ok(_) => Ok(()),
         Err(fault) => Err(fault),
+    }
+}
+
+// The class that a submission asks for: 0 if it says none.
+fn class_in(class: Option<u32>) -> u32
+    ensures { result ≡ class_in class }
+{
+    match class {
+        Some(class) => class,
+        None => 0,
     }
 }

@@ -5,7 +5,7 @@ use Rattle.base.specs.declared.or_memory.OrMemory.{OrMemory}
 use Rattle.base.specs.declared.or_memory.OrMemory.TheVariants.{OutOfMemory, Fault}
 use Rattle.world_calls.specs.declared.carried_line.CarriedLine.{CarriedLine}
 use Rattle.world_calls.specs.declared.trace.Version.{Version}
-use Rattle.world_calls.specs.declared.trace.Version.TheVariants.{One, Two}
+use Rattle.world_calls.specs.declared.trace.Version.TheVariants.{One, Three, Two}
 use Rattle.world.specs.Beginning.{Begins}
 use Rattle.world.specs.World.{Setup, version_of}
 use Rattle.engine_core.specs.ByNumber.{NumberedState, IsBehind, opened_numbered}
@@ -36,6 +36,7 @@ recovered_stands setup number known recovered its = record { records = its.2.rec
 header_ends : (version : Version) → EndsALine (header version)
 header_ends One = inr (codes "camr-trace 1", refl)
 header_ends Two = inr (codes "camr-trace 2", refl)
+header_ends Three = inr (codes "camr-trace 3", refl)
 
 -- a line's text, and what follows it
 then_ends : (first rest : Option (List ℕ)) → EndsALine (or_none rest) → EndsALine (or_none (option_append (with_newline first) rest))
@@ -46,23 +47,24 @@ then_ends (Some line) (Some rest) ends = elim ends [
   | inr some ↦ inr ((line ++ 10 ∷ []) ++ some.0, ap (λ (r : List ℕ). (line ++ 10 ∷ []) ++ r) some.1 ∙ sym (append_assoc (line ++ 10 ∷ []) some.0 (10 ∷ [])))
 ]
 
-lines_end : (lines : List CarriedLine) → EndsALine (or_none (carried_texts lines))
+lines_end : (version : Version) (lines : List CarriedLine) → EndsALine (or_none (carried_texts version lines))
 unfolding carried_texts
-lines_end [] = inl refl
-lines_end (line ∷ lines) = then_ends (carried_text line) (carried_texts lines) (lines_end lines)
+lines_end version [] = inl refl
+lines_end version (line ∷ lines) = then_ends (carried_text version line) (carried_texts version lines) (lines_end version lines)
 
 after_header : (version : Version) (rest : Option (List ℕ)) → EndsALine (or_none rest) → EndsALine (or_none (option_append (Some (continued_header version)) rest))
 after_header version None ends = inl refl
 after_header One (Some rest) ends = then_ends (Some (codes "camr-trace 1 continued")) (Some rest) ends
 after_header Two (Some rest) ends = then_ends (Some (codes "camr-trace 2 continued")) (Some rest) ends
+after_header Three (Some rest) ends = then_ends (Some (codes "camr-trace 3 continued")) (Some rest) ends
 
 pub front_ends : (config : Setup) (carried : Option (List CarriedLine)) → EndsALine (or_none (front_of config carried))
 front_ends config None = header_ends (version_of config)
-front_ends config (Some lines) = after_header (version_of config) (carried_texts lines) (lines_end lines)
+front_ends config (Some lines) = after_header (version_of config) (carried_texts (version_of config) lines) (lines_end (version_of config) lines)
 
 -- ---- why nothing begins
 
-pub unbegun_by_lines : (begun : Begun) (error : OrMemory JournalFault) (lines : List CarriedLine) → items_of begun.carried ≡ Some lines → AreUnfit lines error → IsUnbegun begun error
+pub unbegun_by_lines : (begun : Begun) (error : OrMemory JournalFault) (lines : List CarriedLine) → items_of begun.carried ≡ Some lines → AreUnfit (version_of begun.config) lines error → IsUnbegun begun error
 unbegun_by_lines begun OutOfMemory lines is unfit = tt
 unbegun_by_lines begun (Fault faults.InternalError) lines is unfit = subst (CannotBegin begun.config) (sym is) (inl unfit)
 unbegun_by_lines begun (Fault fault) lines is unfit = absurd unfit

@@ -8,8 +8,8 @@ use Rattle.engine_succession.specs.Numbered.{MayBeFollowedBy}
 use Rattle.manifest.specs.Meaning.{HasFault}
 use Rattle.manifest.specs.declared.fault.ManifestFault.{ManifestFault}
 use Rattle.trace.specs.declared.fault.TraceFault.TheVariants.{Line}
-use Rattle.whole_trace.specs.Front.{HasHeldByRun}
-use Rattle.world.specs.World.{Setup}
+use Rattle.whole_trace.specs.Front.{HasUnspelled}
+use Rattle.world.specs.World.{Setup, version_of}
 use Rattle.host_recovery.specs.declared.fault.RecoveryFault.{RecoveryFault}
 use Rattle.host_recovery.specs.declared.fault.RecoveryFault.TheVariants.{Form}
 use Rattle.host_recovery.specs.declared.recovering.Recovered.{Recovered}
@@ -116,7 +116,7 @@ pub record IsUntold (held : Held) (number : ℕ) (before : NumberedState) : Type
   pub configured : IsConfiguredBy held number config
   pub may : MayBeFollowedBy before config
   pub numbering : Numbering
-  pub untold : HasHeldByRun (lines_left numbering before config)
+  pub untold : HasUnspelled (version_of config) (lines_left numbering before config)
 
 -- why the segment of that number is not sound, of those up to that one, after the engine of the segment before
 abbrev pub FailsInSegment : Held → (number last : ℕ) → Option NumberedState → (old new : Option (List Step)) → OrMemory JournalFault → Type 0

@@ -9,7 +9,7 @@ use Rattle.engine_carried.specs.declared.numbering.Numbering.{Numbering}
 use Rattle.engine_carried.specs.declared.numbering.Numbering.TheVariants.{Fresh as FreshNumbers, Same as SameNumbers}
 use Rattle.engine_core.specs.ByNumber.{NumberedState}
 use Rattle.engine_succession.specs.Numbered.{MayBeFollowedBy, taken_from}
-use Rattle.whole_trace.specs.Front.{HasHeldByRun, front_text}
+use Rattle.whole_trace.specs.Front.{HasUnspelled, front_text}
 use Rattle.host_journal.specs.declared.fault.JournalFault.{JournalFault}
 use Rattle.host_journal.specs.declared.fault.JournalFault.TheVariants as faults
 use Rattle.host_journal.specs.declared.left.FrontText.{FrontText}
@@ -59,7 +59,7 @@ IsLeft before config (Fronts same fresh) = MayBeFollowedBy before config × IsFr
 -- why there is no such text, if the engine may be followed: memory, or a line that has none
 abbrev pub IsUnprintable : NumberedState → Setup → OrMemory JournalFault → Type 0
 IsUnprintable before config OutOfMemory = ⊤
-IsUnprintable before config (Fault faults.InternalError) = MayBeFollowedBy before config × ((numbering : Numbering) × HasHeldByRun (lines_left numbering before config))
+IsUnprintable before config (Fault faults.InternalError) = MayBeFollowedBy before config × ((numbering : Numbering) × HasUnspelled (version_of config) (lines_left numbering before config))
 IsUnprintable before config (Fault fault) = ⊥
 
 -- whether the bytes, if they are known, begin with the text, and there are as many carried lines

@@ -3,13 +3,14 @@ use Rattle.std.specs.Prelude.{◌≡◌, ◌⊎◌, ℕ, Option, Some, None, Mat
 use Rattle.base.specs.declared.or_memory.OrMemory.{OrMemory}
 use Rattle.base.specs.declared.or_memory.OrMemory.TheVariants.{OutOfMemory, Fault}
 use Rattle.world_calls.specs.declared.carried_line.CarriedLine.{CarriedLine}
+use Rattle.world_calls.specs.declared.trace.Version.{Version}
 use Rattle.trace.specs.TraceText.{header}
 use Rattle.world.specs.World.{Setup, version_of}
 use Rattle.engine_core.specs.ByNumber.{NumberedState, opened_numbered}
 use Rattle.engine_succession.specs.FromLines.{BeginsNumbered, IsRefused}
 use Rattle.engine_succession.specs.declared.beginning.BeginFault.TheVariants.{DoesNotFit}
 use Rattle.whole_trace.specs.Continued.{items_of}
-use Rattle.whole_trace.specs.Front.{HasHeldByRun, front_text}
+use Rattle.whole_trace.specs.Front.{HasUnspelled, front_text}
 use Rattle.host_recovery.specs.SetupFor.{carried_count}
 use Rattle.host_recovery.specs.declared.recovering.Recovered.{Recovered}
 use Rattle.host_journal.specs.declared.beginning.Begun.{Begun}
@@ -52,16 +53,16 @@ AreRefused config lines OutOfMemory = ⊤
 AreRefused config lines (Fault faults.InternalError) = (place : ℕ) × IsRefused config lines (DoesNotFit place)
 AreRefused config lines (Fault fault) = ⊥
 
--- or no such text: one of the lines has none
-abbrev pub AreUnfit : List CarriedLine → OrMemory JournalFault → Type 0
-AreUnfit lines OutOfMemory = ⊤
-AreUnfit lines (Fault faults.InternalError) = HasHeldByRun lines
-AreUnfit lines (Fault fault) = ⊥
+-- or no such text: one of the lines has none in the version
+abbrev pub AreUnfit : Version → List CarriedLine → OrMemory JournalFault → Type 0
+AreUnfit version lines OutOfMemory = ⊤
+AreUnfit version lines (Fault faults.InternalError) = HasUnspelled version lines
+AreUnfit version lines (Fault fault) = ⊥
 
 -- of a segment that does not follow from what another one left
 abbrev pub CannotBegin : Setup → Option (List CarriedLine) → Type 0
 CannotBegin config None = ⊥
-CannotBegin config (Some lines) = HasHeldByRun lines ⊎ ((place : ℕ) × IsRefused config lines (DoesNotFit place))
+CannotBegin config (Some lines) = HasUnspelled (version_of config) lines ⊎ ((place : ℕ) × IsRefused config lines (DoesNotFit place))
 
 abbrev pub IsUnbegun : Begun → OrMemory JournalFault → Type 0
 IsUnbegun begun OutOfMemory = ⊤

@@ -1,8 +1,9 @@
-// What the segment after one may begin with, and whether it does. It relies on `engine_carried` for what an engine leaves, on `whole_trace`
+// What the segment after one may begin with, and whether it does. It relies on `engine_carried` for what an engine leaves, on `making`
 // for the text of that, and on `comparing` for the bytes of a segment.
 
 ghost use Rattle.std.specs.Prelude.{◌≡◌, ◌↔◌, [], IfErr, IfOk, IsTrue};
 ghost use Rattle.engine_succession.specs.Numbered.{MayBeFollowedBy};
+ghost use Rattle.world.specs.World.{version_of};
 ghost use Rattle.host_journal.specs.Disks.{IsQuiet};
 ghost use Rattle.host_journal.specs.Linked.{HasFront, IsFrontOf, IsFrontUnder, IsLeft, IsUnprintable, Judges};
 ghost use Rattle.host_journal.specs.Made.{AreUnfit};
@@ -10,14 +11,13 @@ ghost use Rattle.host_journal.specs.Starts.{IsUnreadSegment};
 
 use crate::comparing::segment_begins_with;
 use crate::disk::Disk;
-use crate::fault::{JournalError, JournalFault};
+use crate::fault::JournalError;
+use crate::making::carried_text;
 use base::OrMemory;
 use engine_carried::{Numbering, carried_lines_numbered, fits_numbered};
 use engine_core::{Config, NumberedEngine};
 use std::alloc::{AllocError, Global};
-use trace_lines::NoText;
-use whole_trace::print_front;
-use world_calls::{CarriedLine, Version};
+use world_calls::CarriedLine;
 
 /// The text before the first record of a segment that follows another one, under one numbering, and how many carried lines it has.
 #[derive(Drop)]
@@ -98,15 +98,14 @@ fn front_of(
     lines: &[CarriedLine],
 ) -> Result<FrontText, JournalError>
     ensures front { IfOk result (IsFrontOf config.now lines.now) }
-    ensures refused { IfErr result (AreUnfit lines.now) }
+    ensures refused { IfErr result (AreUnfit (version_of config.now) lines.now) }
 {
-    match print_front(alloc, Version::of(config.helpers()), lines) {
+    match carried_text(alloc, config, lines) {
         Ok(bytes) => Ok(FrontText {
             bytes,
             carried: lines.len() as u64,
         }),
-        Err(OrMemory::OutOfMemory) => Err(OrMemory::OutOfMemory),
-        Err(OrMemory::Fault(NoText)) => Err(OrMemory::Fault(JournalFault::InternalError)),
+        Err(error) => Err(error),
     }
 }
 

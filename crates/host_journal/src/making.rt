@@ -3,6 +3,7 @@
 
 ghost use Rattle.std.specs.Prelude.{◌≡◌, [], IfErr, IfOk, None, Some};
 ghost use Rattle.trace.specs.TraceText.{header};
+ghost use Rattle.world.specs.World.{version_of};
 ghost use Rattle.engine_core.specs.ByNumber.{IsBehind};
 ghost use Rattle.whole_trace.specs.Continued.{items_of};
 ghost use Rattle.whole_trace.specs.Front.{front_text};
@@ -26,10 +27,9 @@ pub fn first_text(alloc: Global, begun: &Begun<'_>) -> Result<Vec<u8>, JournalEr
     ensures first { IfOk result (λ bytes. front_of begun.now.config (items_of begun.now.carried) ≡ Some bytes.items) }
     ensures refused { IfErr result (IsUnbegun begun.now) }
 {
-    let version = Version::of(begun.config.helpers());
     match &begun.carried {
-        Some(lines) => carried_text(alloc, version, lines),
-        None => header_text(alloc, version),
+        Some(lines) => carried_text(alloc, &begun.config, lines),
+        None => header_text(alloc, Version::of(begun.config.helpers())),
     }
 }
 
@@ -44,14 +44,22 @@ fn header_text(alloc: Global, version: Version) -> Result<Vec<u8>, JournalError>
     Ok(bytes)
 }
 
-// Returns the first line of a continued trace, and these lines.
-fn carried_text(
+/// Returns the first line of the continued trace of an engine of this configuration, and these lines.
+pub(crate) fn carried_text(
     alloc: Global,
-    version: Version,
+    config: &Config,
     lines: &[CarriedLine],
 ) -> Result<Vec<u8>, JournalError>
+    ensures first { IfOk result (λ bytes. front_text (version_of config.now) lines.now ≡ Some bytes.items) }
+    ensures refused { IfErr result (AreUnfit (version_of config.now) lines.now) }
+{
+    text_in(alloc, Version::of(config.helpers()), lines)
+}
+
+// The same in a version.
+fn text_in(alloc: Global, version: Version, lines: &[CarriedLine]) -> Result<Vec<u8>, JournalError>
     ensures first { IfOk result (λ bytes. front_text version lines.now ≡ Some bytes.items) }
-    ensures refused { IfErr result (AreUnfit lines.now) }
+    ensures refused { IfErr result (AreUnfit version lines.now) }
 {
     match print_front(alloc, version, lines) {
         Ok(bytes) => Ok(bytes),

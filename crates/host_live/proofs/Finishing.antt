@@ -2,6 +2,7 @@
 use Rattle.std.proofs.Common.{◌≡◌, ◌∙◌, ◌+◌, ℕ, Bool, true, false, Option, Some, None, Result, Ok, Err, List, [], ◌∷◌, ◌++◌, refl, sym, ap, subst, append-nil, inl, inr}
 use Rattle.std.specs.Prelude.{◌⊎◌, IfOk, MatchBool, ⊤}
 use Rattle.world_calls.specs.declared.record.Record.{Record}
+use Rattle.world.specs.World.{Setup, version_of}
 use Rattle.engine_core.specs.ByNumber.{NumberedState, IsBehind}
 use Rattle.host_live.specs.Answering.{Answer, AreBehind, with_answers}
 use Rattle.host_live.specs.Growth.{GrowsAs, GrowsBy, PrintedState}
@@ -10,7 +11,7 @@ use Rattle.host_live.specs.LinesCome.{Stands}
 use Rattle.host_live.specs.Served.{AreDrivenFirst, AreDrivenLast, DrivesFirst, DrivesLast, EndsOr, Finishes, FinishesInPart, FinishesOr, GoesOnOr, GrowsWith, IsGoneOn, IsGoneOnInPart, IsNow, IsPrintedBehind, NextIs, at_last, in_drives, in_first, in_the_rest, in_turns, to_the_end, to_the_next}
 use Rattle.host_live.specs.declared.reports.Unfollowed.{Unfollowed}
 use Rattle.host_live.specs.declared.request.Succession.{Succession}
-use Rattle.host_live.specs.Turns.{AreDriven, AreOfRuns, DrivesAll, Ends, EndsAsked, Follows, IsAt, IsSomewhere, Point, Stops, Turns, at_end, at_quit, at_reading, no_turn, one_more}
+use Rattle.host_live.specs.Turns.{AreDriven, AreOfRuns, DrivesAll, Ends, EndsAsked, Follows, IsAt, IsSomewhere, Point, Stops, StopsAt, Turns, at_end, at_quit, at_reading, no_turn, one_more}
 use Rattle.host_live.specs.declared.answering.After.{After}
 use Rattle.host_live.specs.declared.answering.After.TheVariants as after
 use Rattle.host_live.specs.declared.lines.Lines.{Lines}
@@ -120,7 +121,7 @@ module _ (manner : Manner) (Refuses : Succession → NumberedState → Unfollowe
       turned = so_far.more;
       turns = so_far.these.1;
       more = step.more;
-      at = step.these.1;
+      at = subst (λ (setup : Setup). StopsAt manner (version_of setup) point.base came so_far.these.0 step.more) by.setup step.these.1;
       all = refl;
     }))
 

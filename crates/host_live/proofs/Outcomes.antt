@@ -2,11 +2,14 @@
 use Rattle.std.proofs.Common.{◌≡◌, ◌∙◌, ℕ, ◌+◌, Bool, true, false, Option, Some, None, Result, Ok, Err, List, [], ◌∷◌, ◌++◌, refl, sym, ap, subst, append_assoc, append-nil, drop, inl, inr, if◌then◌else◌}
 use Rattle.std.specs.Prelude.{◌⊎◌, IfSome, ⊤}
 use Rattle.world_calls.specs.declared.record.Record.{Record}
+use Rattle.world_calls.specs.declared.trace.Version.{Version}
+use Rattle.world.specs.World.{Setup, version_of}
 use Rattle.engine_core.specs.ByNumber.{NumberedState}
 use Rattle.host_live.specs.Answering.{Answer, AreBehind, with_answers}
 use Rattle.host_live.specs.Growth.{GrowsAs, GrowsBy, PrintedState}
 use Rattle.host_live.specs.Inputs.{CameState, all_of}
 use Rattle.host_live.specs.LinesCome.{Stands, TellsLine, Waits}
+use Rattle.host_live.specs.Requests.{request_told}
 use Rattle.host_live.specs.Served.{AnswersDecided, AnswersTurn, Carries, CarriesCut, GrowsWith, IsDecidedTurn, IsLineNow, IsNow, NextIs}
 use Rattle.host_live.specs.Successions.{IsDecided, fault_of_unfollowed}
 use Rattle.host_live.specs.Turns.{ActsOn, Does, IsOfClock, IsReading, Leads, LeadsInPart, OneTurn, ReadThen, StopsAt, Turn, TurnInPart, answer_to, at_reading, fault_of, in_line, is_answered, whole_line, cut_line, refused_line, timer_due, asked_for, asked_to_quit, asked_to_succeed, call_driven, carried, elsewhere, led_to_none, led_to_part, no_drive, no_request, no_step, no_text, not_held, one_call, one_drive, one_step, only_told, part_all, passed_over, run_live}
@@ -47,16 +50,16 @@ both_given (Some answers) first second = ap Some (append_assoc answers first sec
 
 -- ---- a turn
 
-led_in_part : (manner : Manner) (line : List ℕ) (acts : List Record) (became : Served) (now : NumberedState) → Leads manner line acts became now → LeadsInPart manner line acts
+led_in_part : (manner : Manner) (line : List ℕ) (acts : List Record) (became : Served) (now : NumberedState) → Leads manner line acts became now → LeadsInPart manner (version_of now.setup) line acts
 led_in_part manner line acts became now (no_text state none nothing) = led_to_none nothing
 led_in_part manner line acts became now (no_request state text other none nothing) = led_to_none nothing
-led_in_part manner line acts became now (asked_for request same state text other is does keeps) = led_to_part request text is (part_all request acts same state does) (λ still of. (keeps still of).0)
+led_in_part manner line acts became now (asked_for request same state text other is does keeps) = led_to_part request text is (part_all (request_told (version_of state.setup) request) acts same state does) (λ still of. (keeps still of).0)
 
-pub none_in_part : (manner : Manner) (line : List ℕ) → TurnInPart manner line []
-none_in_part manner line = record { reading = None; of_clock = λ still. refl; part = read_only None [] (led_to_none refl) refl }
+pub none_in_part : (manner : Manner) (version : Version) (line : List ℕ) → TurnInPart manner version line []
+none_in_part manner version line = record { reading = None; of_clock = λ still. refl; part = read_only None [] (led_to_none refl) refl }
 
-turn_in_part : (manner : Manner) (line : List ℕ) (records : List Record) (became : Served) (now : NumberedState) → Turn manner line records became now → TurnInPart manner line records
-turn_in_part manner line records became now (passed_over state text skipped none) = subst (TurnInPart manner line) (sym none) (none_in_part manner line)
+turn_in_part : (manner : Manner) (line : List ℕ) (records : List Record) (became : Served) (now : NumberedState) → Turn manner line records became now → TurnInPart manner (version_of now.setup) line records
+turn_in_part manner line records became now (passed_over state text skipped none) = subst (TurnInPart manner (version_of state.setup) line) (sym none) (none_in_part manner (version_of state.setup) line)
 turn_in_part manner line records became now (carried reading same state of_clock it) = record { reading = reading; of_clock = of_clock; part = read_these reading (λ acts leads. led_in_part manner line acts same state leads) records it }
 
 -- where the lines stand behind these
@@ -256,11 +259,11 @@ module _ (E F : Type 0) (manner : Manner) (Refuses : Succession → NumberedStat
   still_told next.End it = told_all base told came new it.0
   still_told next.Failed it = told_all base told came new it.0
 
-  in_that_line : (it : TellsLine base came new told) → TurnInPart manner it.line records → StopsAt manner base came told records
+  in_that_line : (it : TellsLine base came new told) → TurnInPart manner (version_of now.setup) it.line records → StopsAt manner (version_of now.setup) base came told records
   in_that_line it part =
       in_line it.line it.begins it.one_line part (feed_of base told it.line came (stands_in base (told ++ (it.line ++ 10 ∷ [])) came new it.stands (told ++ (it.line ++ 10 ∷ [])) [] (sym (append-nil (told ++ (it.line ++ 10 ∷ []))))))
 
-  stops_in_it : (what : Next) (it : Waits base old told what came new) (fault : E) → Carries manner what (line_now base told came old new what it).0 (err_of CarriedOut fault) now records → StopsAt manner base came told records
+  stops_in_it : (what : Next) (it : Waits base old told what came new) (fault : E) → Carries manner what (line_now base told came old new what it).0 (err_of CarriedOut fault) now records → StopsAt manner (version_of now.setup) base came told records
   stops_in_it next.Line it fault turned = in_that_line it.0 turned
   stops_in_it next.Cut it fault turned = at_reading turned.0 turned.1 turned.2 (still_told next.Cut it)
   stops_in_it next.Nothing it fault turned = absurd turned
@@ -273,7 +276,7 @@ module _ (E F : Type 0) (manner : Manner) (Refuses : Succession → NumberedStat
       → NextIs manner Refuses base told old.number came new Decided (err_of After last) now printed at records []
   stops_in what it fault last turned = (refl, stops_in_it what it fault turned)
 
-  carried_in_it : (what : Next) (it : Waits base old told what came new) (out : CarriedOut) → Carries manner what (line_now base told came old new what it).0 (ok_of E out) now records → StopsAt manner base came told records
+  carried_in_it : (what : Next) (it : Waits base old told what came new) (out : CarriedOut) → Carries manner what (line_now base told came old new what it).0 (ok_of E out) now records → StopsAt manner (version_of now.setup) base came told records
   carried_in_it next.Line it (turn.Line became) turned = in_that_line it.0 (turn_in_part manner it.0.line records became now turned)
   carried_in_it next.Cut it (turn.Line became) turned = at_reading turned.1 turned.2 turned.3 (still_told next.Cut it)
   carried_in_it (next.Due reading) it turn.Timer turned = at_reading (Some reading) turned.0 turned.1 (still_told (next.Due reading) it)
@@ -348,10 +351,11 @@ pub stopped_so : (E F : Type 0) (manner : Manner) (Refuses : Succession → Numb
     → GrowsBy [] done next_at second new to fails → answered ≡ later_given
     → GrowsWith (NextIs manner Refuses base told lines.number came later Decided (err_of After last) new.engine new.printed to) old at failed given new to fails answered
 stopped_so E F manner Refuses base told came lines later Decided what it fault last old mid done new at some next_at to failed first second fails given middle later_given answered waited same carried_out still settled kept =
+    let stops = stops_in E F manner Refuses base told came lines later Decided done.engine new.printed to carried_out.more given answered what it fault last carried_out.these in
     record {
       more = carried_out.more;
       others = [];
-      these = stops_in E F manner Refuses base told came lines later Decided done.engine new.printed to carried_out.more given answered what it fault last carried_out.these;
+      these = (stops.0, subst (λ (setup : Setup). StopsAt manner (version_of setup) base came told carried_out.more) (sym settled.setup) stops.1);
       by = by_then carried_out.more old done new at next_at to failed second fails (both_by old mid done at some next_at failed first second [] carried_out.more waited carried_out.by) settled;
       are_answers = (kept ∙ (still ∙ same)) ∙ none_given given;
     }

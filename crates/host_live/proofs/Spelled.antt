@@ -1,5 +1,5 @@
 -- What lines ask for.
-use Rattle.std.proofs.Common.{◌≡◌, ◌≤◌, ◌<◌, ◌∙◌, ◌==◌, ◌++◌, ℕ, Bool, true, false, arith, cond, Option, Some, None, IfOk, IfSome, Result, Ok, Err, List, ap, bytes_eq, codes, drop, get_or, refl, sym}
+use Rattle.std.proofs.Common.{◌≡◌, ◌≤◌, ◌<◌, ◌∙◌, ◌==◌, ◌++◌, ℕ, Bool, true, false, if◌then◌else◌, arith, cond, Option, Some, None, IfOk, IfSome, Result, Ok, Err, List, ap, bytes_eq, codes, drop, get_or, refl, sym}
 use Rattle.std.specs.Fmt.{option_append}
 use Rattle.trace_lines.specs.Calls.{call_of, values_of, word_of, word_text}
 use Rattle.trace_lines.specs.Lines.{line_text}
@@ -15,7 +15,9 @@ use Rattle.trace_lines.proofs.Tests.{joined, parts_of, same_bytes, same_text}
 use Rattle.ccb.specs.declared.place.Place.TheVariants.{Controller, Device}
 use Rattle.world_calls.specs.declared.call.Call.{Call as TheCall}
 use Rattle.world_calls.specs.declared.call.Call.TheVariants as calls
-use Rattle.host_live.specs.Requests.{call_text, drive_text, own_text, request_text, step_text, succession_text, succession_words, told_text, named_text}
+use Rattle.world_calls.specs.declared.trace.Version.{Version}
+use Rattle.scenario.specs.Commands.{may_say}
+use Rattle.host_live.specs.Requests.{call_text, drive_text, own_text, request_text, said_in, spelled_call, step_text, succession_text, succession_words, told_text, named_text}
 use Rattle.host_live.specs.declared.request.Succession.{Succession}
 use Rattle.host_live.specs.declared.request.Request.{Request}
 use Rattle.host_live.specs.declared.request.Request.TheVariants.{Call, Step, Drive, Drain, Totals, Ccbs, Succeed, Quit, Help}
@@ -42,11 +44,12 @@ begins word fields line e =
     let parts = parts_of (Some word) fields line e in
     (parts.1, parts.3, parts.4 ∙ ap (λ (t : List ℕ). t ++ parts.1) (sym (same_text word parts.0 parts.2)))
 
-call_kind : (call : TheCall) (line : List ℕ) → call_text call ≡ Some line → kind_at line ≡ 0
+call_kind : (call : TheCall) (line : List ℕ) → spelled_call call ≡ Some line → kind_at line ≡ 0
 unfolding kind_at
-call_kind (calls.Submit queue priority retries) line e = ap kind_at (begins (word_text words.Submit) _ line e).2
+call_kind (calls.Submit queue priority retries class) line e = ap kind_at (begins (word_text words.Submit) _ line e).2
 call_kind (calls.Dispatch queue) line e = ap kind_at (begins (word_text words.Dispatch) _ line e).2
 call_kind (calls.Complete outcome) line e = ap kind_at (begins (word_text words.Complete) _ line e).2
+call_kind (calls.Withdraw ccb) line e = ap kind_at (begins (word_text words.Withdraw) _ line e).2
 call_kind (calls.GuestFreeze (Device queue) guest) line e = ap kind_at (begins (word_text words.FreezeQueue) _ line e).2
 call_kind (calls.GuestFreeze (Controller controller) guest) line e = ap kind_at (begins (word_text words.FreezeController) _ line e).2
 call_kind (calls.GuestRelease freeze) line e = ap kind_at (begins (word_text words.ReleaseFreeze) _ line e).2
@@ -64,7 +67,12 @@ words_kind true true line e = ap kind_at (sym (same_text (codes "reload fresh") 
 succession_kind : (how : Succession) (line : List ℕ) → succession_text how ≡ Some line → kind_at line ≡ 6
 succession_kind how line e = words_kind how.is_reloaded how.is_fresh line e
 
-kind_is : (told : Bool) (request : Request) (line : List ℕ) → request_text told request ≡ Some line → kind_at line ≡ kind_of request
+-- as it is spelled in any version
+abbrev any_text : Bool → Request → Option (List ℕ)
+any_text told (Call call) = spelled_call call
+any_text told request = named_text told request
+
+kind_is : (told : Bool) (request : Request) (line : List ℕ) → any_text told request ≡ Some line → kind_at line ≡ kind_of request
 unfolding kind_at kind_of
 kind_is told (Call call) line e = call_kind call line e
 kind_is told (Step run) line e = ap kind_at (begins (codes "step ") _ line e).2
@@ -78,7 +86,7 @@ kind_is false Quit line e = absurd cc
 kind_is true Help line e = ap kind_at (sym (same_text (codes "help") line e))
 kind_is false Help line e = absurd cc
 
-same_kind : (told : Bool) (a b : Request) (line : List ℕ) → request_text told a ≡ Some line → request_text told b ≡ Some line → kind_of a ≡ kind_of b
+same_kind : (told : Bool) (a b : Request) (line : List ℕ) → any_text told a ≡ Some line → any_text told b ≡ Some line → kind_of a ≡ kind_of b
 same_kind told a b line e f = sym (kind_is told a line e) ∙ kind_is told b line f
 
 -- ---- a request that is no call
@@ -327,7 +335,7 @@ plain_is told line read none own = record { said = plain_said told line read own
 
 -- ---- a call
 
-pub no_call : (line : List ℕ) → ReadsLine line None → Reads call_text line None
+pub no_call : (line : List ℕ) → ReadsLine line None → Reads spelled_call line None
 no_call line reads = record { said = tt; back = λ call e. let same = reads.back (word_of call) (values_of call) e in absurd cc }
 
 word_in : Option (Word × Slots Value) → Word
@@ -338,13 +346,13 @@ held_in : Slots Value → Option (Word × Slots Value) → Slots Value
 held_in held None = held
 held_in held (Some line) = line.1
 
-call_said : (line : List ℕ) (word : Word) (held : Slots Value) (made : Option TheCall) → line_text word held ≡ Some line → made ≡ call_of word held → IfSome made (λ call. call_text call ≡ Some line)
+call_said : (line : List ℕ) (word : Word) (held : Slots Value) (made : Option TheCall) → line_text word held ≡ Some line → made ≡ call_of word held → IfSome made (λ call. spelled_call call ≡ Some line)
 call_said line word held None e is = tt
 call_said line word held (Some call) e is =
     let same = calls_are_lines.1 word held line call e (sym is) in
     ap (λ (w : Word). line_text w (values_of call)) same.0 ∙ (ap (line_text word) same.1 ∙ e)
 
-call_back : (line : List ℕ) (word : Word) (held : Slots Value) (made : Option TheCall) → ReadsLine line (Some (word, held)) → made ≡ call_of word held → (call : TheCall) → call_text call ≡ Some line → made ≡ Some call
+call_back : (line : List ℕ) (word : Word) (held : Slots Value) (made : Option TheCall) → ReadsLine line (Some (word, held)) → made ≡ call_of word held → (call : TheCall) → spelled_call call ≡ Some line → made ≡ Some call
 unfolding word_in held_in
 call_back line word held made reads is call e =
     let same = reads.back (word_of call) (values_of call) e in
@@ -352,27 +360,56 @@ call_back line word held made reads is call e =
     let its_values : held ≡ values_of call = ap (held_in held) same in
     is ∙ (ap (λ (w : Word). call_of w held) its_word ∙ (ap (call_of (word_of call)) its_values ∙ calls_are_lines.0 call))
 
-pub call_reads : (line : List ℕ) (word : Word) (held : Slots Value) (made : Option TheCall) → ReadsLine line (Some (word, held)) → made ≡ call_of word held → Reads call_text line made
+pub call_reads : (line : List ℕ) (word : Word) (held : Slots Value) (made : Option TheCall) → ReadsLine line (Some (word, held)) → made ≡ call_of word held → Reads spelled_call line made
 call_reads line word held made reads is = record { said = call_said line word held made reads.said is; back = λ call e. call_back line word held made reads is call e }
 
-pub calls_read : {E : Type 0} (line : List ℕ) (word : Word) (held : Slots Value) (r : Result (Option TheCall) E) → ReadsLine line (Some (word, held)) → IfOk r (λ made. made ≡ call_of word held) → IfOk r (Reads call_text line)
+pub calls_read : {E : Type 0} (line : List ℕ) (word : Word) (held : Slots Value) (r : Result (Option TheCall) E) → ReadsLine line (Some (word, held)) → IfOk r (λ made. made ≡ call_of word held) → IfOk r (Reads spelled_call line)
 calls_read line word held (Ok made) reads is = call_reads line word held made reads is
 calls_read line word held (Err fault) reads is = tt
 
+-- one that a line of the version may say
+is_said : (said : Bool) (told : Option (List ℕ)) (line : List ℕ) → (if said then told else None) ≡ Some line → (said ≡ true) × (told ≡ Some line)
+is_said true told line e = (refl, e)
+is_said false told line e = absurd cc
+
+not_said : (version : Version) (line : List ℕ) (call other : TheCall) → may_say version call ≡ false → Reads spelled_call line (Some call) → call_text version other ≡ Some line → ⊥
+not_said version line call other so reads e =
+    let its = is_said (may_say version other) (spelled_call other) line e in
+    let both : ◌≡◌ {A = Option TheCall} (Some call) (Some other) = reads.back other its.1 in
+    let same : call ≡ other = cc in
+    let bad : false ≡ true = sym so ∙ (ap (may_say version) same ∙ its.0) in
+    cc
+
+said_by : (version : Version) (line : List ℕ) (call : TheCall) (said : Bool) → may_say version call ≡ said → Reads spelled_call line (Some call) → Reads (call_text version) line (if said then Some call else None)
+said_by version line call true so reads = record {
+  said = ap (λ (b : Bool). if b then spelled_call call else None) so ∙ reads.said;
+  back = λ other e. reads.back other (is_said (may_say version other) (spelled_call other) line e).1;
+}
+said_by version line call false so reads = record { said = tt; back = λ other e. absurd (not_said version line call other so reads e) }
+
+pub said_reads : (version : Version) (line : List ℕ) (call : TheCall) → Reads spelled_call line (Some call) → Reads (call_text version) line (said_in version call)
+said_reads version line call reads = said_by version line call (may_say version call) refl reads
+
+pub none_said : (version : Version) (line : List ℕ) → Reads spelled_call line None → Reads (call_text version) line None
+none_said version line reads = record {
+  said = tt;
+  back = λ other e. let same : ◌≡◌ {A = Option TheCall} None (Some other) = reads.back other (is_said (may_say version other) (spelled_call other) line e).1 in absurd cc;
+}
+
 -- ---- what a line asks for
 
-word_said : (told : Bool) (line : List ℕ) (request : Request) → named_text told request ≡ Some line → request_text told request ≡ Some line
-word_said told line (Call call) e = absurd cc
-word_said told line (Step run) e = e
-word_said told line (Drive run) e = e
-word_said told line Drain e = e
-word_said told line Totals e = e
-word_said told line Ccbs e = e
-word_said told line (Succeed how) e = e
-word_said told line Quit e = e
-word_said told line Help e = e
+word_said : (version : Version) (told : Bool) (line : List ℕ) (request : Request) → named_text told request ≡ Some line → request_text version told request ≡ Some line
+word_said version told line (Call call) e = absurd cc
+word_said version told line (Step run) e = e
+word_said version told line (Drive run) e = e
+word_said version told line Drain e = e
+word_said version told line Totals e = e
+word_said version told line Ccbs e = e
+word_said version told line (Succeed how) e = e
+word_said version told line Quit e = e
+word_said version told line Help e = e
 
-word_no_call : (told : Bool) (line : List ℕ) (request : Request) (call : TheCall) → named_text told request ≡ Some line → call_text call ≡ Some line → ⊥
+word_no_call : (told : Bool) (line : List ℕ) (request : Request) (call : TheCall) → named_text told request ≡ Some line → spelled_call call ≡ Some line → ⊥
 unfolding kind_of
 word_no_call told line (Call other) call e f = cc
 word_no_call told line (Step run) call e f = let kind : false ≡ true = ap (λ (n : ℕ). n == 0) (same_kind told (Step run) (Call call) line e f) in cc
@@ -384,47 +421,47 @@ word_no_call told line (Succeed how) call e f = let kind : false ≡ true = ap (
 word_no_call told line Quit call e f = let kind : false ≡ true = ap (λ (n : ℕ). n == 0) (same_kind told Quit (Call call) line e f) in cc
 word_no_call told line Help call e f = let kind : false ≡ true = ap (λ (n : ℕ). n == 0) (same_kind told Help (Call call) line e f) in cc
 
-word_back : (told : Bool) (line : List ℕ) (one : Request) → Reads (named_text told) line (Some one) → (request : Request) → request_text told request ≡ Some line → ◌≡◌ {A = Option Request} (Some one) (Some request)
-word_back told line one reads (Call call) e = absurd (word_no_call told line one call reads.said e)
-word_back told line one reads (Step run) e = reads.back (Step run) e
-word_back told line one reads (Drive run) e = reads.back (Drive run) e
-word_back told line one reads Drain e = reads.back Drain e
-word_back told line one reads Totals e = reads.back Totals e
-word_back told line one reads Ccbs e = reads.back Ccbs e
-word_back told line one reads (Succeed how) e = reads.back (Succeed how) e
-word_back told line one reads Quit e = reads.back Quit e
-word_back told line one reads Help e = reads.back Help e
+word_back : (version : Version) (told : Bool) (line : List ℕ) (one : Request) → Reads (named_text told) line (Some one) → (request : Request) → request_text version told request ≡ Some line → ◌≡◌ {A = Option Request} (Some one) (Some request)
+word_back version told line one reads (Call call) e = absurd (word_no_call told line one call reads.said (is_said (may_say version call) (spelled_call call) line e).1)
+word_back version told line one reads (Step run) e = reads.back (Step run) e
+word_back version told line one reads (Drive run) e = reads.back (Drive run) e
+word_back version told line one reads Drain e = reads.back Drain e
+word_back version told line one reads Totals e = reads.back Totals e
+word_back version told line one reads Ccbs e = reads.back Ccbs e
+word_back version told line one reads (Succeed how) e = reads.back (Succeed how) e
+word_back version told line one reads Quit e = reads.back Quit e
+word_back version told line one reads Help e = reads.back Help e
 
-pub word_is : (told : Bool) (line : List ℕ) (one : Request) → Reads (named_text told) line (Some one) → Reads (request_text told) line (Some one)
-word_is told line one reads = record { said = word_said told line one reads.said; back = λ request e. word_back told line one reads request e }
+pub word_is : (version : Version) (told : Bool) (line : List ℕ) (one : Request) → Reads (named_text told) line (Some one) → Reads (request_text version told) line (Some one)
+word_is version told line one reads = record { said = word_said version told line one reads.said; back = λ request e. word_back version told line one reads request e }
 
-call_is_back : (told : Bool) (line : List ℕ) (call : TheCall) → Reads (named_text told) line None → Reads call_text line (Some call) → (request : Request) → request_text told request ≡ Some line → ◌≡◌ {A = Option Request} (Some (Call call)) (Some request)
-call_is_back told line call word reads (Call other) e = let same = reads.back other e in cc
-call_is_back told line call word reads (Step run) e = let same = word.back (Step run) e in absurd cc
-call_is_back told line call word reads (Drive run) e = let same = word.back (Drive run) e in absurd cc
-call_is_back told line call word reads Drain e = let same = word.back Drain e in absurd cc
-call_is_back told line call word reads Totals e = let same = word.back Totals e in absurd cc
-call_is_back told line call word reads Ccbs e = let same = word.back Ccbs e in absurd cc
-call_is_back told line call word reads (Succeed how) e = let same = word.back (Succeed how) e in absurd cc
-call_is_back told line call word reads Quit e = let same = word.back Quit e in absurd cc
-call_is_back told line call word reads Help e = let same = word.back Help e in absurd cc
+call_is_back : (version : Version) (told : Bool) (line : List ℕ) (call : TheCall) → Reads (named_text told) line None → Reads (call_text version) line (Some call) → (request : Request) → request_text version told request ≡ Some line → ◌≡◌ {A = Option Request} (Some (Call call)) (Some request)
+call_is_back version told line call word reads (Call other) e = let same = reads.back other e in cc
+call_is_back version told line call word reads (Step run) e = let same = word.back (Step run) e in absurd cc
+call_is_back version told line call word reads (Drive run) e = let same = word.back (Drive run) e in absurd cc
+call_is_back version told line call word reads Drain e = let same = word.back Drain e in absurd cc
+call_is_back version told line call word reads Totals e = let same = word.back Totals e in absurd cc
+call_is_back version told line call word reads Ccbs e = let same = word.back Ccbs e in absurd cc
+call_is_back version told line call word reads (Succeed how) e = let same = word.back (Succeed how) e in absurd cc
+call_is_back version told line call word reads Quit e = let same = word.back Quit e in absurd cc
+call_is_back version told line call word reads Help e = let same = word.back Help e in absurd cc
 
-pub call_is : (told : Bool) (line : List ℕ) (call : TheCall) → Reads (named_text told) line None → Reads call_text line (Some call) → Reads (request_text told) line (Some (Call call))
-call_is told line call word reads = record { said = reads.said; back = λ request e. call_is_back told line call word reads request e }
+pub call_is : (version : Version) (told : Bool) (line : List ℕ) (call : TheCall) → Reads (named_text told) line None → Reads (call_text version) line (Some call) → Reads (request_text version told) line (Some (Call call))
+call_is version told line call word reads = record { said = reads.said; back = λ request e. call_is_back version told line call word reads request e }
 
-none_is_back : (told : Bool) (line : List ℕ) → Reads (named_text told) line None → Reads call_text line None → (request : Request) → request_text told request ≡ Some line → ◌≡◌ {A = Option Request} None (Some request)
-none_is_back told line word reads (Call other) e = let same = reads.back other e in absurd cc
-none_is_back told line word reads (Step run) e = word.back (Step run) e
-none_is_back told line word reads (Drive run) e = word.back (Drive run) e
-none_is_back told line word reads Drain e = word.back Drain e
-none_is_back told line word reads Totals e = word.back Totals e
-none_is_back told line word reads Ccbs e = word.back Ccbs e
-none_is_back told line word reads (Succeed how) e = word.back (Succeed how) e
-none_is_back told line word reads Quit e = word.back Quit e
-none_is_back told line word reads Help e = word.back Help e
+none_is_back : (version : Version) (told : Bool) (line : List ℕ) → Reads (named_text told) line None → Reads (call_text version) line None → (request : Request) → request_text version told request ≡ Some line → ◌≡◌ {A = Option Request} None (Some request)
+none_is_back version told line word reads (Call other) e = let same = reads.back other e in absurd cc
+none_is_back version told line word reads (Step run) e = word.back (Step run) e
+none_is_back version told line word reads (Drive run) e = word.back (Drive run) e
+none_is_back version told line word reads Drain e = word.back Drain e
+none_is_back version told line word reads Totals e = word.back Totals e
+none_is_back version told line word reads Ccbs e = word.back Ccbs e
+none_is_back version told line word reads (Succeed how) e = word.back (Succeed how) e
+none_is_back version told line word reads Quit e = word.back Quit e
+none_is_back version told line word reads Help e = word.back Help e
 
-pub none_is : (told : Bool) (line : List ℕ) → Reads (named_text told) line None → Reads call_text line None → Reads (request_text told) line None
-none_is told line word reads = record { said = tt; back = λ request e. none_is_back told line word reads request e }
+pub none_is : (version : Version) (told : Bool) (line : List ℕ) → Reads (named_text told) line None → Reads (call_text version) line None → Reads (request_text version told) line None
+none_is version told line word reads = record { said = tt; back = λ request e. none_is_back version told line word reads request e }
 
 -- ---- a number behind a word
 

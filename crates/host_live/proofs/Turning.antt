@@ -6,12 +6,16 @@ use Rattle.trace_lines.specs.Written.{Reads}
 use Rattle.scenario.specs.Said.{is_skipped}
 use Rattle.world_calls.specs.declared.call.Call.{Call}
 use Rattle.world_calls.specs.declared.call.Call.TheVariants.{Clock}
+use Rattle.world_calls.specs.declared.call.Call.TheVariants as calls
 use Rattle.world_calls.specs.declared.call_answer.CallAnswer.{CallAnswer}
 use Rattle.world_calls.specs.declared.record.Record.{Record}
 use Rattle.world_calls.specs.declared.record.Record.TheVariants.{Called}
 use Rattle.engine_core.specs.ByNumber.{NumberedState, IsAdvanceOf}
 use Rattle.host_live.specs.LinesCome.{IsText}
-use Rattle.host_live.specs.Requests.{request_text}
+use Rattle.std.specs.Option.{option_map}
+use Rattle.world_calls.specs.declared.trace.Version.{Version}
+use Rattle.world.specs.World.{version_of}
+use Rattle.host_live.specs.Requests.{AsksFor, request_text, request_told}
 use Rattle.host_live.specs.Turns.{Acts, ActsHere, ActsOn, AreAdvances, AreOfRuns, Does, DoesInPart, DrivesStarted, DrivesTo, IsDriven, IsOfClock, IsReading, Leads, MakesOne, ReadThen, ReadsDue, Tells, Turned, is_of_steps, is_telling, record_of_answer, run_to_drive, stepped_of, asked_to_quit, elsewhere, no_step, one_drive, only_told, part_drive, one_step, one_call, call_driven, part_none, part_call, no_text, no_request, asked_for, led_to_none, led_to_part, carried}
 use Rattle.host_live.specs.declared.host.Served.{Served}
 use Rattle.host_live.specs.declared.host.Served.TheVariants as served
@@ -173,6 +177,25 @@ nothing_on manner None fault now = refl
 
 -- ---- the turn of a line
 
+steps_told : (version : Version) (request : Request) → is_of_steps (request_told version request) ≡ is_of_steps request
+steps_told version (asks.Call (calls.Submit queue priority retries class)) = refl
+steps_told version (asks.Call (calls.Dispatch queue)) = refl
+steps_told version (asks.Call (calls.Complete outcome)) = refl
+steps_told version (asks.Call (calls.Withdraw ccb)) = refl
+steps_told version (asks.Call (calls.GuestFreeze place guest)) = refl
+steps_told version (asks.Call (calls.GuestRelease freeze)) = refl
+steps_told version (asks.Call (calls.Clock reading)) = refl
+steps_told version (asks.Call (calls.Park run)) = refl
+steps_told version (asks.Call (calls.Resume run)) = refl
+steps_told version (asks.Step run) = refl
+steps_told version (asks.Drive run) = refl
+steps_told version asks.Drain = refl
+steps_told version asks.Totals = refl
+steps_told version asks.Ccbs = refl
+steps_told version (asks.Succeed how) = refl
+steps_told version asks.Quit = refl
+steps_told version asks.Help = refl
+
 module _ {E : Type 0} (manner : Manner) (line : List ℕ) (state : NumberedState) (now : Option ℕ) (of_clock : IsOfClock manner now) (more : List Record) where
   -- it can be none
   pub turned_no_text : (result : Result Served E) → (IsText line → ⊥) → ReadThen now (ActsOn manner None result state) more → Turned manner line result state more
@@ -180,13 +203,22 @@ module _ {E : Type 0} (manner : Manner) (line : List ℕ) (state : NumberedState
       carried now became state of_clock (read_these now (λ acts these. subst (λ (b : Served). Leads manner line acts b state) (sym these.1) (no_text state none these.0)) more it)
   turned_no_text (Err fault) none it = record { reading = now; of_clock = of_clock; part = read_these now (λ acts these. led_to_none these) more it }
 
-  pub turned_text : (result : Result Served E) (asked : Option Request) → IsText line → is_skipped line ≡ false → Reads (request_text manner.is_told) line asked → ReadThen now (ActsOn manner asked result state) more → Turned manner line result state more
-  turned_text (Ok became) (Some request) text other reads it = carried now became state of_clock (read_these now (λ acts these. asked_for request became state text other reads.said these.0 these.1) more it)
-  turned_text (Err fault) (Some request) text other reads it = record { reading = now; of_clock = of_clock; part = read_these now (λ acts these. led_to_part request text reads.said these.0 these.1) more it }
-  turned_text (Ok became) None text other reads it =
-      let none : (request : Request) → request_text manner.is_told request ≢ Some line = λ request is. let bad = reads.back request is in absurd (cc) in
+  turned_read : (result : Result Served E) (read : Option Request) → IsText line → is_skipped line ≡ false → Reads (request_text (version_of state.setup) manner.is_told) line read
+      → ReadThen now (ActsOn manner (option_map (request_told (version_of state.setup)) read) result state) more → Turned manner line result state more
+  turned_read (Ok became) (Some request) text other reads it =
+      carried now became state of_clock (read_these now (λ acts these. asked_for request became state text other reads.said these.0 (λ still of. these.1 still (steps_told (version_of state.setup) request ∙ of))) more it)
+  turned_read (Err fault) (Some request) text other reads it =
+      record { reading = now; of_clock = of_clock; part = read_these now (λ acts these. led_to_part request text reads.said these.0 (λ still of. these.1 still (steps_told (version_of state.setup) request ∙ of))) more it }
+  turned_read (Ok became) None text other reads it =
+      let none : (request : Request) → request_text (version_of state.setup) manner.is_told request ≢ Some line = λ request is. let bad = reads.back request is in absurd (cc) in
       carried now became state of_clock (read_these now (λ acts these. subst (λ (b : Served). Leads manner line acts b state) (sym these.1) (no_request state text other none these.0)) more it)
-  turned_text (Err fault) None text other reads it = record { reading = now; of_clock = of_clock; part = read_these now (λ acts these. led_to_none these) more it }
+  turned_read (Err fault) None text other reads it = record { reading = now; of_clock = of_clock; part = read_these now (λ acts these. led_to_none these) more it }
+
+  pub turned_text : (result : Result Served E) (asked : Option Request) (version : Version) → version ≡ version_of state.setup → IsText line → is_skipped line ≡ false → AsksFor version manner.is_told line asked → ReadThen now (ActsOn manner asked result state) more
+      → Turned manner line result state more
+  turned_text result asked version same text other asks it =
+      let here : AsksFor (version_of state.setup) manner.is_told line asked = subst (λ (v : Version). AsksFor v manner.is_told line asked) same asks in
+      turned_read result here.read text other here.reads (subst (λ (o : Option Request). ReadThen now (ActsOn manner o result state) more) here.is it)
 
   -- memory was refused for it
   pub turned_refused : (result : Result Served E) → IsErr result → IsReading now more → Turned manner line result state more

@@ -156,7 +156,7 @@ abbrev pub NextIs : {E : Type 0} → Manner → (Succession → NumberedState �
 NextIs manner Refuses base told number came lines Decided (Ok after.More) now printed at records answers = (bytes : List ℕ) × OneTurn manner Refuses told number bytes lines.number records answers now × AreBehind (IsNow printed at) answers × Stands base came lines (told ++ bytes)
 NextIs manner Refuses base told number came lines Decided (Ok after.End) now printed at records answers = ((records ≡ []) × (answers ≡ []) × IsAll base came told) ⊎ (Quits manner base came told number records answers now × AreBehind (IsNow printed at) answers)
 NextIs manner Refuses base told number came lines Decided (Ok after.Asked) now printed at records answers = (answers ≡ []) × Asks manner base came lines Decided told number records now
-NextIs manner Refuses base told number came lines Decided (Err fault) now printed at records answers = (answers ≡ []) × StopsAt manner base came told records
+NextIs manner Refuses base told number came lines Decided (Err fault) now printed at records answers = (answers ≡ []) × StopsAt manner (version_of now.setup) base came told records
 
 -- the line that is carried out
 abbrev pub IsLineNow : Next → Lines → List ℕ → Type 0
@@ -172,7 +172,7 @@ abbrev pub CarriesLine : {E : Type 0} → Manner → List ℕ → Result Carried
 CarriesLine manner line (Ok (turn.Line became)) now records = Turn manner line records became now
 CarriesLine manner line (Ok turn.Timer) now records = ⊥
 CarriesLine manner line (Ok turn.End) now records = ⊥
-CarriesLine manner line (Err fault) now records = TurnInPart manner line records
+CarriesLine manner line (Err fault) now records = TurnInPart manner (version_of now.setup) line records
 
 -- one that is cut off led to a reading at most
 abbrev pub CarriesCut : {E : Type 0} → Manner → Result CarriedOut E → List Record → Type 0

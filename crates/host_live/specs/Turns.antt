@@ -8,13 +8,15 @@ use Rattle.world_calls.specs.declared.call_answer.CallAnswer.{CallAnswer}
 use Rattle.world_calls.specs.declared.call_answer.CallAnswer.TheVariants.{Started}
 use Rattle.world_calls.specs.declared.record.Record.{Record}
 use Rattle.world_calls.specs.declared.record.Record.TheVariants.{Called}
+use Rattle.world_calls.specs.declared.trace.Version.{Version}
+use Rattle.world.specs.World.{version_of}
 use Rattle.engine_core.specs.ByNumber.{NumberedState, IsAdvanceOf, IsBehind, guests_of, is_of_parking}
 use Rattle.engine_core.specs.Looking.{HasRunOut, first_out}
 use Rattle.host_live.specs.Answering.{Answer, AreBehind}
 use Rattle.host_live.specs.Growth.{IsExit}
 use Rattle.host_live.specs.Inputs.{CameState, all_of}
 use Rattle.host_live.specs.LinesCome.{EndsALine, IsAll, IsOneLine, IsText, Stands}
-use Rattle.host_live.specs.Requests.{request_text}
+use Rattle.host_live.specs.Requests.{request_text, request_told}
 use Rattle.host_live.specs.Successions.{asked_of, fault_of_unfollowed}
 use Rattle.host_live.specs.declared.host.Served.{Served}
 use Rattle.host_live.specs.declared.host.Served.TheVariants as served
@@ -190,21 +192,22 @@ Tells asked (Err fault) records = records ≡ []
 
 -- ---- what a line leads to
 
--- What a line led to, behind the reading.
+-- What a line led to, behind the reading. It is read as a line of the version that the engine's records have, and its call is asked for as
+-- such a record tells it.
 pub data Leads (manner : Manner) (line : List ℕ) (records : List Record) : Served → NumberedState → Type 0 where
   no_text : (now : NumberedState) → (IsText line → ⊥) → records ≡ [] → Leads manner line records (served.Refused Form) now
-  no_request : (now : NumberedState) → IsText line → is_skipped line ≡ false → ((request : Request) → request_text manner.is_told request ≢ Some line) → records ≡ [] → Leads manner line records (served.Refused Form) now
-  asked_for : (request : Request) (became : Served) (now : NumberedState) → IsText line → is_skipped line ≡ false → request_text manner.is_told request ≡ Some line → Does manner request records became now
+  no_request : (now : NumberedState) → IsText line → is_skipped line ≡ false → ((request : Request) → request_text (version_of now.setup) manner.is_told request ≢ Some line) → records ≡ [] → Leads manner line records (served.Refused Form) now
+  asked_for : (request : Request) (became : Served) (now : NumberedState) → IsText line → is_skipped line ≡ false → request_text (version_of now.setup) manner.is_told request ≡ Some line → Does manner (request_told (version_of now.setup) request) records became now
       → (manner.is_stepped ≡ false → is_of_steps request ≡ true → (records ≡ []) × (became ≡ served.Refused Form)) → Leads manner line records became now
 
 -- or how far it came
-pub data LeadsInPart (manner : Manner) (line : List ℕ) (records : List Record) : Type 0 where
-  led_to_none : records ≡ [] → LeadsInPart manner line records
-  led_to_part : (request : Request) → IsText line → request_text manner.is_told request ≡ Some line → DoesInPart manner request records → (manner.is_stepped ≡ false → is_of_steps request ≡ true → records ≡ []) → LeadsInPart manner line records
+pub data LeadsInPart (manner : Manner) (version : Version) (line : List ℕ) (records : List Record) : Type 0 where
+  led_to_none : records ≡ [] → LeadsInPart manner version line records
+  led_to_part : (request : Request) → IsText line → request_text version manner.is_told request ≡ Some line → DoesInPart manner (request_told version request) records → (manner.is_stepped ≡ false → is_of_steps request ≡ true → records ≡ []) → LeadsInPart manner version line records
 
 abbrev pub LeadsTo : {E : Type 0} → Manner → List ℕ → Result Served E → NumberedState → List Record → Type 0
 LeadsTo manner line (Ok became) now records = Leads manner line records became now
-LeadsTo manner line (Err fault) now records = LeadsInPart manner line records
+LeadsTo manner line (Err fault) now records = LeadsInPart manner (version_of now.setup) line records
 
 -- A line led to these records, with a reading of the clock in front, if there is one. A line that is skipped led to none.
 pub data Turn (manner : Manner) (line : List ℕ) (records : List Record) : Served → NumberedState → Type 0 where
@@ -212,14 +215,14 @@ pub data Turn (manner : Manner) (line : List ℕ) (records : List Record) : Serv
   carried : (reading : Option ℕ) (became : Served) (now : NumberedState) → IsOfClock manner reading → ReadThen reading (λ acts. Leads manner line acts became now) records → Turn manner line records became now
 
 -- or to a part of these
-pub record TurnInPart (manner : Manner) (line : List ℕ) (records : List Record) : Type 0 where
+pub record TurnInPart (manner : Manner) (version : Version) (line : List ℕ) (records : List Record) : Type 0 where
   pub reading : Option ℕ
   pub of_clock : IsOfClock manner reading
-  pub part : ReadThen reading (LeadsInPart manner line) records
+  pub part : ReadThen reading (LeadsInPart manner version line) records
 
 abbrev pub Turned : {E : Type 0} → Manner → List ℕ → Result Served E → NumberedState → List Record → Type 0
 Turned manner line (Ok became) now records = Turn manner line records became now
-Turned manner line (Err fault) now records = TurnInPart manner line records
+Turned manner line (Err fault) now records = TurnInPart manner (version_of now.setup) line records
 
 -- ---- answers
 
@@ -313,9 +316,9 @@ pub record EndsAsked (manner : Manner) (Refuses : Succession → NumberedState �
   pub follows : Follows start records now
 
 -- behind these lines it stopped at a reading at most, or in the turn of the next line
-pub data StopsAt (manner : Manner) (base : List ℕ) (came : Option CameState) (told : List ℕ) (records : List Record) : Type 0 where
-  at_reading : (reading : Option ℕ) → IsOfClock manner reading → IsReading reading records → IfSome came (λ known. (rest : List ℕ) × (all_of known ≡ base ++ (told ++ rest))) → StopsAt manner base came told records
-  in_line : (line : List ℕ) → EndsALine told → IsOneLine line → TurnInPart manner line records → IfSome came (λ known. (rest : List ℕ) × (all_of known ≡ base ++ (told ++ (line ++ 10 ∷ rest)))) → StopsAt manner base came told records
+pub data StopsAt (manner : Manner) (version : Version) (base : List ℕ) (came : Option CameState) (told : List ℕ) (records : List Record) : Type 0 where
+  at_reading : (reading : Option ℕ) → IsOfClock manner reading → IsReading reading records → IfSome came (λ known. (rest : List ℕ) × (all_of known ≡ base ++ (told ++ rest))) → StopsAt manner version base came told records
+  in_line : (line : List ℕ) → EndsALine told → IsOneLine line → TurnInPart manner version line records → IfSome came (λ known. (rest : List ℕ) × (all_of known ≡ base ++ (told ++ (line ++ 10 ∷ rest)))) → StopsAt manner version base came told records
 
 -- It stopped behind some turns.
 pub record Stops (manner : Manner) (Refuses : Succession → NumberedState → Unfollowed → Type 0) (start : NumberedState) (Placed : List Record → ℕ → Type 0) (point : Point) (came : Option CameState) (records : List Record) (answers : List Answer) : Type 0 where
@@ -324,5 +327,5 @@ pub record Stops (manner : Manner) (Refuses : Succession → NumberedState → U
   pub turned : List Record
   pub turns : Turns manner Refuses start Placed point told number turned answers
   pub more : List Record
-  pub at : StopsAt manner point.base came told more
+  pub at : StopsAt manner (version_of start.setup) point.base came told more
   pub all : records ≡ turned ++ more

@@ -16,7 +16,7 @@ use crate::manner::Manner;
 use crate::outlet::Outlet;
 use crate::printed_engine::{Advanced, PrintedEngine};
 use crate::reports::{LineFault, Moment, Reports};
-use crate::request::{Request, Succession, request_of};
+use crate::request::{Request, Succession, asked_by};
 use host_metrics::Metrics;
 use scenario::is_skipped;
 use std::alloc::{AllocError, Global};
@@ -209,7 +209,7 @@ impl<'a> Host<'a> {
         if is_skipped(line) {
             return Ok(Served::Skipped);
         }
-        match request_of(self.alloc, line, manner.is_told) {
+        match asked_by(self.alloc, self.engine.version(), line, manner.is_told) {
             Ok(request) => self.serve_asked(manner, request, number, now, reports, out),
             Err(AllocError) => self.serve_refused(now, out),
         }

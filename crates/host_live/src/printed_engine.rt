@@ -8,6 +8,7 @@ ghost use Rattle.engine_core.specs.ByNumber.{guests_of, sums_behind};
 ghost use Rattle.engine_core.specs.Looking.{HasRunOut, first_out};
 ghost use Rattle.engine_transport.specs.Freezing.{IsNextDue};
 ghost use Rattle.trace.specs.Sinks.{HasFailed};
+ghost use Rattle.world.specs.World.{version_of};
 ghost use Rattle.world_calls.specs.declared.record.Record.{Record as TheRecord};
 ghost use Rattle.host_live.specs.Answering.{Answers};
 ghost use Rattle.host_live.specs.Growth.{GrowsBy, IsExit, IsMadeBy, StandsBehind, record_of_call, resumed_printed};
@@ -135,6 +136,13 @@ impl<'a> PrintedEngine<'a> {
             Ok(None) => Ok(Advanced::NotOut),
             Err(fault) => Err(fault),
         }
+    }
+
+    /// The version that its records have.
+    pub(crate) fn version(&self) -> Version
+        ensures { result ≡ version_of self.now.engine.setup }
+    {
+        Version::of(self.engine.config().helpers())
     }
 
     /// Whether a run of that number is out.

@@ -19,7 +19,7 @@ pub enum LineFault {
     NotHeld,
     /// N3: the line asks for another engine while a run is live.
     RunLive,
-    /// N4: the other engine would lack a queue or a controller that is in use.
+    /// N4: the other engine would lack a queue or a controller that is in use, or its CCBs the class or the advice that one has.
     DoesNotFit,
     /// The manifest that the line asks for is refused. Whoever decided that has reported why.
     Manifest,
@@ -32,7 +32,7 @@ pub enum Unfollowed {
     NoManifest,
     /// The manifest is refused, which is reported.
     Manifest,
-    /// Its configuration lacks a queue or a controller that is in use.
+    /// Its configuration lacks a queue or a controller that is in use, or its CCBs the class or the advice that one has.
     DoesNotFit,
 }
 

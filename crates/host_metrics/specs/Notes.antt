@@ -13,7 +13,7 @@ use Rattle.world.specs.Lookups.{ccb_of, run_of}
 use Rattle.world_calls.specs.declared.call.Call.{Call}
 use Rattle.world_calls.specs.declared.call.Call.TheVariants.{Clock, Complete, Dispatch, Submit}
 use Rattle.world_calls.specs.declared.call_answer.CallAnswer.{CallAnswer}
-use Rattle.world_calls.specs.declared.call_answer.CallAnswer.TheVariants.{Ccb, Done, Refused, Removed, Started}
+use Rattle.world_calls.specs.declared.call_answer.CallAnswer.TheVariants.{Advised, Ccb, Done, Refused, Removed, Started}
 use Rattle.world_calls.specs.declared.record.Record.{Record}
 use Rattle.world_calls.specs.declared.record.Record.TheVariants.{Advance, Called}
 use Rattle.world_calls.specs.declared.record.StoppedAt.{StoppedAt}
@@ -32,7 +32,7 @@ pub record Note : Type 0 where
 
 -- that of a call: the one that it names, or that of the CCB that it names
 abbrev pub queue_called : Transport → Call → Option ℕ
-queue_called transport (Submit queue priority retries) = Some queue.0
+queue_called transport (Submit queue priority retries class) = Some queue.0
 queue_called transport (Dispatch queue) = Some queue.0
 queue_called transport (Complete outcome) = option_map (λ live. live.ccb.queue.0) (ccb_of outcome.ccb.0 transport.live)
 queue_called transport call = None
@@ -54,6 +54,11 @@ abbrev pub is_ccb : CallAnswer → Bool
 is_ccb (Ccb number) = true
 is_ccb answer = false
 
+abbrev pub is_begun : CallAnswer → Bool
+is_begun (Ccb number) = true
+is_begun (Advised number advice) = true
+is_begun answer = false
+
 abbrev pub is_started : CallAnswer → Bool
 is_started (Started run freeze) = true
 is_started answer = false
@@ -64,11 +69,11 @@ is_completed (Started run freeze) = true
 is_completed answer = false
 
 abbrev pub is_submitted : CallAnswer → Call → Bool
-is_submitted answer (Submit queue priority retries) = is_ccb answer
+is_submitted answer (Submit queue priority retries class) = is_ccb answer
 is_submitted answer call = false
 
 abbrev pub is_dispatched : CallAnswer → Call → Bool
-is_dispatched answer (Dispatch queue) = is_ccb answer
+is_dispatched answer (Dispatch queue) = is_begun answer
 is_dispatched answer call = false
 
 abbrev pub is_failed : CallAnswer → Call → Bool
@@ -80,7 +85,7 @@ abbrev pub is_submission : Record → Bool
 is_submission (Called answer call) = is_submitted answer call
 is_submission (Advance run instructions stop r0) = false
 
--- a start that was answered by a CCB
+-- a start that was answered by a CCB, with its advice or without one
 abbrev pub is_start : Record → Bool
 is_start (Called answer call) = is_dispatched answer call
 is_start (Advance run instructions stop r0) = false

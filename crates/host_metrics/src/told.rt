@@ -1,7 +1,7 @@
 // What a record tells that is counted. It relies on `world_calls` for records.
 
 ghost use Rattle.std.specs.Prelude.{◌≡◌, ◌<◌, ◌^◌};
-ghost use Rattle.host_metrics.specs.Notes.{cell_behind, cell_in, cell_of, code_at, code_completed, code_finished, completed_in, elapsed_by, elapsed_in, elapsed_told, if_so, instructions_told, is_ccb, is_completed, is_dispatched, is_failed, is_helper_requeue, is_recovery, is_requeue, is_requeue_at, is_start, is_started, is_submission, is_submitted, refusal_in, refusal_told, row_if};
+ghost use Rattle.host_metrics.specs.Notes.{cell_behind, cell_in, cell_of, code_at, code_completed, code_finished, completed_in, elapsed_by, elapsed_in, elapsed_told, if_so, instructions_told, is_begun, is_ccb, is_completed, is_dispatched, is_failed, is_helper_requeue, is_recovery, is_requeue, is_requeue_at, is_start, is_started, is_submission, is_submitted, refusal_in, refusal_told, row_if};
 
 use helpers::Helper;
 use world_calls::{Call, CallAnswer, Record, StoppedAt};
@@ -37,7 +37,7 @@ fn is_submitted(answer: CallAnswer, call: &Call) -> bool
     }
 }
 
-/// Whether it tells of a start that was answered by a CCB.
+/// Whether it tells of a start that was answered by a CCB, with its advice or without one.
 pub(crate) fn is_start(told: &Record) -> bool
     ensures { result ≡ is_start told.now }
 {
@@ -51,7 +51,7 @@ fn is_dispatched(answer: CallAnswer, call: &Call) -> bool
     ensures { result ≡ is_dispatched answer call.now }
 {
     match call {
-        Call::Dispatch { .. } => is_ccb(answer),
+        Call::Dispatch { .. } => is_begun(answer),
         _ => false,
     }
 }
@@ -79,6 +79,12 @@ fn is_ccb(answer: CallAnswer) -> bool
     ensures { result ≡ is_ccb answer }
 {
     matches!(answer, CallAnswer::Ccb(_))
+}
+
+fn is_begun(answer: CallAnswer) -> bool
+    ensures { result ≡ is_begun answer }
+{
+    matches!(answer, CallAnswer::Ccb(_) | CallAnswer::Advised(_, _))
 }
 
 fn is_started(answer: CallAnswer) -> bool

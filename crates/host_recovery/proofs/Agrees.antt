@@ -67,7 +67,7 @@ trace_way None trace text e =
     way_left trace.version None trace.records.items (Some trace.totals) [] its.0 text (ap Some (sym its.2)) (append_nothing (lines_text trace.version trace.records.items trace.totals) ∙ its.1) refl
 trace_way (Some lines) trace text e =
     let told = lines_text trace.version trace.records.items trace.totals in
-    let there : option_append (head_text trace.version (Some lines)) told ≡ Some text = append_three (Some (continued_header trace.version)) (carried_texts lines) told ∙ e in
+    let there : option_append (head_text trace.version (Some lines)) told ≡ Some text = append_three (Some (continued_header trace.version)) (carried_texts trace.version lines) told ∙ e in
     let parts = parts_of (head_text trace.version (Some lines)) told text there in
     way_left trace.version (Some lines) trace.records.items (Some trace.totals) [] parts.1 text (ap (option_append (head_text trace.version (Some lines))) (sym parts.3) ∙ there) (append_nothing told ∙ parts.3) refl
 

@@ -27,28 +27,28 @@ AtFirst (Some lines) [] (Some totals) = ⊥
 AtFirst (Some lines) [] None = Unit {0}
 
 -- after carried lines, no more of them stand here
-abbrev pub NoMore : Option (List CarriedLine) → List ℕ → Type 0
-NoMore None text = Unit {0}
-NoMore (Some lines) text = HasNoCarried text
+abbrev pub NoMore : Version → Option (List CarriedLine) → List ℕ → Type 0
+NoMore version None text = Unit {0}
+NoMore version (Some lines) text = HasNoCarried version text
 
-no_record_first : (version : Version) (entry : Record) (told : Option (List ℕ)) (text : List ℕ) → option_append (record_text version entry) told ≡ Some text → HasNoCarried text
+no_record_first : (version : Version) (entry : Record) (told : Option (List ℕ)) (text : List ℕ) → option_append (record_text version entry) told ≡ Some text → HasNoCarried version text
 no_record_first version entry told text e line more f =
     let parts = parts_of (record_text version entry) told text e in
     not_a_record version line more text f entry parts.1 (ap (option_append (record_text version entry)) (sym parts.3) ∙ e)
 
 pub no_more : (version : Version) (carried : Option (List CarriedLine)) (records : List Record) (sums : Option Totals) (left text : List ℕ) → option_append (front_text version records sums) (Some left) ≡ Some text
-    → (AtFirst carried records sums → HasNoCarried left) → NoMore carried text
+    → (AtFirst carried records sums → HasNoCarried version left) → NoMore version carried text
 no_more version None records sums left text e first = tt
-no_more version (Some lines) [] None left text e first = subst HasNoCarried (begins version [] None left text e) (first tt)
-no_more version (Some lines) [] (Some totals) left text e first = λ line more f. not_the_last line more text f totals left (begins version [] (Some totals) left text e)
+no_more version (Some lines) [] None left text e first = subst (HasNoCarried version) (begins version [] None left text e) (first tt)
+no_more version (Some lines) [] (Some totals) left text e first = λ line more f. not_the_last version line more text f totals left (begins version [] (Some totals) left text e)
 no_more version (Some lines) (entry ∷ records) sums left text e first = no_record_first version entry (option_append (front_text version records sums) (Some left)) text (begins version (entry ∷ records) sums left text e)
 
 -- the first line, and what stands after it
 pub after_continued : (version : Version) (lines : List CarriedLine) (behind text : List ℕ) → option_append (head_text version (Some lines)) (Some behind) ≡ Some text
-    → (rest : List ℕ) × (option_append (carried_texts lines) (Some behind) ≡ Some rest) × (text ≡ continued_header version ++ rest)
+    → (rest : List ℕ) × (option_append (carried_texts version lines) (Some behind) ≡ Some rest) × (text ≡ continued_header version ++ rest)
 after_continued version lines behind text e =
-    let there : option_append (Some (continued_header version)) (option_append (carried_texts lines) (Some behind)) ≡ Some text = sym (append_three (Some (continued_header version)) (carried_texts lines) (Some behind)) ∙ e in
-    let parts = parts_of (Some (continued_header version)) (option_append (carried_texts lines) (Some behind)) text there in
+    let there : option_append (Some (continued_header version)) (option_append (carried_texts version lines) (Some behind)) ≡ Some text = sym (append_three (Some (continued_header version)) (carried_texts version lines) (Some behind)) ∙ e in
+    let parts = parts_of (Some (continued_header version)) (option_append (carried_texts version lines) (Some behind)) text there in
     (parts.1, parts.3, parts.4 ∙ ap (λ (t : List ℕ). t ++ parts.1) (sym (same_text (continued_header version) parts.0 parts.2)))
 
 -- the text before what is left, and what is left
@@ -63,7 +63,7 @@ with_left head front left read e =
     )
 
 broken_behind : (version : Version) (carried : Option (List CarriedLine)) (records : List Record) (sums : Option Totals) (left behind text : List ℕ) (number : ℕ) → option_append (head_text version carried) (Some behind) ≡ Some text
-    → option_append (front_text version records sums) (Some left) ≡ Some behind → AreOrdered carried → NoMore carried behind → number ≡ carried_count carried + front_lines records sums + 2 → MayNotFollow version sums left → (MayBeLeft sums left → ⊥)
+    → option_append (front_text version records sums) (Some left) ≡ Some behind → AreOrdered carried → NoMore version carried behind → number ≡ carried_count carried + front_lines records sums + 2 → MayNotFollow version sums left → (MayBeLeft sums left → ⊥)
     → IsBrokenIn text number
 broken_behind version None records sums left behind text number head front ordered none place faulty cut = inl (record {
   version = version;
@@ -96,7 +96,7 @@ broken_behind version (Some lines) records sums left behind text number head fro
 
 -- after the lines of records
 pub broken_here : (version : Version) (carried : Option (List CarriedLine)) (records : List Record) (sums : Option Totals) (left read : List ℕ) (number : ℕ) → option_append (head_text version carried) (front_text version records sums) ≡ Some read
-    → AreOrdered carried → number ≡ carried_count carried + front_lines records sums + 2 → (AtFirst carried records sums → HasNoCarried left) → MayNotFollow version sums left → (MayBeLeft sums left → ⊥)
+    → AreOrdered carried → number ≡ carried_count carried + front_lines records sums + 2 → (AtFirst carried records sums → HasNoCarried version left) → MayNotFollow version sums left → (MayBeLeft sums left → ⊥)
     → IsBrokenIn (read ++ left) number
 broken_here version carried records sums left read number is ordered place first faulty cut =
     let its = with_left (head_text version carried) (front_text version records sums) left read is in
@@ -104,7 +104,7 @@ broken_here version carried records sums left read number is ordered place first
 
 -- where a carried line may stand
 pub broken_carried : (version : Version) (lines : List CarriedLine) (left read : List ℕ) (number : ℕ) → head_text version (Some lines) ≡ Some read → IsFront lines → number ≡ length lines + 2
-    → ((line : CarriedLine) (more : List ℕ) → BeginsWith line more left → IsFront (lines ++ line ∷ []) → ⊥) → (AreInOrder lines → HasNoLine version left) → (AreInOrder lines → IsShort left → ⊥)
+    → ((line : CarriedLine) (more : List ℕ) → BeginsWith version line more left → IsFront (lines ++ line ∷ []) → ⊥) → (AreInOrder lines → HasNoLine version left) → (AreInOrder lines → IsShort left → ⊥)
     → IsBrokenIn (read ++ left) number
 broken_carried version lines left read number is front place next after cut =
     let its = after_continued version lines left (read ++ left) (ap (λ (t : Option (List ℕ)). option_append t (Some left)) is) in

@@ -82,7 +82,7 @@ module _ (config : Setup) (from now : Option (List ℕ)) (ahead : List ℕ) (car
   carries_too_much most less = (carries.read ++ left, all, omega (arith, less, carries.whole, length-append carries.read left))
 
   -- what is ahead is no line that may come next, and none that was cut off
-  carries_broken : ((line : CarriedLine) (more : List ℕ) → BeginsWith line more left → IsFront (carries.lines ++ line ∷ []) → ⊥) → (AreInOrder carries.lines → HasNoLine carrying.version left) → (AreInOrder carries.lines → IsShort left → ⊥)
+  carries_broken : ((line : CarriedLine) (more : List ℕ) → BeginsWith carrying.version line more left → IsFront (carries.lines ++ line ∷ []) → ⊥) → (AreInOrder carries.lines → HasNoLine carrying.version left) → (AreInOrder carries.lines → IsShort left → ⊥)
       → Answers config from (broken_at (carrying.count + 2))
   carries_broken next after cut = (
     carries.read ++ left,
@@ -94,7 +94,7 @@ module _ (config : Setup) (from now : Option (List ℕ)) (carrying : CarryingSta
   abbrev Carries : List ℕ → Type 0
   Carries ahead = CarriesAt config from now ahead carrying
 
-  begins_so : (line ahead text : List ℕ) (value : CarriedLine) → carried_text value ≡ Some line → text ≡ line ++ 10 ∷ ahead → BeginsWith value ahead text
+  begins_so : (line ahead text : List ℕ) (value : CarriedLine) → carried_text carrying.version value ≡ Some line → text ≡ line ++ 10 ∷ ahead → BeginsWith carrying.version value ahead text
   begins_so line ahead text value is whole = ap (λ (t : Option (List ℕ)). option_append (with_newline t) (Some ahead)) is ∙ ap Some (append_assoc line (10 ∷ []) ahead ∙ sym whole)
 
   -- a carried line is out of order
@@ -105,18 +105,18 @@ module _ (config : Setup) (from now : Option (List ℕ)) (carrying : CarryingSta
       let begins = begins_so line tail ((line ++ 10 ∷ rest) ++ rest_of now) took.value took.is is in
       carries_broken config from now (line ++ 10 ∷ rest) carrying carries
       (λ other more there front.
-      let same = same_line other took.value more tail ((line ++ 10 ∷ rest) ++ rest_of now) there begins in
+      let same = same_line carrying.version other took.value more tail ((line ++ 10 ∷ rest) ++ rest_of now) there begins in
       took.not_next carries.lines carries.ordered (subst (λ (l : CarriedLine). IsFront (carries.lines ++ l ∷ [])) same.line_is front))
       (λ whole. no_other carrying.version took.value tail ((line ++ 10 ∷ rest) ++ rest_of now) begins)
       (λ whole short. feed_is_not_short line tail (subst IsShort is short))
 
   -- another line comes before the carried lines that must be there
-  pub breaks_too_early : (line rest : List ℕ) (carries : Carries (line ++ 10 ∷ rest)) → IsOneLine line → Reads carried_text line None → (AreInOrder carries.lines → ⊥) → Answers config from (broken_at (carrying.count + 2))
+  pub breaks_too_early : (line rest : List ℕ) (carries : Carries (line ++ 10 ∷ rest)) → IsOneLine line → Reads (carried_text carrying.version) line None → (AreInOrder carries.lines → ⊥) → Answers config from (broken_at (carrying.count + 2))
   breaks_too_early line rest carries one none early =
       let tail = rest ++ rest_of now in
       let is : (line ++ 10 ∷ rest) ++ rest_of now ≡ line ++ 10 ∷ tail = append_assoc line (10 ∷ rest) (rest_of now) in
       carries_broken config from now (line ++ 10 ∷ rest) carrying carries
-      (λ other more there front. none_read ((line ++ 10 ∷ rest) ++ rest_of now) line tail (first_of ((line ++ 10 ∷ rest) ++ rest_of now) line tail one is) none other more there)
+      (λ other more there front. none_read carrying.version ((line ++ 10 ∷ rest) ++ rest_of now) line tail (first_of ((line ++ 10 ∷ rest) ++ rest_of now) line tail one is) none other more there)
       (λ whole. absurd (early whole))
       (λ whole short. early whole)
 
@@ -124,7 +124,7 @@ module _ (config : Setup) (from now : Option (List ℕ)) (carrying : CarryingSta
   carries_long ahead line rest carries whole one long =
       let is : ahead ++ rest_of now ≡ line ++ (rest ++ rest_of now) = ap (λ (t : List ℕ). t ++ rest_of now) whole ∙ append_assoc line rest (rest_of now) in
       carries_broken config from now ahead carrying carries
-      (λ other more there front. (subst HasNoCarried (sym is) (long_is_no_carried line (rest ++ rest_of now) one long)) other more there)
+      (λ other more there front. (subst (HasNoCarried carrying.version) (sym is) (long_is_no_carried carrying.version line (rest ++ rest_of now) one long)) other more there)
       (λ all. subst (HasNoLine carrying.version) (sym is) (long_has_no_line carrying.version line (rest ++ rest_of now) one long))
       (λ all short. long_is_not_short line (rest ++ rest_of now) long (subst IsShort is short))
 
@@ -133,7 +133,7 @@ module _ (config : Setup) (from now : Option (List ℕ)) (carrying : CarryingSta
   carries_torn torn carries at_end one cut =
       let is : torn ++ rest_of now ≡ torn = ap (λ (t : List ℕ). torn ++ t) (none_left now at_end) ∙ append-nil torn in
       carries_broken config from now torn carrying carries
-      (λ other more there front. (subst HasNoCarried (sym is) (no_feed torn (one_line_has_none torn one))) other more there)
+      (λ other more there front. (subst (HasNoCarried carrying.version) (sym is) (no_feed carrying.version torn (one_line_has_none torn one))) other more there)
       (λ all. subst (HasNoLine carrying.version) (sym is) (not_ended carrying.version torn [] torn (begin carrying.version torn) (one_line_has_none torn one)))
       (λ all short. cut all (subst IsShort is short))
 
@@ -143,11 +143,11 @@ tells_carried config from count counted error same tells = subst (λ (e : OrMemo
 
 -- ---- a carried line was taken
 
-one_line_more : (version : Version) (lines : List CarriedLine) (value : CarriedLine) (read line : List ℕ) → head_text version (Some lines) ≡ Some read → carried_text value ≡ Some line → head_text version (Some (lines ++ value ∷ [])) ≡ Some (read ++ (line ++ 10 ∷ []))
+one_line_more : (version : Version) (lines : List CarriedLine) (value : CarriedLine) (read line : List ℕ) → head_text version (Some lines) ≡ Some read → carried_text version value ≡ Some line → head_text version (Some (lines ++ value ∷ [])) ≡ Some (read ++ (line ++ 10 ∷ []))
 one_line_more version lines value read line e is =
-    ap (option_append (Some (continued_header version))) (texts_push lines value)
-    ∙ sym (append_three (Some (continued_header version)) (carried_texts lines) (with_newline (carried_text value)))
-    ∙ ap (λ (t : Option (List ℕ)). option_append t (with_newline (carried_text value))) e
+    ap (option_append (Some (continued_header version))) (texts_push version lines value)
+    ∙ sym (append_three (Some (continued_header version)) (carried_texts version lines) (with_newline (carried_text version value)))
+    ∙ ap (λ (t : Option (List ℕ)). option_append t (with_newline (carried_text version value))) e
     ∙ ap (λ (t : Option (List ℕ)). option_append (Some read) (with_newline t)) is
 
 pub took_line : (config : Setup) (from now : Option (List ℕ)) (line ahead : List ℕ) (old new : CarryingState) → CarriesAt config from now (line ++ 10 ∷ ahead) old → TookLine old line new → CarriesAt config from now ahead new

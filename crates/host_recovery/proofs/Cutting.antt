@@ -6,7 +6,7 @@ use Rattle.std.specs.Io.KnownBytes.{Consumes, IsAtEnd}
 use Rattle.std.proofs.lemmas.Bool.Decides.{nat_tests}
 use Rattle.std.proofs.lemmas.List.Folds.{list_all-append}
 use Rattle.world_calls.specs.declared.trace.Version.{Version}
-use Rattle.world_calls.specs.declared.trace.Version.TheVariants.{One, Two}
+use Rattle.world_calls.specs.declared.trace.Version.TheVariants.{One, Three, Two}
 use Rattle.host_recovery.specs.Carries.{first_text}
 use Rattle.host_recovery.specs.declared.first_line.First.{First}
 use Rattle.host_recovery.specs.declared.first_line.First.TheVariants.{Plain, Continued}
@@ -65,29 +65,37 @@ feed_is_not_short line rest short = no_feed_in (line ++ 10 ∷ rest) line rest (
 unfoldable pub body : First → List ℕ
 body (Plain One) = codes "camr-trace 1"
 body (Plain Two) = codes "camr-trace 2"
+body (Plain Three) = codes "camr-trace 3"
 body (Continued One) = codes "camr-trace 1 continued"
 body (Continued Two) = codes "camr-trace 2 continued"
+body (Continued Three) = codes "camr-trace 3 continued"
 
 first_is : (first : First) → first_text first ≡ body first ++ 10 ∷ []
 unfolding body
 first_is (Plain One) = refl
 first_is (Plain Two) = refl
+first_is (Plain Three) = refl
 first_is (Continued One) = refl
 first_is (Continued Two) = refl
+first_is (Continued Three) = refl
 
 body_is_line : (first : First) → IsOneLine (body first)
 unfolding body
 body_is_line (Plain One) = refl
 body_is_line (Plain Two) = refl
+body_is_line (Plain Three) = refl
 body_is_line (Continued One) = refl
 body_is_line (Continued Two) = refl
+body_is_line (Continued Three) = refl
 
 body_is_short : (first : First) → nat_le (length (body first)) 22 ≡ true
 unfolding body
 body_is_short (Plain One) = refl
 body_is_short (Plain Two) = refl
+body_is_short (Plain Three) = refl
 body_is_short (Continued One) = refl
 body_is_short (Continued Two) = refl
+body_is_short (Continued Three) = refl
 
 at_most_22 : (n : ℕ) → nat_le n 22 ≡ true → n ≤ 22
 at_most_22 n h = grind (arith, nat_tests)
@@ -111,11 +119,13 @@ too_long line rest one long first more = λ e.
 pub same_line : (line : List ℕ) (first : First) → IsOneLine line → line ++ 10 ∷ [] ≡ first_text first → line ≡ body first
 same_line line first one e = ((first_of (line ++ 10 ∷ []) line [] one refl).once (body first) [] (body_is_line first) (e ∙ first_is first)).0
 
-pub no_first_line : (line : List ℕ) → IsOneLine line → (line ≡ body (Plain One) → ⊥) → (line ≡ body (Plain Two) → ⊥) → (line ≡ body (Continued One) → ⊥) → (line ≡ body (Continued Two) → ⊥) → (first : First) → line ++ 10 ∷ [] ≢ first_text first
-no_first_line line one a b c d (Plain One) = λ e. a (same_line line (Plain One) one e)
-no_first_line line one a b c d (Plain Two) = λ e. b (same_line line (Plain Two) one e)
-no_first_line line one a b c d (Continued One) = λ e. c (same_line line (Continued One) one e)
-no_first_line line one a b c d (Continued Two) = λ e. d (same_line line (Continued Two) one e)
+pub no_first_line : (line : List ℕ) → IsOneLine line → (line ≡ body (Plain One) → ⊥) → (line ≡ body (Plain Two) → ⊥) → (line ≡ body (Plain Three) → ⊥) → (line ≡ body (Continued One) → ⊥) → (line ≡ body (Continued Two) → ⊥) → (line ≡ body (Continued Three) → ⊥) → (first : First) → line ++ 10 ∷ [] ≢ first_text first
+no_first_line line one a b c d f g (Plain One) = λ e. a (same_line line (Plain One) one e)
+no_first_line line one a b c d f g (Plain Two) = λ e. b (same_line line (Plain Two) one e)
+no_first_line line one a b c d f g (Plain Three) = λ e. c (same_line line (Plain Three) one e)
+no_first_line line one a b c d f g (Continued One) = λ e. d (same_line line (Continued One) one e)
+no_first_line line one a b c d f g (Continued Two) = λ e. f (same_line line (Continued Two) one e)
+no_first_line line one a b c d f g (Continued Three) = λ e. g (same_line line (Continued Three) one e)
 
 -- ---- more without a line feed than a line has
 

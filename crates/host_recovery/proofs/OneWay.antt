@@ -7,7 +7,7 @@ use Rattle.world_calls.specs.declared.carried_line.CarriedLine.{CarriedLine}
 use Rattle.world_calls.specs.declared.record.Record.{Record}
 use Rattle.world_calls.specs.declared.totals.Totals.{Totals}
 use Rattle.world_calls.specs.declared.trace.Version.{Version}
-use Rattle.world_calls.specs.declared.trace.Version.TheVariants.{One, Two}
+use Rattle.world_calls.specs.declared.trace.Version.TheVariants.{One, Three, Two}
 use Rattle.trace_lines.proofs.Tests.{parts_of, same_text}
 use Rattle.trace.specs.Reading.{HasNoLine, MayNotFollow, front_text}
 use Rattle.trace.specs.ShortLines.{IsShort}
@@ -99,15 +99,20 @@ pub one_continued : (a b : Version) (xs ys : List ℕ) → continued_header a ++
 unfolding digit
 one_continued One One xs ys e = (refl, cancel (continued_header One) xs ys e)
 one_continued Two Two xs ys e = (refl, cancel (continued_header Two) xs ys e)
+one_continued Three Three xs ys e = (refl, cancel (continued_header Three) xs ys e)
 one_continued One Two xs ys e = let clash : true ≡ false = ap (λ (t : List ℕ). digit t == 49) e in absurd cc
+one_continued One Three xs ys e = let clash : true ≡ false = ap (λ (t : List ℕ). digit t == 49) e in absurd cc
 one_continued Two One xs ys e = let clash : false ≡ true = ap (λ (t : List ℕ). digit t == 49) e in absurd cc
+one_continued Two Three xs ys e = let clash : true ≡ false = ap (λ (t : List ℕ). digit t == 50) e in absurd cc
+one_continued Three One xs ys e = let clash : false ≡ true = ap (λ (t : List ℕ). digit t == 49) e in absurd cc
+one_continued Three Two xs ys e = let clash : false ≡ true = ap (λ (t : List ℕ). digit t == 50) e in absurd cc
 
 -- The text is so cut.
 pub record IsWay (version : Version) (carried : Option (List CarriedLine)) (records : List Record) (sums : Option Totals) (rest text : List ℕ) : Type 0 where
   pub behind : List ℕ
   pub head : option_append (head_text version carried) (Some behind) ≡ Some text
   pub front : option_append (front_text version records sums) (Some rest) ≡ Some behind
-  pub none : NoMore carried behind
+  pub none : NoMore version carried behind
   pub ends : Ends version sums rest
 
 record OneHead (version its : Version) (carried others : Option (List CarriedLine)) (behind after : List ℕ) : Type 0 where
@@ -116,7 +121,7 @@ record OneHead (version its : Version) (carried others : Option (List CarriedLin
   behind_is : behind ≡ after
 
 one_head : (version its : Version) (carried others : Option (List CarriedLine)) (behind after text : List ℕ) → option_append (head_text version carried) (Some behind) ≡ Some text → option_append (head_text its others) (Some after) ≡ Some text
-    → NoMore carried behind → NoMore others after → OneHead version its carried others behind after
+    → NoMore version carried behind → NoMore its others after → OneHead version its carried others behind after
 one_head version its None None behind after text e f p q =
     let same_one = one_header version its behind after (same_text (header version ++ behind) text e ∙ sym (same_text (header its ++ after) text f)) in
     record { version_is = same_one.0; carried_is = refl; behind_is = same_one.1 }
@@ -130,7 +135,9 @@ one_head version its (Some lines) (Some others) behind after text e f p q =
     let a = after_continued version lines behind text e in
     let b = after_continued its others after text f in
     let first = one_continued version its a.0 b.0 (sym a.2 ∙ b.2) in
-    let one = all_there lines others behind after a.0 a.1 p (b.1 ∙ ap Some (sym first.1)) q in
+    let same_version : its ≡ version = sym first.0 in
+    let one = all_there version lines others behind after a.0 a.1 p
+    (subst (λ (v : Version). option_append (carried_texts v others) (Some after) ≡ Some b.0) same_version b.1 ∙ ap Some (sym first.1)) (subst (λ (v : Version). HasNoCarried v after) same_version q) in
     record { version_is = first.0; carried_is = ap Some (sym one.lines_are); behind_is = one.rest_is }
 
 -- Both ways are one, but for records and sums whose text is not their own.
@@ -153,11 +160,11 @@ one_way version its carried others records more sums other rest left text a b =
 
 -- ---- ways
 
-first_left : (carried : Option (List CarriedLine)) (records : List Record) (sums : Option Totals) (rest : List ℕ) → MayBeLeft sums rest → AtFirst carried records sums → HasNoCarried rest
-first_left None records sums rest left at = absurd at
-first_left (Some lines) (entry ∷ records) sums rest left at = absurd at
-first_left (Some lines) [] (Some totals) rest left at = absurd at
-first_left (Some lines) [] None rest left at = no_feed rest (one_line_has_none rest (shown_line rest left.shown))
+first_left : (version : Version) (carried : Option (List CarriedLine)) (records : List Record) (sums : Option Totals) (rest : List ℕ) → MayBeLeft sums rest → AtFirst carried records sums → HasNoCarried version rest
+first_left version None records sums rest left at = absurd at
+first_left version (Some lines) (entry ∷ records) sums rest left at = absurd at
+first_left version (Some lines) [] (Some totals) rest left at = absurd at
+first_left version (Some lines) [] None rest left at = no_feed version rest (one_line_has_none rest (shown_line rest left.shown))
 
 -- what may be left is no line
 pub way_left : (version : Version) (carried : Option (List CarriedLine)) (records : List Record) (sums : Option Totals) (rest behind text : List ℕ) → option_append (head_text version carried) (Some behind) ≡ Some text
@@ -166,7 +173,7 @@ way_left version carried records sums rest behind text head front left = record 
   behind = behind;
   head = head;
   front = front;
-  none = no_more version carried records sums rest behind front (first_left carried records sums rest left);
+  none = no_more version carried records sums rest behind front (first_left version carried records sums rest left);
   ends = ends_left version sums rest left;
 }
 
@@ -184,9 +191,9 @@ way_of_plain text number it = record {
   ends = ends_faulty it.version it.is.faulty.sums it.is.faulty.rest it.is.faulty.faulty;
 }
 
-with_head : (version : Version) (lines : List CarriedLine) (behind rest text : List ℕ) → text ≡ continued_header version ++ rest → option_append (carried_texts lines) (Some behind) ≡ Some rest → option_append (head_text version (Some lines)) (Some behind) ≡ Some text
+with_head : (version : Version) (lines : List CarriedLine) (behind rest text : List ℕ) → text ≡ continued_header version ++ rest → option_append (carried_texts version lines) (Some behind) ≡ Some rest → option_append (head_text version (Some lines)) (Some behind) ≡ Some text
 with_head version lines behind rest text whole front =
-    append_three (Some (continued_header version)) (carried_texts lines) (Some behind) ∙ ap (option_append (Some (continued_header version))) front ∙ ap Some (sym whole)
+    append_three (Some (continued_header version)) (carried_texts version lines) (Some behind) ∙ ap (option_append (Some (continued_header version))) front ∙ ap Some (sym whole)
 
 way_of_after : (version : Version) (rest text : List ℕ) (number : ℕ) → text ≡ continued_header version ++ rest → (it : IsBrokenAfter version rest number) → IsWay version (Some it.faulty.lines) it.faulty.is.is.records it.faulty.is.is.sums it.faulty.is.is.rest text
 way_of_after version rest text number whole it = record {
@@ -211,24 +218,24 @@ lines_there version (entry ∷ records) sums rest text e left none cut = no_reco
 
 module _ (version : Version) (lines : List CarriedLine) (records : List Record) (sums : Option Totals) (rest behind text : List ℕ) (front : option_append (front_text version records sums) (Some rest) ≡ Some behind) (left : MayBeLeft sums rest)
     (in_order : AreInOrder lines) (number : ℕ) (it : IsBrokenCarried version text number) where
-  not_in_between : (more : List CarriedLine) → lines ≡ it.faulty.lines ++ more → option_append (carried_texts more) (Some behind) ≡ Some it.faulty.rest → ⊥
+  not_in_between : (more : List CarriedLine) → lines ≡ it.faulty.lines ++ more → option_append (carried_texts version more) (Some behind) ≡ Some it.faulty.rest → ⊥
   not_in_between [] is there =
       let whole : AreInOrder it.faulty.lines = subst AreInOrder (is ∙ append-nil it.faulty.lines) in_order in
-      let rest_is = none_there behind it.faulty.rest there in
+      let rest_is = none_there version behind it.faulty.rest there in
       lines_there version records sums rest behind front left (subst (HasNoLine version) (sym rest_is) (it.faulty.not_after whole)) (λ short. it.not_left whole (subst IsShort rest_is short))
   not_in_between (line ∷ more) is there =
-      let next = first_there line more behind it.faulty.rest there in
+      let next = first_there version line more behind it.faulty.rest there in
       it.faulty.not_next line next.0 next.1 (may_go_on it.faulty.lines more lines line is in_order)
 
 not_carried : (version its : Version) (carried : Option (List CarriedLine)) (records : List Record) (sums : Option Totals) (rest behind after text : List ℕ) (number : ℕ) → option_append (head_text version carried) (Some behind) ≡ Some text
-    → option_append (front_text version records sums) (Some rest) ≡ Some behind → NoMore carried behind → MayBeLeft sums rest → AreOrdered carried → text ≡ continued_header its ++ after → IsBrokenCarried its after number → ⊥
+    → option_append (front_text version records sums) (Some rest) ≡ Some behind → NoMore version carried behind → MayBeLeft sums rest → AreOrdered carried → text ≡ continued_header its ++ after → IsBrokenCarried its after number → ⊥
 not_carried version its None records sums rest behind after text number e front none left ordered whole it =
     apart its version text after behind whole (sym (same_text (header version ++ behind) text e))
 not_carried version its (Some lines) records sums rest behind after text number e front none left ordered whole it =
     let there = after_continued version lines behind text e in
     let first = one_continued version its there.0 after (sym there.2 ∙ whole) in
     let here : IsBrokenCarried version there.0 number = subst (λ (v : Version). IsBrokenCarried v there.0 number) (sym first.0) (subst (λ (t : List ℕ). IsBrokenCarried its t number) (sym first.1) it) in
-    let g = goes_on here.faulty.lines lines here.faulty.rest behind there.0 here.faulty.front there.1 none in
+    let g = goes_on version here.faulty.lines lines here.faulty.rest behind there.0 here.faulty.front there.1 none in
     not_in_between version lines records sums rest behind there.0 front left ordered number here g.more g.is g.left
 
 -- what may be left of one may be left of the other

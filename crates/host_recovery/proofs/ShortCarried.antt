@@ -1,5 +1,5 @@
 -- A carried line is as short as any line of a trace, and has no other bytes; so what is too long, or no text, is none.
-use Rattle.std.proofs.Common.{◌≡◌, ◌<◌, ◌≤◌, ◌+◌, ◌*◌, ◌^◌, ℕ, Bool, true, false, Option, Some, List, [], ◌∷◌, ◌++◌, length, length-append, refl, sym, ap, ◌∙◌, arith, codes, nat_lt, decimal}
+use Rattle.std.proofs.Common.{◌≡◌, ◌<◌, ◌≤◌, ◌+◌, ◌*◌, ◌^◌, ℕ, Bool, true, false, Option, None, Some, List, [], ◌∷◌, ◌++◌, length, length-append, refl, sym, ap, ◌∙◌, arith, codes, nat_lt, decimal, if◌then◌else◌}
 use Rattle.std.specs.List.{list_all}
 use Rattle.std.specs.Fmt.{option_append}
 use Rattle.std.proofs.lemmas.Bool.{ltb-true}
@@ -13,6 +13,8 @@ use Rattle.freeze_ledger.specs.declared.freeze.Holder.{Holder}
 use Rattle.freeze_ledger.specs.declared.freeze.Holder.TheVariants as holders
 use Rattle.world_calls.specs.declared.carried_line.CarriedLine.{CarriedLine}
 use Rattle.world_calls.specs.declared.carried_line.CarriedLine.TheVariants as lines
+use Rattle.world_calls.specs.declared.trace.Version.{Version}
+use Rattle.trace_lines.specs.Versions.{has_classes}
 use Rattle.trace_lines.specs.Texts.{long_number_text, number_text, where_true}
 use Rattle.trace_lines.proofs.Decimals.{decimal_digits}
 use Rattle.trace_lines.proofs.Tests.{both, parts_of, passed, same_text}
@@ -21,7 +23,7 @@ use Rattle.trace.specs.declared.laws.TheConstants.{LONGEST_LINE}
 use Rattle.trace.proofs.Cuts.{IsOneLine}
 use Rattle.trace.proofs.Shown.{AreShown, IsFew, shown_both}
 use Rattle.trace.proofs.SoFar.{cut_line}
-use Rattle.carried_lines.specs.CarriedText.{after_blank, after_blanks, carried_text, fields_of, kind_of, kind_text, state_word}
+use Rattle.carried_lines.specs.CarriedText.{after_blank, after_blanks, carried_text, class_fields, fields_of, has_neither, kind_of, kind_text, state_fields, state_word}
 use Rattle.carried_lines.specs.declared.kind.Kind.{Kind}
 use Rattle.carried_lines.specs.declared.kind.Kind.TheVariants as kinds
 use Rattle.whole_trace.specs.Continued.{HasNoCarried}
@@ -84,31 +86,52 @@ few_state : (is_active : Bool) → IsFew 20 (Some (state_word is_active))
 few_state true = few_text 20 (codes "active") (omega arith) refl
 few_state false = few_text 20 (codes "waiting") (omega arith) refl
 
-few_freeze : (number : ℕ) (place : Place) (holder : Holder) → AllFew (fields_of (lines.Freeze (record { number = number; place = place; holder = holder })))
-few_freeze number place (holders.Run run) = (few_number number, (few_place place, (few_number (number_of place), (λ text e. absurd cc, tt))))
-few_freeze number place (holders.Timer due) = (few_number number, (few_place place, (few_number (number_of place), (few_text 20 (codes "timer") (omega arith) refl, (few_long_number due, tt)))))
-few_freeze number place (holders.Guest guest) = (few_number number, (few_place place, (few_number (number_of place), (few_text 20 (codes "guest") (omega arith) refl, (few_number guest, tt)))))
+few_freeze : (version : Version) (number : ℕ) (place : Place) (holder : Holder) → AllFew (fields_of version (lines.Freeze (record { number = number; place = place; holder = holder })))
+few_freeze version number place (holders.Run run) = (few_number number, (few_place place, (few_number (number_of place), (λ text e. absurd cc, tt))))
+few_freeze version number place (holders.Timer due) = (few_number number, (few_place place, (few_number (number_of place), (few_text 20 (codes "timer") (omega arith) refl, (few_long_number due, tt)))))
+few_freeze version number place (holders.Guest guest) = (few_number number, (few_place place, (few_number (number_of place), (few_text 20 (codes "guest") (omega arith) refl, (few_number guest, tt)))))
 
-few_in : (line : CarriedLine) → AllFew (fields_of line)
-few_in (lines.Numbers ccb freeze run) = (few_number ccb, (few_number freeze, (few_number run, tt)))
-few_in (lines.Clock reading) = (few_long_number reading, tt)
-few_in (lines.Openings queue openings) = (few_number queue, (few_number openings, tt))
-few_in (lines.Word table index word) = (few_number table, (few_number index, (few_long_number word, tt)))
-few_in (lines.Ccb ccb) = (few_number ccb.number.0, (few_number ccb.queue.0, (few_number ccb.priority, (few_number ccb.retries, (few_number ccb.attempts, (few_state ccb.is_active, tt))))))
-few_in (lines.Freeze freeze) = few_freeze freeze.number freeze.place freeze.holder
+-- what a CCB has of these in a version without them
+abbrev plain_fields : Bool → List (Option (List ℕ))
+plain_fields neither = if neither then [] else None ∷ []
 
-count_of_freeze : (number : ℕ) (place : Place) (holder : Holder) → length (fields_of (lines.Freeze (record { number = number; place = place; holder = holder }))) ≤ 6
-count_of_freeze number place (holders.Run run) = omega arith
-count_of_freeze number place (holders.Timer due) = omega arith
-count_of_freeze number place (holders.Guest guest) = omega arith
+-- the class and the advice of a CCB, before its other fields
+few_class : (there : Bool) (class advice : ℕ) (rest : List (Option (List ℕ))) → AllFew rest → AllFew (class_fields there class advice ++ rest)
+few_class true class advice rest all = (few_number class, (few_number advice, all))
+few_class false class advice rest all = by (has_neither class advice)
+  where
+    by : (neither : Bool) → AllFew (plain_fields neither ++ rest)
+    by true = all
+    by false = ((λ text e. absurd cc), all)
 
-few_there : (line : CarriedLine) → length (fields_of line) ≤ 6
-few_there (lines.Numbers ccb freeze run) = omega arith
-few_there (lines.Clock reading) = omega arith
-few_there (lines.Openings queue openings) = omega arith
-few_there (lines.Word table index word) = omega arith
-few_there (lines.Ccb ccb) = omega arith
-few_there (lines.Freeze freeze) = count_of_freeze freeze.number freeze.place freeze.holder
+few_classes : (there : Bool) (class advice : ℕ) → length (class_fields there class advice) ≤ 2
+few_classes true class advice = omega arith
+few_classes false class advice = by (has_neither class advice)
+  where
+    by : (neither : Bool) → length (plain_fields neither) ≤ 2
+    by true = omega arith
+    by false = omega arith
+
+few_in : (version : Version) (line : CarriedLine) → AllFew (fields_of version line)
+few_in version (lines.Numbers ccb freeze run) = (few_number ccb, (few_number freeze, (few_number run, tt)))
+few_in version (lines.Clock reading) = (few_long_number reading, tt)
+few_in version (lines.Openings queue openings) = (few_number queue, (few_number openings, tt))
+few_in version (lines.Word table index word) = (few_number table, (few_number index, (few_long_number word, tt)))
+few_in version (lines.Ccb ccb) = (few_number ccb.number.0, (few_number ccb.queue.0, (few_number ccb.priority, (few_number ccb.retries, (few_number ccb.attempts, few_class (has_classes version) ccb.class ccb.advice (state_fields ccb) (few_state ccb.is_active, tt))))))
+few_in version (lines.Freeze freeze) = few_freeze version freeze.number freeze.place freeze.holder
+
+count_of_freeze : (version : Version) (number : ℕ) (place : Place) (holder : Holder) → length (fields_of version (lines.Freeze (record { number = number; place = place; holder = holder }))) ≤ 6
+count_of_freeze version number place (holders.Run run) = omega arith
+count_of_freeze version number place (holders.Timer due) = omega arith
+count_of_freeze version number place (holders.Guest guest) = omega arith
+
+few_there : (version : Version) (line : CarriedLine) → length (fields_of version line) ≤ 8
+few_there version (lines.Numbers ccb freeze run) = omega arith
+few_there version (lines.Clock reading) = omega arith
+few_there version (lines.Openings queue openings) = omega arith
+few_there version (lines.Word table index word) = omega arith
+few_there version (lines.Ccb ccb) = omega (arith, length-append (class_fields (has_classes version) ccb.class ccb.advice) (state_fields ccb), few_classes (has_classes version) ccb.class ccb.advice)
+few_there version (lines.Freeze freeze) = omega (arith, count_of_freeze version freeze.number freeze.place freeze.holder)
 
 few_kind : (kind : Kind) → IsFew 20 (Some (kind_text kind))
 few_kind kinds.Numbers = few_text 20 (codes "numbers") (omega arith) refl
@@ -120,13 +143,13 @@ few_kind kinds.Freeze = few_text 20 (codes "freeze") (omega arith) refl
 
 -- ---- lines
 
-pub carried_is_short : (line : CarriedLine) (text : List ℕ) → carried_text line ≡ Some text → IsShort text
-carried_is_short line text e =
-    let it = few_append 20 (21 * length (fields_of line)) (20 + 21 * length (fields_of line)) (Some (kind_text (kind_of line))) (after_blanks (fields_of line)) (omega arith) (few_kind (kind_of line)) (few_fields (fields_of line) (few_in line)) text e in
-    record { few = omega (arith, it.0, few_there line); shown = it.1 }
+pub carried_is_short : (version : Version) (line : CarriedLine) (text : List ℕ) → carried_text version line ≡ Some text → IsShort text
+carried_is_short version line text e =
+    let it = few_append 20 (21 * length (fields_of version line)) (20 + 21 * length (fields_of version line)) (Some (kind_text (kind_of line))) (after_blanks (fields_of version line)) (omega arith) (few_kind (kind_of line)) (few_fields (fields_of version line) (few_in version line)) text e in
+    record { few = omega (arith, it.0, few_there version line); shown = it.1 }
 
 -- with more bytes before the first line feed than a line has, a text begins with none
-pub long_is_no_carried : (line rest : List ℕ) → IsOneLine line → LONGEST_LINE < length line → HasNoCarried (line ++ rest)
-long_is_no_carried line rest one long other more e =
-    let c = cut_line (carried_text other) (Some more) (line ++ rest) e in
-    long_line line rest c.0 c.1 one (omega (arith, long, (carried_is_short other c.0 c.2).few)) c.4
+pub long_is_no_carried : (version : Version) (line rest : List ℕ) → IsOneLine line → LONGEST_LINE < length line → HasNoCarried version (line ++ rest)
+long_is_no_carried version line rest one long other more e =
+    let c = cut_line (carried_text version other) (Some more) (line ++ rest) e in
+    long_line line rest c.0 c.1 one (omega (arith, long, (carried_is_short version other c.0 c.2).few)) c.4

@@ -72,7 +72,7 @@ module _ (config : Setup) (from now : Option (List ℕ)) (sums : Option Totals) 
   all = subst (IsAll from) (append_assoc stands.read ahead (rest_of now)) (all_of from now (stands.read ++ ahead) stands.consumed)
 
   -- what is ahead is no line, and none that was cut off
-  pub breaks : (number : ℕ) → number ≡ carried_count stands.carried + front_lines stands.records sums + 2 → (AtFirst stands.carried stands.records sums → HasNoCarried left) → MayNotFollow reading.version sums left → (MayBeLeft sums left → ⊥)
+  pub breaks : (number : ℕ) → number ≡ carried_count stands.carried + front_lines stands.records sums + 2 → (AtFirst stands.carried stands.records sums → HasNoCarried reading.version left) → MayNotFollow reading.version sums left → (MayBeLeft sums left → ⊥)
       → Answers config from (broken_at number)
   breaks number place first faulty cut = (
     stands.read ++ left,
@@ -148,11 +148,11 @@ some_lines lines in_order = omega (arith, ap length in_order.whole)
 
 -- the first line after carried lines is none of them
 first_is_none : (reading : ReadingState) (line text rest : List ℕ) (carried : Option (List CarriedLine)) (records : List Record) → IsNoCarried reading line → Counts reading carried records → AreOrdered carried → text ≡ line ++ 10 ∷ rest → IsOneLine line
-    → AtFirst carried records None → HasNoCarried text
+    → AtFirst carried records None → HasNoCarried reading.version text
 first_is_none reading line text rest None records other counts ordered is one at = absurd at
 first_is_none reading line text rest (Some lines) (entry ∷ records) other counts ordered is one at = absurd at
 first_is_none reading line text rest (Some lines) [] other counts ordered is one at =
-    none_read text line rest (first_of text line rest one is) (other (omega (arith, counts.0, some_lines lines ordered)) counts.1)
+    none_read reading.version text line rest (first_of text line rest one is) (other (omega (arith, counts.0, some_lines lines ordered)) counts.1)
 
 module _ (config : Setup) (from now : Option (List ℕ)) (reading : ReadingState) where
   abbrev Stands : Option Totals → List ℕ → Type 0
@@ -179,7 +179,7 @@ module _ (config : Setup) (from now : Option (List ℕ)) (reading : ReadingState
   breaks_when_long ahead line rest stands whole one long =
       let is : ahead ++ rest_of now ≡ line ++ (rest ++ rest_of now) = ap (λ (t : List ℕ). t ++ rest_of now) whole ∙ append_assoc line rest (rest_of now) in
       breaks config from now None ahead reading stands next_line (next_is ahead stands)
-      (λ at. subst HasNoCarried (sym is) (long_is_no_carried line (rest ++ rest_of now) one long))
+      (λ at. subst (HasNoCarried reading.version) (sym is) (long_is_no_carried reading.version line (rest ++ rest_of now) one long))
       (subst (HasNoLine reading.version) (sym is) (long_has_no_line reading.version line (rest ++ rest_of now) one long))
       (λ short. long_is_not_short line (rest ++ rest_of now) long (subst IsShort is short))
 
@@ -187,11 +187,11 @@ module _ (config : Setup) (from now : Option (List ℕ)) (reading : ReadingState
   breaks_when_torn torn stands at_end one differs =
       let is : torn ++ rest_of now ≡ torn = ap (λ (t : List ℕ). torn ++ t) (none_left now at_end) ∙ append-nil torn in
       breaks config from now None torn reading stands next_line (next_is torn stands)
-      (λ at. subst HasNoCarried (sym is) (no_feed torn (one_line_has_none torn one)))
+      (λ at. subst (HasNoCarried reading.version) (sym is) (no_feed reading.version torn (one_line_has_none torn one)))
       (subst (HasNoLine reading.version) (sym is) (not_ended reading.version torn [] torn (begin reading.version torn) (one_line_has_none torn one)))
       (λ short. let bad : false ≡ true = sym differs ∙ (subst IsShort is short).shown in absurd cc)
 
-  none_first : (carried : Option (List CarriedLine)) (records : List Record) (totals : Totals) (text : List ℕ) → AtFirst carried records (Some totals) → HasNoCarried text
+  none_first : (carried : Option (List CarriedLine)) (records : List Record) (totals : Totals) (text : List ℕ) → AtFirst carried records (Some totals) → HasNoCarried reading.version text
   none_first None records totals text at = absurd at
   none_first (Some lines) [] totals text at = absurd at
   none_first (Some lines) (entry ∷ records) totals text at = absurd at

@@ -32,5 +32,5 @@ no_record version line none = record { said = tt; back = λ entry e. absurd (non
 pub no_end : (line : List ℕ) → (IsUtf8 line → ⊥) → Reads sums_text line None
 no_end line none = record { said = tt; back = λ totals e. absurd (none (text line (lines_are_short.1 totals line e))) }
 
-pub no_carried : (line : List ℕ) → (IsUtf8 line → ⊥) → Reads carried_text line None
-no_carried line none = record { said = tt; back = λ carried e. absurd (none (text line (carried_is_short carried line e))) }
+pub no_carried : (version : Version) (line : List ℕ) → (IsUtf8 line → ⊥) → Reads (carried_text version) line None
+no_carried version line none = record { said = tt; back = λ carried e. absurd (none (text line (carried_is_short version carried line e))) }

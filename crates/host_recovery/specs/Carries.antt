@@ -78,7 +78,7 @@ LinesGoOn old line new = (config : Setup) (lines : List CarriedLine) → old.cou
 -- the line is a carried one, which was counted
 pub record TookLine (old : CarryingState) (line : List ℕ) (new : CarryingState) : Type 0 where
   pub value : CarriedLine
-  pub is : carried_text value ≡ Some line
+  pub is : carried_text old.version value ≡ Some line
   pub ordered : (lines : List CarriedLine) → HasTaken lines old.order → HasTaken (lines ++ value ∷ []) new.order
   pub version : new.version ≡ old.version
   pub count : new.count ≡ old.count + 1
@@ -88,13 +88,13 @@ pub record TookLine (old : CarryingState) (line : List ℕ) (new : CarryingState
 -- it is one that is out of order
 pub record TookOther (old : CarryingState) (line : List ℕ) (new : CarryingState) : Type 0 where
   pub value : CarriedLine
-  pub is : carried_text value ≡ Some line
+  pub is : carried_text old.version value ≡ Some line
   pub not_next : (lines : List CarriedLine) → HasTaken lines old.order → IsFront (lines ++ value ∷ []) → ⊥
   pub same : new ≡ old
 
 -- it is none
 pub record TookNone (old : CarryingState) (line : List ℕ) (new : CarryingState) : Type 0 where
-  pub none : Reads carried_text line None
+  pub none : Reads (carried_text old.version) line None
   pub same : new ≡ old
 
 abbrev pub CarriedSays : CarryingState → List ℕ → TookCarried → CarryingState → Type 0
@@ -129,7 +129,7 @@ BeginsReading carrying reading = (config : Setup) (lines : List CarriedLine) →
 -- a line that is no carried one
 pub record IsOther (carrying : CarryingState) (line : List ℕ) : Type 0 where
   pub one : IsOneLine line
-  pub none : Reads carried_text line None
+  pub none : Reads (carried_text carrying.version) line None
   pub few : carrying.whole < MOST_WHOLE
 
 -- the segment ends after all carried lines, and what is ahead is cut off

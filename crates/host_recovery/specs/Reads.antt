@@ -115,7 +115,7 @@ IsPast reading = 0 < reading.carried → 0 < reading.count
 
 -- the line that comes first after carried lines is none of them
 abbrev pub IsNoCarried : ReadingState → List ℕ → Type 0
-IsNoCarried reading line = 0 < reading.carried → reading.count ≡ 0 → Reads carried_text line None
+IsNoCarried reading line = 0 < reading.carried → reading.count ≡ 0 → Reads (carried_text reading.version) line None
 
 -- All was read, and what is ahead is cut off.
 pub record IsDone (config : Setup) (from : Option (List ℕ)) (ended : Bool) (reading : ReadingState) : Type 0 where

@@ -28,7 +28,7 @@ IsItsOwn {T = T} text_of value = (other : T) → text_of other ≡ text_of value
 -- The text before the first record: the first line; and after it the carried lines, if the engine took over what they say.
 abbrev pub head_text : Version → Option (List CarriedLine) → Option (List ℕ)
 head_text version None = Some (header version)
-head_text version (Some lines) = option_append (Some (continued_header version)) (carried_texts lines)
+head_text version (Some lines) = option_append (Some (continued_header version)) (carried_texts version lines)
 
 -- The text is a segment of this version: its first line, these carried lines, in order, if there are any, the lines of these records and of
 -- no others, the last line if it is there, and what is cut off.

@@ -88,7 +88,7 @@ fn take_line(carrying: &mut Carrying<'_>, lines: &Lines) -> Result<Came, Recover
 // Another line comes only after all carried lines.
 fn after_all(carrying: &Carrying<'_>) -> Result<Came, RecoveryError>
     requires few { carrying.now.whole < MOST_WHOLE }
-    ensures says { (config : Setup) (from now : Option (List ℕ)) (lines : LinesState) → CarriesAt config from now (lines.line ++ 10 ∷ lines.ahead) carrying.now → IsOneLine lines.line → Reads carried_text lines.line None → CameSays config from result carrying.now lines now }
+    ensures says { (config : Setup) (from now : Option (List ℕ)) (lines : LinesState) → CarriesAt config from now (lines.line ++ 10 ∷ lines.ahead) carrying.now → IsOneLine lines.line → Reads (carried_text carrying.now.version) lines.line None → CameSays config from result carrying.now lines now }
     ensures reads { (failed : ℕ) → ReadsBy failed result failed }
     ensures last { result ≢ Ok Carried }
 {

@@ -108,7 +108,7 @@ impl<'a> Carrying<'a> {
         requires short { length line.now ≤ LONGEST_LINE }
         ensures { IfOk result (λ took. CarriedSays self.old line.now took self.new) }
     {
-        match read_carried(line) {
+        match read_carried(self.version, line) {
             Some(carried) => self.take_carried(line, &carried),
             None => Ok(TookCarried::Nothing),
         }
@@ -118,7 +118,7 @@ impl<'a> Carrying<'a> {
     fn take_carried(&mut self, line: &str, carried: &CarriedLine) -> Result<TookCarried, AllocError>
         requires few { self.old.whole < MOST_WHOLE }
         requires short { length line.now ≤ LONGEST_LINE }
-        requires text { carried_text carried.now ≡ Some line.now }
+        requires text { carried_text self.old.version carried.now ≡ Some line.now }
         ensures { IfOk result (λ took. CarriedSays self.old line.now took self.new) }
     {
         if !self.order.take(carried) {

@@ -26,10 +26,14 @@ pub(crate) fn first_of_line(line: &[u8]) -> Option<First>
         Some(First::Plain(Version::One))
     } else if line == b"camr-trace 2".as_slice() {
         Some(First::Plain(Version::Two))
+    } else if line == b"camr-trace 3".as_slice() {
+        Some(First::Plain(Version::Three))
     } else if line == b"camr-trace 1 continued".as_slice() {
         Some(First::Continued(Version::One))
     } else if line == b"camr-trace 2 continued".as_slice() {
         Some(First::Continued(Version::Two))
+    } else if line == b"camr-trace 3 continued".as_slice() {
+        Some(First::Continued(Version::Three))
     } else {
         None
     }

@@ -5,24 +5,26 @@ use Rattle.ccb.specs.Completion.{Outcome}
 use Rattle.world_calls.specs.declared.call.Call.{Call}
 use Rattle.world_calls.specs.declared.call.Call.TheVariants as its
 use Rattle.world_calls.specs.declared.record.Record.{Record}
+use Rattle.world_calls.specs.declared.trace.Version.{Version}
 use Rattle.scenario.specs.Commands.{Step}
 use Rattle.scenario.specs.Steps.{command_seen}
 use Rattle.scenario.specs.declared.command.Command.{Command}
 use Rattle.scenario.specs.declared.command.Command.TheVariants as commands
-use Rattle.host_scenario.specs.Asked.{call_of, is_hosts, with_call}
+use Rattle.host_scenario.specs.Asked.{call_of, call_told, is_hosts, with_call}
 use Rattle.host_scenario.specs.Holding.{Asks, IsMade, IsOfLine, IsOfStep}
 use Rattle.host_scenario.specs.Served.{completion_for}
 use Rattle.host_scenario.specs.Turns.{doing}
 use Rattle.host_scenario.specs.declared.host.RunFault.{RunFault}
 use denote.Ref.{Bor}
 
-of_test : (call : Call) (own : Bool) → is_hosts call ≡ own → call_of (commands.Call call) ≡ (if own then Some call else None)
-of_test call own is = ap (λ (b : Bool). if b then Some call else None) is
+of_test : (version : Version) (call : Call) (own : Bool) → is_hosts call ≡ own → call_of version (commands.Call call) ≡ (if own then Some (call_told version call) else None)
+of_test version call own is = ap (λ (b : Bool). if b then Some (call_told version call) else None) is
 
 none_put : (call : Call) → is_hosts call ≡ true → completion_for (commands.Call call) ≡ []
-none_put (its.Submit queue priority retries) own = refl
+none_put (its.Submit queue priority retries class) own = refl
 none_put (its.Dispatch queue) own = refl
 none_put (its.Complete completion) own = absurd (let bad : false ≡ true = own in cc)
+none_put (its.Withdraw ccb) own = refl
 none_put (its.GuestFreeze place guest) own = refl
 none_put (its.GuestRelease freeze) own = refl
 none_put (its.Clock reading) own = refl
@@ -32,15 +34,15 @@ none_put (its.Resume run) own = refl
 abbrev AsksFor : List Record → List Record → Option Call → Type 0
 AsksFor before after call = MatchOption call (after ≡ before) (λ it. IsMade it before after)
 
-module _ (line : ℕ) (seen : Option (Bor Call)) (before after : List Record) where
-  pub asks_own : (call : Bor Call) → seen ≡ Some call → is_hosts call.now ≡ true → IsMade call.now before after → Asks (record { line = line; command = command_seen seen }) before after
-  asks_own call is own made = subst (AsksFor before after) (sym (ap (λ (it : Option (Bor Call)). call_of (command_seen it)) is ∙ of_test call.now true own)) made
+module _ (version : Version) (line : ℕ) (seen : Option (Bor Call)) (before after : List Record) where
+  pub asks_own : (call : Bor Call) → seen ≡ Some call → is_hosts call.now ≡ true → IsMade (call_told version call.now) before after → Asks version (record { line = line; command = command_seen seen }) before after
+  asks_own call is own made = subst (AsksFor before after) (sym (ap (λ (it : Option (Bor Call)). call_of version (command_seen it)) is ∙ of_test version call.now true own)) made
 
-  pub asks_other : (call : Bor Call) → seen ≡ Some call → is_hosts call.now ≡ false → after ≡ before → Asks (record { line = line; command = command_seen seen }) before after
-  asks_other call is other same = subst (AsksFor before after) (sym (ap (λ (it : Option (Bor Call)). call_of (command_seen it)) is ∙ of_test call.now false other)) same
+  pub asks_other : (call : Bor Call) → seen ≡ Some call → is_hosts call.now ≡ false → after ≡ before → Asks version (record { line = line; command = command_seen seen }) before after
+  asks_other call is other same = subst (AsksFor before after) (sym (ap (λ (it : Option (Bor Call)). call_of version (command_seen it)) is ∙ of_test version call.now false other)) same
 
-  pub asks_none : seen ≡ None → after ≡ before → Asks (record { line = line; command = command_seen seen }) before after
-  asks_none is same = subst (AsksFor before after) (sym (ap (λ (it : Option (Bor Call)). call_of (command_seen it)) is)) same
+  pub asks_none : seen ≡ None → after ≡ before → Asks version (record { line = line; command = command_seen seen }) before after
+  asks_none is same = subst (AsksFor before after) (sym (ap (λ (it : Option (Bor Call)). call_of version (command_seen it)) is)) same
 
   pub refused_line : (call : Bor Call) → seen ≡ Some call → (fault : RunFault) → IsOfLine line call.now before after fault → IsOfStep (record { line = line; command = command_seen seen }) before after fault
   refused_line call is fault of named told =

@@ -4,6 +4,8 @@ use Rattle.std.specs.Prelude.{MatchOption}
 use Rattle.std.proofs.lemmas.List.{take_more}
 use Rattle.std.proofs.lemmas.List.Elements.{All-nil, All-cons, All-head, All-tail}
 use Rattle.world_calls.specs.declared.call.Call.{Call}
+use Rattle.world_calls.specs.declared.call.Call.TheVariants as its
+use Rattle.world_calls.specs.declared.trace.Version.{Version}
 use Rattle.world_calls.specs.declared.call_answer.CallAnswer.{CallAnswer}
 use Rattle.world_calls.specs.declared.record.Record.{Record}
 use Rattle.world_calls.specs.declared.record.Record.TheVariants.{Called, Advance}
@@ -13,7 +15,7 @@ use Rattle.scenario.specs.declared.command.Command.{Command}
 use Rattle.scenario.specs.declared.command.Command.TheVariants as commands
 use Rattle.scenario.specs.Commands.{Step}
 use Rattle.workers.specs.Recorded.{completion_in, completions_of}
-use Rattle.host_scenario.specs.Asked.{AreOf, by_host, call_in, call_of, calls_of, is_by_host, is_hosts, with_call}
+use Rattle.host_scenario.specs.Asked.{AreOf, by_host, call_in, call_of, call_told, calls_of, is_by_host, is_hosts, with_call}
 
 abbrev IsHosts : Record → Type 0
 IsHosts made = is_by_host made ≡ true
@@ -29,16 +31,28 @@ head_is x y xs ys e = cc
 tail_is : {X : Type 0} (x y : X) (xs ys : List X) → x ∷ xs ≡ y ∷ ys → xs ≡ ys
 tail_is x y xs ys e = cc
 
-hosts_by : (it call : Call) (own : Bool) → is_hosts it ≡ own → (if own then Some it else None) ≡ Some call → is_hosts call ≡ true
-hosts_by it call true own is = ap is_hosts (sym (some_is it call is)) ∙ own
-hosts_by it call false own is = absurd cc
+-- as a record tells it, it is a call of the same kind
+still_hosts : (version : Version) (call : Call) → is_hosts (call_told version call) ≡ is_hosts call
+still_hosts version (its.Submit queue priority retries class) = refl
+still_hosts version (its.Dispatch queue) = refl
+still_hosts version (its.Complete completion) = refl
+still_hosts version (its.Withdraw ccb) = refl
+still_hosts version (its.GuestFreeze place guest) = refl
+still_hosts version (its.GuestRelease freeze) = refl
+still_hosts version (its.Clock reading) = refl
+still_hosts version (its.Park run) = refl
+still_hosts version (its.Resume run) = refl
 
-hosts : (command : Command) (call : Call) → call_of command ≡ Some call → is_hosts call ≡ true
-hosts (commands.Call it) call is = hosts_by it call (is_hosts it) refl is
-hosts commands.Drain call is = absurd cc
+hosts_by : (version : Version) (it call : Call) (own : Bool) → is_hosts it ≡ own → (if own then Some (call_told version it) else None) ≡ Some call → is_hosts call ≡ true
+hosts_by version it call true own is = ap is_hosts (sym (some_is (call_told version it) call is)) ∙ (still_hosts version it ∙ own)
+hosts_by version it call false own is = absurd cc
+
+hosts : (version : Version) (command : Command) (call : Call) → call_of version command ≡ Some call → is_hosts call ≡ true
+hosts version (commands.Call it) call is = hosts_by version it call (is_hosts it) refl is
+hosts version commands.Drain call is = absurd cc
 
 of_record : (made : Record) (call : Call) → is_hosts call ≡ true → call_in made ≡ Some call → IsHosts made
-of_record (Called answer its) call host is = subst (λ (it : Call). is_hosts it ≡ true) (sym (some_is its call is)) host
+of_record (Called answer made_call) call host is = subst (λ (it : Call). is_hosts it ≡ true) (sym (some_is made_call call is)) host
 of_record (Advance run instructions stop r0) call host is = absurd cc
 
 by_step : (asks : Option Call) → ((call : Call) → asks ≡ Some call → is_hosts call ≡ true) → (calls : List Call) → ((rest : List Record) → AreOf rest calls → All IsHosts rest)
@@ -50,10 +64,10 @@ by_step (Some call) host calls more (made ∷ rest) are =
     (of_record made call (host call refl) (head_is (call_in made) (Some call) (map call_in rest) (map Some calls) are))
     (more rest (tail_is (call_in made) (Some call) (map call_in rest) (map Some calls) are))
 
-all_hosts : (steps : List Step) (mine : List Record) → AreOf mine (calls_of steps) → All IsHosts mine
-all_hosts [] [] are = All-nil IsHosts
-all_hosts [] (made ∷ rest) are = absurd cc
-all_hosts (step ∷ steps) mine are = by_step (call_of step.command) (hosts step.command) (calls_of steps) (all_hosts steps) mine are
+all_hosts : (version : Version) (steps : List Step) (mine : List Record) → AreOf mine (calls_of version steps) → All IsHosts mine
+all_hosts version [] [] are = All-nil IsHosts
+all_hosts version [] (made ∷ rest) are = absurd cc
+all_hosts version (step ∷ steps) mine are = by_step (call_of version step.command) (hosts version step.command) (calls_of version steps) (all_hosts version steps) mine are
 
 -- ---- among all of a history
 
@@ -88,13 +102,13 @@ no_more caller (p ∷ ps) all =
     one_more (p.caller == caller) (is_by_host p.made) p.made (made_by caller ps) (by_host (records ps)) parts.here (no_more caller ps parts.rest)
 
 -- where there are no more of the kind, the host's are all of it
-pub all_are_own : (steps : List Step) (caller : ℕ) (history : List Pair) (told mine : List Record) → AreOf mine (calls_of steps) → made_by caller history ≡ mine → records history ≡ told → length (by_host told) ≡ length mine → by_host told ≡ mine
-all_are_own steps caller history told mine are own its count =
-    let all : All IsHosts (made_by caller history) = subst (All IsHosts) (sym own) (all_hosts steps mine are) in
+pub all_are_own : (version : Version) (steps : List Step) (caller : ℕ) (history : List Pair) (told mine : List Record) → AreOf mine (calls_of version steps) → made_by caller history ≡ mine → records history ≡ told → length (by_host told) ≡ length mine → by_host told ≡ mine
+all_are_own version steps caller history told mine are own same_told count =
+    let all : All IsHosts (made_by caller history) = subst (All IsHosts) (sym own) (all_hosts version steps mine are) in
     let some = no_more caller history all in
     let many : length (by_host (records history)) ≡ length (made_by caller history) =
-    ap (λ (rs : List Record). length (by_host rs)) its ∙ (count ∙ sym (ap length own)) in
-    ap by_host (sym its) ∙ (some.same many ∙ own)
+    ap (λ (rs : List Record). length (by_host rs)) same_told ∙ (count ∙ sym (ap length own)) in
+    ap by_host (sym same_told) ∙ (some.same many ∙ own)
 
 -- ---- one record more
 

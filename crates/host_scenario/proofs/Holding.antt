@@ -1,6 +1,6 @@
 -- What the host has asked, call by call, and that it has the token of each freeze that its records hold.
-use Rattle.std.proofs.Common.{◌≡◌, ℕ, ◌==◌, Bool, true, false, not, ◌||◌, inl, inr, List, [], ◌∷◌, ◌++◌, All, refl, ap, sym, subst, ◌∙◌, eqb-true, eq-eqb}
-use Rattle.std.specs.Prelude.{◌≢◌, MatchOption, Option, Some, Result, Ok, Err, OnOk}
+use Rattle.std.proofs.Common.{◌≡◌, ℕ, ◌==◌, Bool, true, false, not, ◌||◌, inl, inr, if◌then◌else◌, List, [], ◌∷◌, ◌++◌, All, refl, ap, sym, subst, ◌∙◌, eqb-true, eq-eqb}
+use Rattle.std.specs.Prelude.{◌≢◌, MatchOption, None, Option, Some, Result, Ok, Err, OnOk}
 use Rattle.std.specs.List.Sorted.{IsPermutation}
 use Rattle.std.proofs.lemmas.List.Sorted.{All-permutation, IsPermutation-sym}
 use Rattle.std.proofs.lemmas.Bool.{and_parts}
@@ -13,10 +13,15 @@ use Rattle.world_calls.specs.declared.call_answer.CallAnswer.TheVariants as answ
 use Rattle.ccb.specs.declared.call_refusal.CallRefusal.{CallRefusal}
 use Rattle.world_calls.specs.declared.record.Record.{Record}
 use Rattle.world_calls.specs.declared.record.Record.TheVariants.{Called}
-use Rattle.world.specs.World.{Setup}
-use Rattle.engine_core.specs.Replies.{ReplyMatchesEvent, answer_of, call_of as call_made}
+use Rattle.world_calls.specs.Versions.{version_in}
+use Rattle.trace_lines.specs.Versions.{has_classes}
+use Rattle.helpers.specs.Table.{are_classed}
+use Rattle.helpers.specs.declared.limits.HelperSet.{HelperSet}
+use Rattle.helpers.specs.declared.limits.HelperSet.TheVariants.{Classes, Controllers, Queues}
+use Rattle.world.specs.World.{Setup, class_in, version_of}
+use Rattle.engine_core.specs.Replies.{ReplyMatchesEvent, answer_of, call_of as call_made, recorded_call}
 use Rattle.engine_core.specs.declared.event.Event.{Event}
-use Rattle.engine_core.specs.declared.event.Event.TheVariants.{Submit, Dispatch, Complete, Advance, Clock, GuestFreeze, GuestRelease, Park, Resume}
+use Rattle.engine_core.specs.declared.event.Event.TheVariants.{Submit, Dispatch, Complete, Withdraw, Advance, Clock, GuestFreeze, GuestRelease, Park, Resume}
 use Rattle.engine_core.specs.declared.reply.Success.{Success}
 use Rattle.engine_core.specs.declared.reply.Success.TheVariants as its_given
 use Rattle.engine_core.specs.declared.reply.Reply.{Reply}
@@ -27,7 +32,7 @@ use Rattle.host_handles.specs.declared.unanswered.Unanswered.TheVariants.{NotHel
 use Rattle.monitor.specs.declared.knowledge.Pair.{Pair}
 use Rattle.monitor.specs.Telling.{CallerState, Joins}
 use Rattle.engine_lock.specs.Sharing.{Section, Tells}
-use Rattle.host_scenario.specs.Asked.{held_after, held_behind, is_held, is_hosts}
+use Rattle.host_scenario.specs.Asked.{call_told, held_after, held_behind, is_held, is_hosts}
 use Rattle.host_scenario.specs.Faults.{line_of}
 use Rattle.host_scenario.specs.Holding.{HasToken, HoldsAll, IsMade, IsOfLine, fault_of}
 
@@ -70,9 +75,10 @@ or_cases false y P is first second = second is
 
 -- what is held behind a release was held before, and is another freeze
 was_held : (number : ℕ) (was : Bool) (count : ℕ) (call : Call) → held_behind number was (Called (answers.Left count) call) ≡ true → was ≡ true
-was_held number was count (its.Submit queue priority retries) held = held
+was_held number was count (its.Submit queue priority retries class) held = held
 was_held number was count (its.Dispatch queue) held = held
 was_held number was count (its.Complete completion) held = held
+was_held number was count (its.Withdraw ccb) held = held
 was_held number was count (its.GuestFreeze place guest) held = held
 was_held number was count (its.GuestRelease freeze) held = (and_parts (not (freeze == number)) was held).1
 was_held number was count (its.Clock reading) held = held
@@ -88,7 +94,9 @@ is_other number freeze was count held same =
 -- what is given, and what of it is held
 by_given : (number : ℕ) (was : Bool) (given : Success) (call : Call) (left now : HandlesState) → KeepsGiven given left now → held_behind number was (Called (answer_of given) call) ≡ true → (was ≡ true → HasToken number left.tokens) → HasToken number now.tokens
 by_given number was (its_given.Ccb ccb) call left now kept held has = same_handles number left now kept (has held)
+by_given number was (its_given.Advised start) call left now kept held has = same_handles number left now kept (has held)
 by_given number was its_given.Done call left now kept held has = same_handles number left now kept (has held)
+by_given number was its_given.Withdrawn call left now kept held has = same_handles number left now kept (has held)
 by_given number was (its_given.Started run freeze) call left now kept held has = same_tokens number left.tokens now.tokens kept.1 (has held)
 by_given number was (its_given.Goes run r0) call left now kept held has = same_tokens number left.tokens now.tokens kept.1 (has held)
 by_given number was (its_given.Ended r0) call left now kept held has = same_handles number left now kept (has held)
@@ -120,8 +128,8 @@ abbrev HoldsBut : Event → List Record → List Freeze → Type 0
 HoldsBut event made tokens = (number : ℕ) → is_held number made ≡ true → (IsTaken event number → ⊥) → HasToken number tokens
 
 -- the event's call was recorded
-pub record Leaves (event : Event) (before after : List Record) (tokens : List Freeze) : Type 0 where
-  pub asked : MatchOption (call_made event) ⊥ (λ call. IsMade call before after)
+pub record Leaves (setup : Setup) (event : Event) (before after : List Record) (tokens : List Freeze) : Type 0 where
+  pub asked : MatchOption (call_made setup event) ⊥ (λ call. IsMade call before after)
   pub holds : HoldsAll after tokens
 
 module _ (setup : Setup) (before after : CallerState) (left now : HandlesState) where
@@ -144,14 +152,18 @@ module _ (setup : Setup) (before after : CallerState) (left now : HandlesState) 
       same_handles number left now same (but number (was_held number (is_held number before.mine) count (its.GuestRelease freeze) here) (is_other number freeze (is_held number before.mine) count here))
 
   module _ (history : List Pair) (answer : CallAnswer) where
-    leaves : (event : Event) (reply : Reply) → Tells setup history event reply before after → ReplyMatchesEvent event reply → AsksAlone event → IsAnswer answer reply left now → HoldsBut event before.mine left.tokens → Leaves event before.mine after.mine now.tokens
-    leaves (Submit queue priority retries) (replied.Success given) tells fits alone kept but =
+    leaves : (event : Event) (reply : Reply) → Tells setup history event reply before after → ReplyMatchesEvent event reply → AsksAlone event → IsAnswer answer reply left now → HoldsBut event before.mine left.tokens → Leaves setup event before.mine after.mine now.tokens
+    leaves (Submit queue priority retries class) (replied.Success given) tells fits alone kept but =
         let is = mine history _ tells in record { asked = (answer_of given, is); holds = of_given given _ is kept.1 (λ number held. but number held (λ bad. bad)) }
-    leaves (Submit queue priority retries) (replied.Refused refusal) tells fits alone kept but =
+    leaves (Submit queue priority retries class) (replied.Refused refusal) tells fits alone kept but =
         let is = mine history _ tells in record { asked = (answers.Refused refusal, is); holds = of_refused refusal _ is kept.1 (λ number held. but number held (λ bad. bad)) }
     leaves (Dispatch queue) (replied.Success given) tells fits alone kept but =
         let is = mine history _ tells in record { asked = (answer_of given, is); holds = of_given given _ is kept.1 (λ number held. but number held (λ bad. bad)) }
     leaves (Dispatch queue) (replied.Refused refusal) tells fits alone kept but =
+        let is = mine history _ tells in record { asked = (answers.Refused refusal, is); holds = of_refused refusal _ is kept.1 (λ number held. but number held (λ bad. bad)) }
+    leaves (Withdraw ccb) (replied.Success given) tells fits alone kept but =
+        let is = mine history _ tells in record { asked = (answer_of given, is); holds = of_given given _ is kept.1 (λ number held. but number held (λ bad. bad)) }
+    leaves (Withdraw ccb) (replied.Refused refusal) tells fits alone kept but =
         let is = mine history _ tells in record { asked = (answers.Refused refusal, is); holds = of_refused refusal _ is kept.1 (λ number held. but number held (λ bad. bad)) }
     leaves (Clock reading) (replied.Success given) tells fits alone kept but =
         let is = mine history _ tells in record { asked = (answer_of given, is); holds = of_given given _ is kept.1 (λ number held. but number held (λ bad. bad)) }
@@ -168,6 +180,8 @@ module _ (setup : Setup) (before after : CallerState) (left now : HandlesState) 
     leaves (GuestRelease token) (replied.Success (its_given.Left count)) tells fits alone kept but =
         let is = mine history _ tells in record { asked = (answers.Left count, is); holds = of_left count token.number is kept.1 but }
     leaves (GuestRelease token) (replied.Success (its_given.Ccb ccb)) tells fits alone kept but = absurd fits
+    leaves (GuestRelease token) (replied.Success (its_given.Advised start)) tells fits alone kept but = absurd fits
+    leaves (GuestRelease token) (replied.Success its_given.Withdrawn) tells fits alone kept but = absurd fits
     leaves (GuestRelease token) (replied.Success its_given.Done) tells fits alone kept but = absurd fits
     leaves (GuestRelease token) (replied.Success (its_given.Started run freeze)) tells fits alone kept but = absurd fits
     leaves (GuestRelease token) (replied.Success (its_given.Goes run r0)) tells fits alone kept but = absurd fits
@@ -184,25 +198,61 @@ module _ (setup : Setup) (before after : CallerState) (left now : HandlesState) 
     leaves event (replied.OutOfMemory back) tells fits alone kept but = absurd kept
 
 -- the event of a call that a host makes
-alone : (event : Event) (call : Call) → IsOfCall call event → is_hosts call ≡ true → AsksAlone event
-alone (Submit queue priority retries) call is hosts = tt
-alone (Dispatch queue) call is hosts = tt
-alone (Clock reading) call is hosts = tt
-alone (GuestFreeze place guest) call is hosts = tt
-alone (GuestRelease token) call is hosts = tt
-alone (Resume run) call is hosts = tt
-alone (Complete completion) call is hosts = let same : its.Complete completion.now ≡ call = cc in let bad : false ≡ true = ap is_hosts same ∙ hosts in absurd cc
-alone (Advance run) call is hosts = absurd cc
-alone (Park run) call is hosts = let same : its.Park run.number ≡ call = cc in let bad : false ≡ true = ap is_hosts same ∙ hosts in absurd cc
+
+recorded_hosts : (setup : Setup) (call : Call) → is_hosts (recorded_call setup call) ≡ is_hosts call
+recorded_hosts setup (its.Submit queue priority retries class) = refl
+recorded_hosts setup (its.Dispatch queue) = refl
+recorded_hosts setup (its.Complete completion) = refl
+recorded_hosts setup (its.Withdraw ccb) = refl
+recorded_hosts setup (its.GuestFreeze place guest) = refl
+recorded_hosts setup (its.GuestRelease freeze) = refl
+recorded_hosts setup (its.Clock reading) = refl
+recorded_hosts setup (its.Park run) = refl
+recorded_hosts setup (its.Resume run) = refl
+
+alone_by : (setup : Setup) (event : Event) (call : Call) → call_made setup event ≡ Some call → is_hosts call ≡ true → AsksAlone event
+alone_by setup (Submit queue priority retries class) call is hosts = tt
+alone_by setup (Dispatch queue) call is hosts = tt
+alone_by setup (Withdraw ccb) call is hosts = tt
+alone_by setup (Clock reading) call is hosts = tt
+alone_by setup (GuestFreeze place guest) call is hosts = tt
+alone_by setup (GuestRelease token) call is hosts = tt
+alone_by setup (Resume run) call is hosts = tt
+alone_by setup (Complete completion) call is hosts = let same : its.Complete completion.now ≡ call = cc in let bad : false ≡ true = ap is_hosts same ∙ hosts in absurd cc
+alone_by setup (Advance run) call is hosts = absurd cc
+alone_by setup (Park run) call is hosts = let same : its.Park run.number ≡ call = cc in let bad : false ≡ true = ap is_hosts same ∙ hosts in absurd cc
+
+alone : (setup : Setup) (event : Event) (call : Call) → IsOfCall call event → is_hosts call ≡ true → AsksAlone event
+alone setup event call is hosts = alone_by setup event (recorded_call setup call) (is setup) (recorded_hosts setup call ∙ hosts)
+
+-- ---- what its record says
+
+class_is : (set : HelperSet) (class : Option ℕ) → (if are_classed set then Some (class_in class) else None) ≡ (if has_classes (version_in set) then Some (class_in class) else None)
+class_is Queues class = refl
+class_is Controllers class = refl
+class_is Classes class = refl
+
+-- a setup's record says what one of its version does
+told_so : (setup : Setup) (call : Call) → recorded_call setup call ≡ call_told (version_of setup) call
+told_so setup (its.Submit queue priority retries class) = ap (its.Submit queue priority retries) (class_is setup.limits.helpers class)
+told_so setup (its.Dispatch queue) = refl
+told_so setup (its.Complete completion) = refl
+told_so setup (its.Withdraw ccb) = refl
+told_so setup (its.GuestFreeze place guest) = refl
+told_so setup (its.GuestRelease freeze) = refl
+told_so setup (its.Clock reading) = refl
+told_so setup (its.Park run) = refl
+told_so setup (its.Resume run) = refl
 
 -- what is left when it is taken along
 left_by : (event : Event) (made : List Record) (held left : HandlesState) → TakesAlong event held left → HoldsAll made held.tokens → HoldsBut event made left.tokens
 left_by (GuestRelease token) made held left takes holds number is other = has_others number left.tokens held.tokens token takes.0 (holds number is) other
 left_by (Advance run) made held left takes holds number is other = same_tokens number held.tokens left.tokens (sym takes.1) (holds number is)
 left_by (Park run) made held left takes holds number is other = same_tokens number held.tokens left.tokens (sym takes.1) (holds number is)
-left_by (Submit queue priority retries) made held left takes holds number is other = same_handles number held left takes (holds number is)
+left_by (Submit queue priority retries class) made held left takes holds number is other = same_handles number held left takes (holds number is)
 left_by (Dispatch queue) made held left takes holds number is other = same_handles number held left takes (holds number is)
 left_by (Complete completion) made held left takes holds number is other = same_handles number held left takes (holds number is)
+left_by (Withdraw ccb) made held left takes holds number is other = same_handles number held left takes (holds number is)
 left_by (Clock reading) made held left takes holds number is other = same_handles number held left takes (holds number is)
 left_by (GuestFreeze place guest) made held left takes holds number is other = same_handles number held left takes (holds number is)
 left_by (Resume run) made held left takes holds number is other = same_handles number held left takes (holds number is)
@@ -215,14 +265,16 @@ OfCall call before after = MatchOption call ⊥ (λ its. IsMade its before after
 module _ (setup : Setup) (Replies : Event → Reply → Type 0) (call : Call) (before after : CallerState) (held now : HandlesState) (hosts : is_hosts call ≡ true) (holds : HoldsAll before.mine held.tokens) where
   -- it was answered
   module _ (told : (event : Event) (reply : Reply) → Replies event reply → Section setup event reply before after) (answer : CallAnswer) (asked : IsAsked Replies (IsOfCall call) held now (Ok answer)) where
-    left_so : Leaves asked.event before.mine after.mine now.tokens
+    left_so : Leaves setup asked.event before.mine after.mine now.tokens
     left_so =
         let section = told asked.event asked.replied.0 asked.replied.1 in
         leaves setup before after asked.left now section.history answer asked.event asked.replied.0 section.tells section.answers.fits
-        (alone asked.event call asked.for hosts) asked.replied.2 (left_by asked.event before.mine held asked.left asked.takes holds)
+        (alone setup asked.event call asked.for hosts) asked.replied.2 (left_by asked.event before.mine held asked.left asked.takes holds)
 
-    pub made_so : IsMade call before.mine after.mine
-    made_so = subst (λ (it : Option Call). OfCall it before.mine after.mine) asked.for left_so.asked
+    pub made_so : IsMade (call_told (version_of setup) call) before.mine after.mine
+    made_so =
+        subst (λ (it : Call). IsMade it before.mine after.mine) (told_so setup call)
+        (subst (λ (it : Option Call). OfCall it before.mine after.mine) (asked.for setup) left_so.asked)
 
     pub holds_so : HoldsAll after.mine now.tokens
     holds_so = left_so.holds
@@ -236,8 +288,9 @@ module _ (setup : Setup) (Replies : Event → Reply → Type 0) (call : Call) (b
   unheld (its.GuestRelease freeze) own none = (freeze, refl, by_test freeze (is_held freeze before.mine) refl none)
   unheld (its.Complete completion) own none = absurd (let bad : false ≡ true = own in cc)
   unheld (its.Park run) own none = absurd (let bad : false ≡ true = own in cc)
-  unheld (its.Submit queue priority retries) own none = absurd none
+  unheld (its.Submit queue priority retries class) own none = absurd none
   unheld (its.Dispatch queue) own none = absurd none
+  unheld (its.Withdraw ccb) own none = absurd none
   unheld (its.GuestFreeze place guest) own none = absurd none
   unheld (its.Clock reading) own none = absurd none
   unheld (its.Resume run) own none = absurd none

@@ -9,6 +9,7 @@ use Rattle.world_calls.specs.declared.call.Call.{Call}
 use Rattle.world_calls.specs.declared.call_answer.CallAnswer.{CallAnswer}
 use Rattle.world_calls.specs.declared.record.Record.{Record}
 use Rattle.world_calls.specs.declared.record.Record.TheVariants.{Called}
+use Rattle.world_calls.specs.declared.trace.Version.{Version}
 use Rattle.scenario.specs.Commands.{Step}
 use Rattle.host_scenario.specs.Asked.{AreOf, call_in, call_of, calls_of, is_held, with_call}
 use Rattle.host_scenario.specs.Served.{completes_of, completion_for}
@@ -17,8 +18,8 @@ use Rattle.host_scenario.specs.Holding.{Asks, HoldsAll, IsOfStep}
 use Rattle.host_scenario.specs.declared.host.RunFault.{RunFault}
 
 -- so many steps were carried out
-pub record Done (steps : List Step) (count : ℕ) (made : List Record) (tokens : List Freeze) (put : List Outcome) : Type 0 where
-  pub asked : AreOf made (calls_of (take count steps))
+pub record Done (version : Version) (steps : List Step) (count : ℕ) (made : List Record) (tokens : List Freeze) (put : List Outcome) : Type 0 where
+  pub asked : AreOf made (calls_of version (take count steps))
   pub holds : HoldsAll made tokens
   pub put_is : put ≡ completes_of (take count steps)
 
@@ -26,9 +27,9 @@ with_append : (o : Option Call) (calls more : List Call) → with_call o (calls 
 with_append None calls more = refl
 with_append (Some call) calls more = refl
 
-calls_push : (steps : List Step) (step : Step) → calls_of (steps ++ step ∷ []) ≡ calls_of steps ++ with_call (call_of step.command) []
-calls_push [] step = refl
-calls_push (first ∷ rest) step = ap (with_call (call_of first.command)) (calls_push rest step) ∙ with_append (call_of first.command) (calls_of rest) (with_call (call_of step.command) [])
+calls_push : (version : Version) (steps : List Step) (step : Step) → calls_of version (steps ++ step ∷ []) ≡ calls_of version steps ++ with_call (call_of version step.command) []
+calls_push version [] step = refl
+calls_push version (first ∷ rest) step = ap (with_call (call_of version first.command)) (calls_push version rest step) ∙ with_append (call_of version first.command) (calls_of version rest) (with_call (call_of version step.command) [])
 
 completes_push : (steps : List Step) (step : Step) → completes_of (steps ++ step ∷ []) ≡ completes_of steps ++ completion_for step.command
 completes_push [] step = append-nil (completion_for step.command)
@@ -48,17 +49,17 @@ asks_by (Some call) calls before after are told =
 here_is : (steps : List Step) (index : ℕ) (step : Step) → index < length steps → step ≡ slice_index_or steps index step → take (index + 1) steps ≡ take index steps ++ step ∷ []
 here_is steps index step inside is = take_more steps index step inside ∙ ap (λ (s : Step). take index steps ++ s ∷ []) (sym is)
 
-pub none_done : (steps : List Step) (made : List Record) (tokens : List Freeze) (put : List Outcome) → made ≡ [] → put ≡ [] → Done steps 0 made tokens put
-none_done steps made tokens put none put_none = record {
+pub none_done : (version : Version) (steps : List Step) (made : List Record) (tokens : List Freeze) (put : List Outcome) → made ≡ [] → put ≡ [] → Done version steps 0 made tokens put
+none_done version steps made tokens put none put_none = record {
   asked = ap (map call_in) none;
   holds = λ number held. absurd (let bad : false ≡ true = sym (ap (is_held number) none) ∙ held in cc);
   put_is = put_none;
 }
 
-pub one_more : (steps : List Step) (index : ℕ) (step : Step) (before after : List Record) (tokens now : List Freeze) (put more : List Outcome) → Done steps index before tokens put → index < length steps → step ≡ slice_index_or steps index step → Asks step before after → HoldsAll after now → more ≡ put ++ completion_for step.command → Done steps (index + 1) after now more
-one_more steps index step before after tokens now put more done inside is asks holds more_is = record {
-  asked = subst (λ (some : List Step). AreOf after (calls_of some)) (sym (here_is steps index step inside is))
-      (subst (AreOf after) (sym (calls_push (take index steps) step)) (asks_by (call_of step.command) (calls_of (take index steps)) before after done.asked asks));
+pub one_more : (version : Version) (steps : List Step) (index : ℕ) (step : Step) (before after : List Record) (tokens now : List Freeze) (put more : List Outcome) → Done version steps index before tokens put → index < length steps → step ≡ slice_index_or steps index step → Asks version step before after → HoldsAll after now → more ≡ put ++ completion_for step.command → Done version steps (index + 1) after now more
+one_more version steps index step before after tokens now put more done inside is asks holds more_is = record {
+  asked = subst (λ (some : List Step). AreOf after (calls_of version some)) (sym (here_is steps index step inside is))
+      (subst (AreOf after) (sym (calls_push version (take index steps) step)) (asks_by (call_of version step.command) (calls_of version (take index steps)) before after done.asked asks));
   holds = holds;
   put_is = more_is
       ∙ (ap (λ (xs : List Outcome). xs ++ completion_for step.command) done.put_is
@@ -71,9 +72,9 @@ split_at steps index step inside is =
     ∙ (ap (λ (some : List Step). some ++ drop (index + 1) steps) (here_is steps index step inside is) ∙ append_assoc (take index steps) (step ∷ []) (drop (index + 1) steps))
 
 -- the step at which it stopped
-pub stopped_at : (steps : List Step) (index : ℕ) (step : Step) (before after : List Record) (tokens : List Freeze) (put now : List Outcome) (fault : RunFault) (count : ℕ) → count ≡ index → Done steps index before tokens put → index < length steps → step ≡ slice_index_or steps index step → IsOfStep step before after fault → (line_of fault ≢ None → now ≡ put)
-    → (line : ℕ) → line_of fault ≡ Some line → StopsAt steps count after now line
-stopped_at steps index step before after tokens put now fault count count_is done inside is of stays line named =
+pub stopped_at : (version : Version) (steps : List Step) (index : ℕ) (step : Step) (before after : List Record) (tokens : List Freeze) (put now : List Outcome) (fault : RunFault) (count : ℕ) → count ≡ index → Done version steps index before tokens put → index < length steps → step ≡ slice_index_or steps index step → IsOfStep step before after fault → (line_of fault ≢ None → now ≡ put)
+    → (line : ℕ) → line_of fault ≡ Some line → StopsAt version steps count after now line
+stopped_at version steps index step before after tokens put now fault count count_is done inside is of stays line named =
     let it = of line named in record {
       unheld = record {
         before = take index steps;
@@ -83,7 +84,7 @@ stopped_at steps index step before after tokens put now fault count count_is don
         freeze = it.freeze;
         release = it.release;
         line_is = it.line_is;
-        asked = subst (λ (made : List Record). AreOf made (calls_of (take index steps))) (sym it.same) done.asked;
+        asked = subst (λ (made : List Record). AreOf made (calls_of version (take index steps))) (sym it.same) done.asked;
         unheld = ap (is_held it.freeze) it.same ∙ it.unheld;
       };
       before_is = ap (λ (n : ℕ). take n steps) (sym count_is);
@@ -91,9 +92,9 @@ stopped_at steps index step before after tokens put now fault count count_is don
     }
 
 -- all steps were carried out
-pub all_done : (steps : List Step) (count : ℕ) (made : List Record) (tokens : List Freeze) (put : List Outcome) → Done steps count made tokens put → count ≡ length steps → AreOf made (calls_of steps) × (put ≡ completes_of steps)
-all_done steps count made tokens put done all =
-    let whole : take count steps ≡ steps = take_all count steps (omega (arith, all)) in (subst (λ (some : List Step). AreOf made (calls_of some)) whole done.asked, done.put_is ∙ ap completes_of whole)
+pub all_done : (version : Version) (steps : List Step) (count : ℕ) (made : List Record) (tokens : List Freeze) (put : List Outcome) → Done version steps count made tokens put → count ≡ length steps → AreOf made (calls_of version steps) × (put ≡ completes_of steps)
+all_done version steps count made tokens put done all =
+    let whole : take count steps ≡ steps = take_all count steps (omega (arith, all)) in (subst (λ (some : List Step). AreOf made (calls_of version some)) whole done.asked, done.put_is ∙ ap completes_of whole)
 
 -- a fault that names a line left what was made as it was
 some_line : (o : Option ℕ) → o ≢ None → (line : ℕ) × (o ≡ Some line)

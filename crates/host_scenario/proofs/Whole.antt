@@ -55,8 +55,8 @@ whole_trace setup begun calls engine version records totals since spoken all sum
 }
 
 -- the host's records are all of their kind, if there are as many
-made_all : (steps : List Step) (caller : CallerState) (told : List Record) → HasMade caller told → AreOf caller.mine (calls_of steps) → length (by_host told) ≡ length caller.mine → by_host told ≡ caller.mine
-made_all steps caller told made are count = all_are_own steps caller.number made.history told caller.mine are made.own made.its count
+made_all : (version : Version) (steps : List Step) (caller : CallerState) (told : List Record) → HasMade caller told → AreOf caller.mine (calls_of version steps) → length (by_host told) ≡ length caller.mine → by_host told ≡ caller.mine
+made_all version steps caller told made are count = all_are_own version steps caller.number made.history told caller.mine are made.own made.its count
 
 -- what was put was recorded, or is left
 served_so : (workers : ℕ) (put left asked some : List Outcome) (told : List Record) → HasTaken workers put left told → length (completions_of told) + length left ≡ length put → put ≡ asked → left ≡ some → AreServed asked some told
@@ -64,10 +64,10 @@ served_so workers put left asked some told taken many put_is left_is =
     subst (λ (xs : List Outcome). AreServed xs some told) put_is
     (subst (λ (xs : List Outcome). AreServed put xs told) left_is (record { workers = workers; taken = taken; no_more = many }))
 
-pub of_scenario : (steps : List Step) (caller : CallerState) (told : List Record) (workers : ℕ) (put left : List Outcome) → HasMade caller told → AreOf caller.mine (calls_of steps) → length (by_host told) ≡ length caller.mine
-    → HasTaken workers put left told → length (completions_of told) + length left ≡ length put → put ≡ completes_of steps → left ≡ [] → AreInTurn steps told → IsOfScenario steps told
-of_scenario steps caller told workers put left made are count taken many put_is none turns = record {
-  asked = subst (λ (rs : List Record). AreOf rs (calls_of steps)) (sym (made_all steps caller told made are count)) are;
+pub of_scenario : (version : Version) (steps : List Step) (caller : CallerState) (told : List Record) (workers : ℕ) (put left : List Outcome) → HasMade caller told → AreOf caller.mine (calls_of version steps) → length (by_host told) ≡ length caller.mine
+    → HasTaken workers put left told → length (completions_of told) + length left ≡ length put → put ≡ completes_of steps → left ≡ [] → AreInTurn steps told → IsOfScenario version steps told
+of_scenario version steps caller told workers put left made are count taken many put_is none turns = record {
+  asked = subst (λ (rs : List Record). AreOf rs (calls_of version steps)) (sym (made_all version steps caller told made are count)) are;
   served = served_so workers put left (completes_of steps) [] told taken many put_is none;
   turns = turns;
 }
@@ -78,12 +78,12 @@ in_order steps told workers put left taken many put_is none one =
     ∙ (ap (λ (xs : List Outcome). completions_of told ++ xs) (sym none) ∙ (in_their_order workers put left told taken many one ∙ put_is))
 
 -- a fault by the records that the host made is one in the history that the run leaves
-pub of_run : (setup : Setup) (steps : List Step) (caller : CallerState) (version : Version) (told : List Record) (totals : Totals) (fault : RunFault) (workers count : ℕ) (put left : List Outcome) → IsTraceOf setup version told totals → HasMade caller told → IsOfSteps steps count caller.mine put fault
+pub of_run : (setup : Setup) (steps : List Step) (caller : CallerState) (version : Version) (told : List Record) (totals : Totals) (fault : RunFault) (workers count : ℕ) (put left : List Outcome) → IsTraceOf setup version told totals → HasMade caller told → IsOfSteps (version_of setup) steps count caller.mine put fault
     → ((line_of fault ≢ None) → (length (by_host told) ≡ length caller.mine) × HasTaken workers put left told × (length (completions_of told) + length left ≡ length put) × AreInTurnSoFar (take count steps) told) → IsOfRun setup steps fault
 of_run setup steps caller version told totals fault workers count put left trace made of all line named =
     let it = of line named in
     let so = all (λ none. let bad : Some line ≡ None = sym named ∙ none in absurd cc) in
-    let same = made_all it.unheld.before caller told made it.unheld.asked so.0 in record {
+    let same = made_all (version_of setup) it.unheld.before caller told made it.unheld.asked so.0 in record {
       history = told;
       legal = (trace.world, trace.run);
       unheld = record {
@@ -94,7 +94,7 @@ of_run setup steps caller version told totals fault workers count put left trace
         freeze = it.unheld.freeze;
         release = it.unheld.release;
         line_is = it.unheld.line_is;
-        asked = subst (λ (rs : List Record). AreOf rs (calls_of it.unheld.before)) (sym same) it.unheld.asked;
+        asked = subst (λ (rs : List Record). AreOf rs (calls_of (version_of setup) it.unheld.before)) (sym same) it.unheld.asked;
         unheld = ap (is_held it.unheld.freeze) same ∙ it.unheld.unheld;
       };
       left = left;

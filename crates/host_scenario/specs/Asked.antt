@@ -6,6 +6,9 @@ use Rattle.world_calls.specs.declared.call.Call.TheVariants as its
 use Rattle.world_calls.specs.declared.call_answer.CallAnswer.TheVariants.{Freeze, Left}
 use Rattle.world_calls.specs.declared.record.Record.{Record}
 use Rattle.world_calls.specs.declared.record.Record.TheVariants.{Called, Advance}
+use Rattle.world_calls.specs.declared.trace.Version.{Version}
+use Rattle.trace_lines.specs.Versions.{has_classes}
+use Rattle.world.specs.World.{class_in}
 use Rattle.scenario.specs.Commands.{Step}
 use Rattle.scenario.specs.declared.command.Command.{Command}
 use Rattle.scenario.specs.declared.command.Command.TheVariants as commands
@@ -16,19 +19,28 @@ is_hosts (its.Complete completion) = false
 is_hosts (its.Park run) = false
 is_hosts call = true
 
+-- The class that a record of a submission says: where CCBs have one it is that of the line, which is 0 if the line says none.
+abbrev pub class_told : Version → Option ℕ → Option ℕ
+class_told version class = if has_classes version then Some (class_in class) else None
+
+-- a line's call, as a record of the version tells it
+abbrev pub call_told : Version → Call → Call
+call_told version (its.Submit queue priority retries class) = its.Submit queue priority retries (class_told version class)
+call_told version call = call
+
 -- the call that the host asks for
-abbrev pub call_of : Command → Option Call
-call_of (commands.Call call) = if is_hosts call then Some call else None
-call_of commands.Drain = None
+abbrev pub call_of : Version → Command → Option Call
+call_of version (commands.Call call) = if is_hosts call then Some (call_told version call) else None
+call_of version commands.Drain = None
 
 abbrev pub with_call : Option Call → List Call → List Call
 with_call None calls = calls
 with_call (Some call) calls = call ∷ calls
 
 -- the calls of these steps, in their order
-abbrev pub calls_of : List Step → List Call
-calls_of [] = []
-calls_of (step ∷ steps) = with_call (call_of step.command) (calls_of steps)
+abbrev pub calls_of : Version → List Step → List Call
+calls_of version [] = []
+calls_of version (step ∷ steps) = with_call (call_of version step.command) (calls_of version steps)
 
 -- the call that a record tells; an advance is none
 abbrev pub call_in : Record → Option Call

@@ -2,7 +2,8 @@
 use Rattle.std.specs.Prelude.{◌≡◌, ℕ, false, List, ◌∷◌, ◌++◌, take, Option, Some, None}
 use Rattle.world_calls.specs.declared.record.Record.{Record}
 use Rattle.ccb.specs.Completion.{Outcome}
-use Rattle.world.specs.World.{Setup}
+use Rattle.world_calls.specs.declared.trace.Version.{Version}
+use Rattle.world.specs.World.{Setup, version_of}
 use Rattle.monitor.specs.LegalHistory.{AreLegal}
 use Rattle.world_calls.specs.declared.call.Call.TheVariants.{GuestRelease}
 use Rattle.scenario.specs.Commands.{Step}
@@ -20,7 +21,7 @@ line_of (NotHeld line) = Some line
 line_of InternalError = None
 
 -- on this line stands a release of a freeze that is not held behind these records, which are those of the steps before it
-pub record IsUnheldAt (steps : List Step) (made : List Record) (line : ℕ) : Type 0 where
+pub record IsUnheldAt (version : Version) (steps : List Step) (made : List Record) (line : ℕ) : Type 0 where
   pub before : List Step
   pub step : Step
   pub after : List Step
@@ -28,18 +29,18 @@ pub record IsUnheldAt (steps : List Step) (made : List Record) (line : ℕ) : Ty
   pub freeze : ℕ
   pub release : step.command ≡ Call (GuestRelease freeze)
   pub line_is : step.line ≡ line
-  pub asked : AreOf made (calls_of before)
+  pub asked : AreOf made (calls_of version before)
   pub unheld : is_held freeze made ≡ false
 
 -- a line that it names is such a one after so many steps, by the records that the host made, and these are the completions that it put
 -- before
-pub record StopsAt (steps : List Step) (count : ℕ) (made : List Record) (put : List Outcome) (line : ℕ) : Type 0 where
-  pub unheld : IsUnheldAt steps made line
+pub record StopsAt (version : Version) (steps : List Step) (count : ℕ) (made : List Record) (put : List Outcome) (line : ℕ) : Type 0 where
+  pub unheld : IsUnheldAt version steps made line
   pub before_is : unheld.before ≡ take count steps
   pub put_is : put ≡ completes_of unheld.before
 
-abbrev pub IsOfSteps : List Step → ℕ → List Record → List Outcome → RunFault → Type 0
-IsOfSteps steps count made put fault = (line : ℕ) → line_of fault ≡ Some line → StopsAt steps count made put line
+abbrev pub IsOfSteps : Version → List Step → ℕ → List Record → List Outcome → RunFault → Type 0
+IsOfSteps version steps count made put fault = (line : ℕ) → line_of fault ≡ Some line → StopsAt version steps count made put line
 
 -- The same in a legal history, which has beside those that the host made only what workers make: of the completions of the lines
 -- before, each that is not left is recorded once, after the host put it and before its first call after the drain that served it. No run is
@@ -47,7 +48,7 @@ IsOfSteps steps count made put fault = (line : ℕ) → line_of fault ≡ Some l
 pub record IsUnheldThen (setup : Setup) (steps : List Step) (line : ℕ) : Type 0 where
   pub history : List Record
   pub legal : AreLegal setup history
-  pub unheld : IsUnheldAt steps (by_host history) line
+  pub unheld : IsUnheldAt (version_of setup) steps (by_host history) line
   pub left : List Outcome
   pub served : AreServed (completes_of unheld.before) left history
   pub turns : AreInTurnSoFar unheld.before history

@@ -6,6 +6,7 @@ use Rattle.world_calls.specs.declared.call.Call.TheVariants.{GuestRelease}
 use Rattle.world_calls.specs.declared.call_answer.CallAnswer.{CallAnswer}
 use Rattle.world_calls.specs.declared.record.Record.{Record}
 use Rattle.world_calls.specs.declared.record.Record.TheVariants.{Called}
+use Rattle.world_calls.specs.declared.trace.Version.{Version}
 use Rattle.host_handles.specs.declared.unanswered.Unanswered.{Unanswered}
 use Rattle.host_handles.specs.declared.unanswered.Unanswered.TheVariants as unanswered
 use Rattle.scenario.specs.Commands.{Step}
@@ -28,8 +29,8 @@ abbrev pub IsMade : Call → List Record → List Record → Type 0
 IsMade call before after = (answer : CallAnswer) × (after ≡ before ++ Called answer call ∷ [])
 
 -- the call of a step was, where it has one
-abbrev pub Asks : Step → List Record → List Record → Type 0
-Asks step before after = MatchOption (call_of step.command) (after ≡ before) (λ call. IsMade call before after)
+abbrev pub Asks : Version → Step → List Record → List Record → Type 0
+Asks version step before after = MatchOption (call_of version step.command) (after ≡ before) (λ call. IsMade call before after)
 
 -- a line that it names is that of the call, which is a release of a freeze that is not held, and asked nothing
 pub record IsUnheldCall (line : ℕ) (call : Call) (before after : List Record) (named : ℕ) : Type 0 where

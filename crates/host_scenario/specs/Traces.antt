@@ -31,10 +31,10 @@ pub record HasMade (caller : CallerState) (told : List Record) : Type 0 where
   pub its : records history ≡ told
   pub own : made_by caller.number history ≡ caller.mine
 
--- What the host made is the scenario's calls, each once and in their order; what workers asked for is its completions, each once. A
--- completion stands after the host put it, and before the host's first call after the drain that served it; no run is live at a call of
--- the host.
-pub record IsOfScenario (steps : List Step) (told : List Record) : Type 0 where
-  pub asked : AreOf (by_host told) (calls_of steps)
+-- What the host made is the scenario's calls, each once and in their order, as records of this version tell them; what workers asked for
+-- is its completions, each once. A completion stands after the host put it, and before the host's first call after the drain that served
+-- it; no run is live at a call of the host.
+pub record IsOfScenario (version : Version) (steps : List Step) (told : List Record) : Type 0 where
+  pub asked : AreOf (by_host told) (calls_of version steps)
   pub served : AreServed (completes_of steps) [] told
   pub turns : AreInTurn steps told

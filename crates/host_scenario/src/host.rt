@@ -7,7 +7,9 @@ ghost use Rattle.world_calls.specs.declared.call.Call.TheVariants.{Complete};
 ghost use Rattle.scenario.specs.Steps.{command_seen, step_seen};
 ghost use Rattle.inbox.specs.Views.{IsOf};
 ghost use Rattle.workers.specs.Recorded.{AreRecorded};
-ghost use Rattle.host_scenario.specs.Asked.{AreOf, call_of, calls_of, is_hosts, with_call};
+ghost use Rattle.world.specs.World.{version_of};
+ghost use Rattle.world_calls.specs.declared.trace.Version.{Version};
+ghost use Rattle.host_scenario.specs.Asked.{AreOf, call_of, call_told, calls_of, is_hosts, with_call};
 ghost use Rattle.host_scenario.specs.Faults.{IsOfSteps, line_of};
 ghost use Rattle.host_scenario.specs.Served.{InboxIsKept, completes_of, completion_for};
 ghost use Rattle.host_scenario.specs.Holding.{Asks, HoldsAll, IsMade, IsOfLine, IsOfStep, fault_of};
@@ -88,10 +90,10 @@ impl<'a, B: Object + Send + Sync, N: Notices + Sync> Host<'a, B, N> {
     ) -> (Counts, Result<(), RunFault>)
         requires none { (self.old.caller.mine ≡ []) × (self.old.put.account.put ≡ []) }
         requires kept { InboxIsKept self.old.inbox self.old.put self.old.take self.old.seats.items }
-        ensures asked { OnOk result.1 (AreOf self.new.caller.mine (calls_of scenario.now)) }
+        ensures asked { OnOk result.1 (AreOf self.new.caller.mine (calls_of (version_of B.setup) scenario.now)) }
         ensures put { OnOk result.1 (self.new.put.account.put ≡ completes_of scenario.now) }
         ensures kept { OnOk result.1 (InboxIsKept self.new.inbox self.new.put self.new.take self.new.seats.items) }
-        ensures fault { IfErr result.1 (IsOfSteps scenario.now result.0.steps self.new.caller.mine self.new.put.account.put) }
+        ensures fault { IfErr result.1 (IsOfSteps (version_of B.setup) scenario.now result.0.steps self.new.caller.mine self.new.put.account.put) }
         ensures stays { IfErr result.1 (λ fault. (line_of fault ≢ None) → InboxIsKept self.new.inbox self.new.put self.new.take self.new.seats.items) }
         ensures all { length self.new.seats.items ≡ length self.old.seats.items }
         ensures steps { OnOk result.1 (result.0.steps ≡ length scenario.now) }
@@ -128,7 +130,7 @@ impl<'a, B: Object + Send + Sync, N: Notices + Sync> Host<'a, B, N> {
         step: Step<'_>,
     ) -> Result<(), RunFault>
         requires { HoldsAll self.old.caller.mine self.old.held.tokens }
-        ensures asked { OnOk result (Asks (step_seen step.entry) self.old.caller.mine self.new.caller.mine) }
+        ensures asked { OnOk result (Asks (version_of B.setup) (step_seen step.entry) self.old.caller.mine self.new.caller.mine) }
         ensures holds { OnOk result (HoldsAll self.new.caller.mine self.new.held.tokens) }
         ensures put { OnOk result (self.new.put.account.put ≡ self.old.put.account.put ++ completion_for (command_seen step.entry.call)) }
         ensures kept { OnOk result (InboxIsKept self.old.inbox self.old.put self.old.take self.old.seats.items → InboxIsKept self.new.inbox self.new.put self.new.take self.new.seats.items) }
@@ -158,7 +160,7 @@ impl<'a, B: Object + Send + Sync, N: Notices + Sync> Host<'a, B, N> {
     ) -> Result<(), RunFault>
         requires hosts { is_hosts call.now ≡ true }
         requires holds { HoldsAll self.old.caller.mine self.old.held.tokens }
-        ensures asked { OnOk result (IsMade call.now self.old.caller.mine self.new.caller.mine) }
+        ensures asked { OnOk result (IsMade (call_told (version_of B.setup) call.now) self.old.caller.mine self.new.caller.mine) }
         ensures holds { OnOk result (HoldsAll self.new.caller.mine self.new.held.tokens) }
         ensures same { (self.new.inbox ≡ self.old.inbox) × (self.new.put ≡ self.old.put) × (self.new.take ≡ self.old.take) × (self.new.seats.items ≡ self.old.seats.items) }
         ensures all { length self.new.seats.items ≡ length self.old.seats.items }
@@ -264,7 +266,7 @@ fn fault_for(out_of_memory: bool) -> RunFault
 
 // How many calls the host makes for such a line.
 fn calls_in(call: Option<&Call>) -> usize
-    ensures calls { result ≡ length (with_call (call_of (command_seen call.entry)) []) }
+    ensures calls { (version : Version) → result ≡ length (with_call (call_of version (command_seen call.entry)) []) }
     ensures few { result ≤ 1 }
 {
     match call {

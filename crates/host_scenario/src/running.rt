@@ -42,7 +42,7 @@ pub fn run<N: Notices + Sync, R: Threads + Wait + Sync>(
 ) -> Result<Trace, RunFault>
     requires { (1 ≤ workers) × (workers ≤ MAX_WORKERS) }
     ensures trace { IfOk result (λ trace. IsTraceOf config trace.version trace.records.items trace.totals) }
-    ensures asked { IfOk result (λ trace. IsOfScenario scenario.now trace.records.items) }
+    ensures asked { IfOk result (λ trace. IsOfScenario trace.version scenario.now trace.records.items) }
     // one worker serves the completions in the order of their lines
     ensures in_order { IfOk result (λ trace. workers ≡ 1 → completions_of trace.records.items ≡ completes_of scenario.now) }
     // each run that started has ended
@@ -75,7 +75,7 @@ fn run_on<B: Object + Send + Sync, N: Notices + Sync, R: Threads + Wait + Sync>(
     requires name { (opened.calls.name ≡ B.name) × (opened.calls.parts ≡ B.parts) }
     requires table { opened.monitor ≡ B.table }
     ensures trace { IfOk result (λ trace. IsTraceOf B.setup trace.version trace.records.items trace.totals) }
-    ensures asked { IfOk result (λ trace. IsOfScenario scenario.now trace.records.items) }
+    ensures asked { IfOk result (λ trace. IsOfScenario trace.version scenario.now trace.records.items) }
     ensures in_order { IfOk result (λ trace. workers ≡ 1 → completions_of trace.records.items ≡ completes_of scenario.now) }
     ensures ended { IfOk result (λ trace. trace.totals.runs ≡ 0) }
     ensures fault { IfErr result (IsOfRun B.setup scenario.now) }

@@ -73,7 +73,7 @@ impl Inbox {
         Ok(deal::<Brand>(queue, seat, put_passes, puts, take_passes, takes))
     }
 
-    /// IsPut a completion behind all that were put before. It comes back, and the pass stays as it was, only where the inbox was full at some moment: as many had been put then as there is room for, and one more for each take that the pass knows of. A pass knows what it saw when it last put, and what it was told (`PutPass::learn`); a new one knows of no take.
+    /// Puts a completion after all that were put before. It comes back, and the pass stays as it was, only where the inbox was full at some moment: as many had been put then as there is room for, and one more for each take that the pass knows of. A pass knows what it saw when it last put, and what it was told (`PutPass::learn`); a new one knows of no take.
     ///
     /// So the only put pass is refused only once it has put that many itself. Of several each is bound by what it knows, but the others may have put the rest (`laws::refusals`).
     ///

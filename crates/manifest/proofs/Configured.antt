@@ -1,5 +1,5 @@
 -- A configuration of what a manifest says: it is lawful, and its queues are those that are written.
-use Rattle.std.proofs.Common.{arith, ◌⊎◌, inl, inr, string_bytes, ◌≡◌, ℕ, ℤ, pos, negsuc, zero, suc, ◌<◌, ◌≤◌, Bool, true, false, ◌&&◌, ◌||◌, cond, List, [], ◌∷◌, length, get_or, map, find, filter_map, Option, Some, None, IsSome, is_some, option_map, refl, ap, ◌∙◌, sym, subst, bytes_eq, codes, unwrap_or, nat_le, nat_lt, if◌then◌else◌}
+use Rattle.std.proofs.Common.{arith, ◌⊎◌, inl, inr, string_bytes, ◌≡◌, ℕ, ℤ, pos, negsuc, zero, suc, ◌<◌, ◌≤◌, Bool, true, false, ◌&&◌, ◌||◌, cond, List, [], ◌∷◌, length, get_or, map, find, filter_map, Option, Some, None, IsSome, is_some, option_map, refl, ap, ◌∙◌, sym, subst, bytes_eq, codes, unwrap_or, nat_le, nat_lt, if◌then◌else◌, slice_index, slice_index_or}
 use Rattle.std.specs.List.{AllZip, AllByRecursion, All, list_all, cons_option}
 use Rattle.std.proofs.lemmas.Bool.{and_parts, leb-true, ltb-true, cases_Bool}
 use Rattle.std.proofs.lemmas.List.Elements.{All-nil, All-cons}
@@ -7,13 +7,17 @@ use Rattle.toml.specs.Data.{Data, table, Members}
 use Rattle.toml.specs.Parse.{parse_document}
 use Rattle.helpers.specs.declared.limits.HelperLimits.{HelperLimits}
 use Rattle.helpers.specs.declared.limits.HelperSet.{HelperSet}
-use Rattle.engine_config.specs.Configured.{Given, IsConfigured, IsGivenUnder, queue_of as queue_given}
+use Rattle.table_store.specs.Tables.{tables_with}
+use Rattle.world_calls.specs.declared.trace.Version.{Version}
+use Rattle.world_calls.specs.declared.trace.Version.TheVariants.{One, Three, Two}
+use Rattle.manifest_form.specs.declared.entries.TableEntry.{TableEntry}
+use Rattle.engine_config.specs.Configured.{Given, HaveRoom, IsConfigured, IsGivenUnder, queue_of as queue_given}
 use Rattle.bpf_accepted.specs.Verdict.{Verdict}
 use Rattle.world.specs.World.{QueueSetup}
 use Rattle.world.specs.Lawful.{AreUnder}
 use Rattle.manifest_form.specs.Document.{elements_at, integer_at, text_at, is_among}
-use Rattle.manifest_form.specs.Entries.{QueueLine, ProgramLine, Plan, up_to, below, is_first, is_integer, number_of_controllers, controllers_of, controller_written, controller_at, openings_at, queue_by, queue_of, length_of, plan_of}
-use Rattle.manifest_form.specs.Faults.{has_lawful_keys, has_lawful_form, has_lawful_ranges, document_has_ranges, queue_has_ranges, table_has_ranges}
+use Rattle.manifest_form.specs.Entries.{QueueLine, ProgramLine, Plan, TableLine, up_to, below, is_first, is_integer, is_second, number_of_controllers, controllers_of, controller_written, controller_at, openings_at, queue_by, queue_of, length_of, plan_of, table_by, table_of, version_by, version_of, words_written}
+use Rattle.manifest_form.specs.Faults.{has_lawful_keys, has_lawful_form, has_lawful_ranges, document_has_ranges, is_later, queue_has_ranges, table_has_ranges}
 use Rattle.manifest_form.specs.Names.{has_lawful_numbers, has_lawful_names, names_of, is_name, is_alone, is_between}
 use Rattle.manifest.specs.Meaning.{lowest, lowest_fault, helpers_with, limits_of, Named, is_named, setup_of, setup_with, IsAccepted, IsUnread, IsUnaccepted, HasProgramFault, Writes}
 use Rattle.manifest.specs.declared.programs.NamedProgram.{NamedProgram}
@@ -21,8 +25,8 @@ use Rattle.manifest_form.specs.declared.form.Plan.{Plan as Entries}
 use Rattle.manifest_form.specs.declared.entries.QueueEntry.{QueueEntry}
 use Rattle.manifest.specs.declared.fault.ManifestFault.{ManifestFault}
 use Rattle.std.proofs.lemmas.List.{length-map}
-use Rattle.manifest_form.specs.Seen.{queue_seen, plan_seen}
-use Rattle.manifest.specs.Seen.{AreWrittenUnder, IsGivenFor, IsReady, IsLawfulPlan, named_seen}
+use Rattle.manifest_form.specs.Seen.{queue_seen, plan_seen, table_seen}
+use Rattle.manifest.specs.Seen.{AreWrittenUnder, HasControllers, IsGivenFor, IsReady, IsLawfulPlan, IsTableOf, named_seen}
 
 pub all_at : {E X : Type 0} (P : X → Type 0) (f : E → X) (entries : List E) (i : ℕ) (entry : E) → i < length entries → entry ≡ get_or entries i entry → AllByRecursion P (map f entries) → P (f entry)
 all_at P f [] i entry within is all = absurd (omega arith)
@@ -86,24 +90,55 @@ all_numbered P programs (q ∷ qs) [] h each = absurd h
 all_numbered P programs (q ∷ qs) (g ∷ gs) h each =
     All-cons (λ queue. P queue.controller) (queue_given g) (map queue_given gs) (subst P (sym h.0.controller) each.0) (all_numbered P programs qs gs h.1 each.1)
 
-given_under : (controllers : Option ℕ) (programs : List Named) (queues : List QueueLine) (given : List Given) → AllZip (IsGivenFor programs) queues given
-    → AreWrittenUnder controllers queues → AreUnder (helpers_with controllers) (unwrap_or controllers 0) (map queue_given given)
-given_under None programs queues given h each = (refl, all_numbered (λ controller. controller ≡ 0) programs queues given h each)
-given_under (Some controllers) programs queues given h (number, each) =
+given_under : (version : Version) (controllers : Option ℕ) (programs : List Named) (queues : List QueueLine) (given : List Given) → AllZip (IsGivenFor programs) queues given
+    → HasControllers version controllers → AreWrittenUnder controllers queues → AreUnder (helpers_with version) (unwrap_or controllers 0) (map queue_given given)
+given_under One None programs queues given h has each = (refl, all_numbered (λ controller. controller ≡ 0) programs queues given h each)
+given_under One (Some controllers) programs queues given h has each = absurd cc
+given_under Two None programs queues given h has each = absurd cc
+given_under Two (Some controllers) programs queues given h has (number, each) =
+    (number, all_numbered (λ controller. controller < controllers) programs queues given h each)
+given_under Three None programs queues given h has each = absurd cc
+given_under Three (Some controllers) programs queues given h has (number, each) =
     (number, all_numbered (λ controller. controller < controllers) programs queues given h each)
 
-pub configured : (limits : HelperLimits) (controllers : Option ℕ) (queues : List QueueLine) (programs : List Named) (given : List Given)
-    → IsReady limits controllers queues programs → AllZip (IsGivenFor programs) queues given → IsConfigured limits (unwrap_or controllers 0) given
-configured limits controllers queues programs given ready h =
+pub configured : (limits : HelperLimits) (version : Version) (controllers : Option ℕ) (tables : List TableLine) (queues : List QueueLine) (programs : List Named) (given : List Given)
+    → IsReady limits version controllers tables queues programs → AllZip (IsGivenFor programs) queues given → IsConfigured limits (unwrap_or controllers 0) given
+configured limits version controllers tables queues programs given ready h =
     let many : length queues ≡ length given = as_many (IsGivenFor programs) queues given h in
     record {
       queue_number = (rw (← many) ready.queue_number.0, rw (← many) ready.queue_number.1);
       agreed = ready.agreed ∙ many;
-      under = subst (λ (helpers : HelperSet). AreUnder helpers (unwrap_or controllers 0) (map queue_given given)) (sym ready.helpers) (given_under controllers programs queues given h ready.under);
+      under = subst (λ (helpers : HelperSet). AreUnder helpers (unwrap_or controllers 0) (map queue_given given)) (sym ready.helpers)
+          (given_under version controllers programs queues given h ready.has_controllers ready.under);
       table_number = ready.table_number;
       table_lengths = all_from (λ words. (1 ≤ words) × (words ≤ 4096)) limits.table_lengths ready.lengths;
       queues = all_given limits programs queues given h ready.openings ready.accepted;
     }
+
+-- tables that have room for their first words
+abbrev pub line_size : TableLine → ℕ
+line_size line = line.size
+
+abbrev pub line_words : TableLine → List ℕ
+line_words line = line.words
+
+room_at : (tables : List TableLine) (k : ℕ) → AllByRecursion (λ line. length line.words ≤ line.size) tables → k < length (map line_words tables)
+    → length (slice_index_or (map line_words tables) k []) ≤ slice_index (map line_size tables) k
+room_at [] k all below = absurd (omega arith)
+room_at (t ∷ ts) zero all below = all.0
+room_at (t ∷ ts) (suc k) all below = room_at ts k all.1 (omega arith)
+
+pub have_room : (lengths : List ℕ) (tables : List TableLine) → lengths ≡ map line_size tables → AllByRecursion (λ line. length line.words ≤ line.size) tables → HaveRoom lengths (map line_words tables)
+have_room lengths tables is all = subst (λ (ns : List ℕ). HaveRoom ns (map line_words tables)) (sym is) (record {
+  lists = omega (arith, length-map tables line_words, length-map tables line_size);
+  words = λ k below. room_at tables k all below;
+})
+
+-- tables without first words
+pub wordless : (lengths : List ℕ) (tables : List TableLine) → AllByRecursion (λ line. line.words ≡ []) tables → tables_with lengths (map line_words tables) ≡ tables_with lengths []
+wordless [] tables all = refl
+wordless (n ∷ ns) [] all = refl
+wordless (n ∷ ns) (t ∷ ts) all = rw (all.0, wordless ns ts all.1) refl
 
 all_cons : {Y : Type 0} (P : Y → Type 0) (o : Option Y) (rest : List Y) → ((y : Y) → o ≡ Some y → P y) → AllByRecursion P rest → AllByRecursion P (cons_option o rest)
 all_cons P None rest here h = h
@@ -174,8 +209,48 @@ in_range_by false false number n range lawful is = absurd (cc)
 controllers_range : (manifest : Data) (n : ℕ) → document_has_ranges manifest ≡ true → controllers_of manifest ≡ Some n → (1 ≤ n) × (n ≤ 8)
 unfolding controllers_of
 controllers_range manifest n lawful is =
-    in_range_by (is_first manifest) (is_integer 2 (integer_at (codes "version") manifest)) (number_of_controllers manifest) n
+    in_range_by (is_first manifest) (is_later manifest) (number_of_controllers manifest) n
     (λ m h. up_to_range 8 (integer_at (codes "controllers") manifest) m h) lawful is
+
+controllers_by : (first second : Bool) (n : ℕ) → HasControllers (version_by first second) (if first then None else Some n)
+controllers_by true second n = refl
+controllers_by false true n = refl
+controllers_by false false n = refl
+
+controllers_there : (manifest : Data) → HasControllers (version_of manifest) (controllers_of manifest)
+unfolding controllers_of version_of
+controllers_there manifest = controllers_by (is_first manifest) (is_second manifest) (unwrap_or (number_of_controllers manifest) 0)
+
+-- what a table's line has, by its parts
+some_by : {X : Type 0} (a : Bool) (m n : X) → (if a then Some m else None) ≡ Some n → (a ≡ true) × (m ≡ n)
+some_by true m n is = (refl, some_is m n is)
+some_by false m n is = absurd (cc)
+
+table_has : (P : TableLine → Type 0) (size : Option ℕ) (words : Option (List ℕ)) (line : TableLine)
+    → ((n : ℕ) (those : List ℕ) → size ≡ Some n → words ≡ Some those → length those ≤ n → P (record { size = n; words = those }))
+    → table_by size words ≡ Some line → P line
+table_has P None words line each is = absurd (cc)
+table_has P (Some n) None line each is = absurd (cc)
+table_has P (Some n) (Some those) line each is =
+    let (fits, same) = some_by (nat_le (length those) n) (record { size = n; words = those }) line is in
+    subst P same (each n those refl refl (leb-true (length those) n fits))
+
+table_range : (version : Version) (d : Data) (line : TableLine) → table_of version d ≡ Some line → (1 ≤ line.size) × (line.size ≤ 4096)
+table_range version d line is =
+    table_has (λ t. (1 ≤ t.size) × (t.size ≤ 4096)) (length_of d) (words_written version d) line
+    (λ n those h _ _. up_to_range 4096 (integer_at (codes "length") d) n h) is
+
+no_words : (size : Option ℕ) (line : TableLine) → table_by size (Some []) ≡ Some line → line.words ≡ []
+no_words size line is = table_has (λ t. t.words ≡ []) size (Some []) line (λ n those _ h _. sym (some_is [] those h)) is
+
+table_is_of : (version : Version) (d : Data) (line : TableLine) → table_of version d ≡ Some line → IsTableOf version line
+table_is_of One d line is = no_words (length_of d) line is
+table_is_of Two d line is = no_words (length_of d) line is
+table_is_of Three d line is = table_has (λ t. length t.words ≤ t.size) (length_of d) (words_written Three d) line (λ n those _ _ h. h) is
+
+all_mapped : {X Y : Type 0} (P : Y → Type 0) (f : X → Y) (xs : List X) → AllByRecursion (λ x. P (f x)) xs → AllByRecursion P (map f xs)
+all_mapped P f [] h = tt
+all_mapped P f (x ∷ xs) h = (h.0, all_mapped P f xs h.1)
 
 written_under_by : (controllers : Option ℕ) (queues : List QueueLine) → ((n : ℕ) → controllers ≡ Some n → (1 ≤ n) × (n ≤ 8))
     → AllByRecursion (λ queue. queue.controller < unwrap_or controllers 1) queues → AreWrittenUnder controllers queues
@@ -238,22 +313,28 @@ unfolding has_lawful_names
 known_of plan h = (and_parts (list_all is_name (names_of plan) && list_all (is_alone (names_of plan)) (names_of plan)) (list_all (λ queue. is_among (names_of plan) queue.program) plan.queues) h).1
 
 -- what is lawful makes a configuration
-pub ready : (manifest : Data) (plan : Plan) (programs : List Named) → lowest_fault manifest ≡ None → plan ≡ plan_of manifest → AllZip (IsAccepted (limits_of plan)) plan.programs programs → IsReady (limits_of plan) plan.controllers plan.queues programs
+pub ready : (manifest : Data) (plan : Plan) (programs : List Named) → lowest_fault manifest ≡ None → plan ≡ plan_of manifest → AllZip (IsAccepted (limits_of plan)) plan.programs programs → IsReady (limits_of plan) plan.version plan.controllers plan.tables plan.queues programs
 ready manifest plan programs lawful says accepted =
     let (numbers, names, ranges) = lowest_parts (has_lawful_keys manifest) (has_lawful_form manifest) (has_lawful_ranges manifest) (has_lawful_numbers (plan_of manifest)) (has_lawful_names (plan_of manifest)) lawful in
     let counts = numbers_of plan (ap has_lawful_numbers says ∙ numbers) in
     let Queues : List QueueLine → Type 0 = AllByRecursion (λ queue. 1 ≤ queue.openings) in
-    let Tables : List ℕ → Type 0 = AllByRecursion (λ words. (1 ≤ words) × (words ≤ 4096)) in
+    let Sizes : List TableLine → Type 0 = AllByRecursion (λ line. (1 ≤ line.size) × (line.size ≤ 4096)) in
+    let version = version_of manifest in
+    let tables = elements_at (codes "table") manifest in
     let cs = controllers_of manifest in
     let queues = elements_at (codes "queue") manifest in
-    let (both, _) = and_parts (document_has_ranges manifest && list_all (queue_has_ranges cs) queues) (list_all table_has_ranges (elements_at (codes "table") manifest)) ranges in
+    let (both, _) = and_parts (document_has_ranges manifest && list_all (queue_has_ranges cs) queues) (list_all (table_has_ranges version) tables) ranges in
     let (document, _) = and_parts (document_has_ranges manifest) (list_all (queue_has_ranges cs) queues) both in
     record {
       helpers = refl;
+      has_controllers = subst (λ (p : Plan). HasControllers p.version p.controllers) (sym says) (controllers_there manifest);
+      are_tables = subst (λ (p : Plan). AllByRecursion (IsTableOf p.version) p.tables) (sym says) (all_filtered (IsTableOf version) (table_of version) (table_is_of version) tables);
+      table_lengths = refl;
       queue_number = counts.queues;
       agreed = refl;
-      table_number = counts.tables;
-      lengths = subst (λ (p : Plan). Tables p.tables) (sym says) (all_filtered (λ words. (1 ≤ words) × (words ≤ 4096)) length_of (λ d words is. up_to_range 4096 (integer_at (codes "length") d) words is) (elements_at (codes "table") manifest));
+      table_number = omega (arith, counts.tables, length-map plan.tables line_size);
+      lengths = all_mapped (λ words. (1 ≤ words) × (words ≤ 4096)) line_size plan.tables
+          (subst (λ (p : Plan). Sizes p.tables) (sym says) (all_filtered (λ line. (1 ≤ line.size) × (line.size ≤ 4096)) (table_of version) (table_range version) tables));
       openings = subst (λ (p : Plan). Queues p.queues) (sym says) (all_filtered (λ queue. 1 ≤ queue.openings) (queue_of cs) (queue_least cs) queues);
       under = subst (λ (p : Plan). AreWrittenUnder p.controllers p.queues) (sym says)
           (written_under_by cs (plan_of manifest).queues (λ n is. controllers_range manifest n document is)
@@ -283,7 +364,7 @@ pub accepted_by : (plan : Plan) (limits : HelperLimits) (lines : List ProgramLin
 accepted_by plan limits lines programs limits_is lines_is h = rw (← limits_is, ← lines_is) h
 
 pub ready_by : (plan : Plan) (limits : HelperLimits) (queues : List QueueLine) (programs named : List Named) → IsLawfulPlan plan → limits ≡ limits_of plan → queues ≡ plan.queues → named ≡ programs
-    → AllZip (IsAccepted (limits_of plan)) plan.programs programs → IsReady limits plan.controllers queues named
+    → AllZip (IsAccepted (limits_of plan)) plan.programs programs → IsReady limits plan.version plan.controllers plan.tables queues named
 ready_by plan limits queues programs named lawful limits_is queues_is named_is h = rw (limits_is, queues_is, named_is) (ready lawful.document plan programs lawful.lawful lawful.says h)
 
 pub queues_by : (plan : Plan) (queues : List QueueLine) (programs named : List Named) (given : List QueueSetup) → queues ≡ plan.queues → named ≡ programs
@@ -291,7 +372,7 @@ pub queues_by : (plan : Plan) (queues : List QueueLine) (programs named : List N
 queues_by plan queues programs named given queues_is named_is h = rw (← queues_is, ← named_is) h
 
 -- the limits, as they are made
-pub limits_by : (plan : Entries) (helpers : HelperSet) (count : ℕ) (lent : List QueueEntry) (lengths : List ℕ) → helpers ≡ helpers_with plan.controllers → lent ≡ plan.queues.items → count ≡ length lent → lengths ≡ plan.tables.items
+pub limits_by : (plan : Entries) (helpers : HelperSet) (count : ℕ) (lent : List QueueEntry) (lengths : List ℕ) → helpers ≡ helpers_with plan.version → lent ≡ plan.queues.items → count ≡ length lent → lengths ≡ map line_size (map table_seen plan.tables.items)
     → ◌≡◌ {A = HelperLimits} (record { helpers = helpers; queues = count; table_lengths = lengths }) (limits_of (plan_seen plan))
 limits_by plan helpers count lent lengths those same counted tables =
     let queues : count ≡ length (map queue_seen plan.queues.items) = counted ∙ ap length same ∙ sym (length-map plan.queues.items queue_seen) in

@@ -11,7 +11,10 @@ use Rattle.bpf_asm.specs.Assembly.{Says, HasFault as HasAsmFault}
 use Rattle.bpf_asm.specs.declared.fault.AsmFault.{AsmFault}
 use Rattle.helpers.specs.declared.limits.HelperLimits.{HelperLimits}
 use Rattle.helpers.specs.declared.limits.HelperSet.{HelperSet}
-use Rattle.helpers.specs.declared.limits.HelperSet.TheVariants.{Controllers, Queues}
+use Rattle.helpers.specs.declared.limits.HelperSet.TheVariants.{Classes, Controllers, Queues}
+use Rattle.table_store.specs.Tables.{tables_with}
+use Rattle.world_calls.specs.declared.trace.Version.{Version}
+use Rattle.world_calls.specs.declared.trace.Version.TheVariants.{One, Three, Two}
 use Rattle.base.specs.declared.or_memory.OrMemory.TheVariants.{Fault}
 use Rattle.bpf_accepted.specs.Verdict.{Verdict}
 use Rattle.call_shape.specs.declared.lawful_shape.TheConstants.{MAX_WRITTEN_OUT}
@@ -46,14 +49,15 @@ pub record Writes (text : List ℕ) (plan : Plan) : Type 0 where
   pub lawful : lowest_fault (table document) ≡ None
   pub says : plan ≡ plan_of (table document)
 
--- the helpers that its programs may call, by whether there are controllers
-abbrev pub helpers_with : Option ℕ → HelperSet
-helpers_with None = Queues
-helpers_with (Some controllers) = Controllers
+-- the helpers that its programs may call, by the version by whose rules it is judged
+abbrev pub helpers_with : Version → HelperSet
+helpers_with One = Queues
+helpers_with Two = Controllers
+helpers_with Three = Classes
 
 -- there are as many queues as are written, and tables of the lengths that are
 abbrev pub limits_of : Plan → HelperLimits
-limits_of plan = record { helpers = helpers_with plan.controllers; queues = length plan.queues; table_lengths = plan.tables }
+limits_of plan = record { helpers = helpers_with plan.version; queues = length plan.queues; table_lengths = map (λ table. table.size) plan.tables }
 
 -- the program that a source spells, or that it says
 abbrev pub IsReadAs : Source → List Slot → Type 0
@@ -121,13 +125,14 @@ setup_with queue named = record { openings = queue.openings; controller = queue.
 abbrev pub setup_of : List Named → QueueLine → Option QueueSetup
 setup_of programs queue = option_map (setup_with queue) (find (is_named queue.program) programs)
 
--- What a plan is set up as: its controllers, its programs, in the text's order, each accepted under its limits, and its queues
--- with theirs. The engine follows no other.
+-- What a plan is set up as: its controllers, its programs, in the text's order, each accepted under its limits, its queues with
+-- theirs, and its tables, which begin with the words that are written. The engine follows no other.
 pub record IsSetUp (plan : Plan) (setup : Setup) (programs : List Named) : Type 0 where
   pub limits : setup.limits ≡ limits_of plan
   pub controllers : setup.controllers ≡ unwrap_or plan.controllers 0
   pub accepted : AllZip (IsAccepted (limits_of plan)) plan.programs programs
   pub queues : map (setup_of programs) plan.queues ≡ map Some setup.queues
+  pub tables : setup.tables ≡ tables_with (limits_of plan).table_lengths (map (λ table. table.words) plan.tables)
   pub alone : setup.carried ≡ None
 
 -- The text means this setup and these programs.

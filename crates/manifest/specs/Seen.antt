@@ -13,11 +13,13 @@ use Rattle.manifest_form.specs.declared.form_fault.FormFault.TheVariants as form
 use Rattle.manifest.specs.declared.programs.ReadProgram.{ReadProgram}
 use Rattle.manifest.specs.declared.programs.NamedProgram.{NamedProgram}
 use Rattle.manifest.specs.Meaning.{Named, is_named, helpers_with, lowest_fault, IsReadAs, IsFaultyCode, IsFaultyText, FirstIs}
-use Rattle.std.specs.Prelude.{◌≡◌, ◌<◌, ◌≤◌, ℕ, Option, Some, None, IsSome, length, find, string_bytes, List}
+use Rattle.std.specs.Prelude.{◌≡◌, ◌<◌, ◌≤◌, ℕ, Option, Some, None, IsSome, length, find, map, string_bytes, List, []}
 use Rattle.std.specs.List.{AllByRecursion}
 use Rattle.engine_config.specs.Configured.{Given}
 use Rattle.base.specs.declared.or_memory.OrMemory.TheVariants.{Fault}
-use Rattle.manifest_form.specs.Entries.{QueueLine, ProgramLine, Plan, plan_of}
+use Rattle.world_calls.specs.declared.trace.Version.{Version}
+use Rattle.world_calls.specs.declared.trace.Version.TheVariants.{One, Three, Two}
+use Rattle.manifest_form.specs.Entries.{QueueLine, ProgramLine, Plan, TableLine, plan_of}
 use Rattle.toml.specs.Data.{Data}
 
 -- a program that was read, and one that was accepted, with its name
@@ -87,9 +89,24 @@ AreWrittenUnder (Some controllers) queues =
 abbrev pub AreNamed : List Named → List QueueLine → Type 0
 AreNamed programs queues = AllByRecursion (λ queue. IsSome (find (is_named queue.program) programs)) queues
 
+-- there are controllers in every version but the first
+abbrev pub HasControllers : Version → Option ℕ → Type 0
+HasControllers One controllers = controllers ≡ None
+HasControllers Two controllers = IsSome controllers
+HasControllers Three controllers = IsSome controllers
+
+-- a table has first words in the third version alone, and no more than there is room for
+abbrev pub IsTableOf : Version → TableLine → Type 0
+IsTableOf One table = table.words ≡ []
+IsTableOf Two table = table.words ≡ []
+IsTableOf Three table = length table.words ≤ table.size
+
 -- what a configuration can be made of
-pub record IsReady (limits : HelperLimits) (controllers : Option ℕ) (queues : List QueueLine) (programs : List Named) : Type 0 where
-  pub helpers : limits.helpers ≡ helpers_with controllers
+pub record IsReady (limits : HelperLimits) (version : Version) (controllers : Option ℕ) (tables : List TableLine) (queues : List QueueLine) (programs : List Named) : Type 0 where
+  pub helpers : limits.helpers ≡ helpers_with version
+  pub has_controllers : HasControllers version controllers
+  pub are_tables : AllByRecursion (IsTableOf version) tables
+  pub table_lengths : limits.table_lengths ≡ map (λ table. table.size) tables
   pub queue_number : (1 ≤ length queues) × (length queues ≤ 64)
   pub agreed : limits.queues ≡ length queues
   pub table_number : length limits.table_lengths ≤ 16

@@ -17,8 +17,8 @@ pub enum ManifestFault {
     Key,
     /// M3: a value is of another type or form.
     Form,
-    /// M4: `version` is neither 1 nor 2, `controllers` is not 1 to 8, a `controller` is not below it, `openings` is not 1 to 255, or
-    /// `length` not 1 to 4096.
+    /// M4: `version` is none of 1, 2 and 3, `controllers` is not 1 to 8, a `controller` is not below it, `openings` is not 1 to 255,
+    /// `length` not 1 to 4096, a table has more first words than its length, or one of them is negative.
     Range,
     /// M5: there is no queue or no program, or there are more than 64 of them or 16 tables.
     Number,
@@ -30,7 +30,7 @@ pub enum ManifestFault {
     Unassembled(String, AsmFault),
     /// M8: the program of that name is not accepted.
     Unaccepted(String, Refusal),
-    /// M9: the manifest is to be migrated, and is of version 2 already.
+    /// M9: the manifest is to be migrated, and its version is not lower than that to which it is.
     Migrated,
 }
 

@@ -9,7 +9,8 @@ ghost use Rattle.manifest_form.specs.Entries.{plan_of};
 ghost use Rattle.manifest.specs.Meaning.{AreShort, Means, HasFault, HasProgramFault, IsSetUp, helpers_with, lowest_fault};
 ghost use Rattle.manifest.specs.Migration.{HasMigrationFault, IsMigrated};
 ghost use Rattle.manifest.specs.declared.fault.ManifestFault.TheVariants as ManifestFault;
-ghost use Rattle.manifest_form.specs.Seen.{plan_seen, queue_seen, IfFault};
+ghost use Rattle.manifest_form.specs.Migration.{comes_after};
+ghost use Rattle.manifest_form.specs.Seen.{plan_seen, queue_seen, table_seen, IfFault};
 ghost use Rattle.manifest.specs.Seen.{named_seen, named, IsLawfulPlan};
 
 mod fault;
@@ -21,10 +22,13 @@ use base::OrMemory;
 use engine_config::Config;
 pub use fault::{ManifestError, ManifestFault};
 use helpers::{HelperLimits, HelperSet, TableLengths};
-use manifest_form::{FormFault, Plan, QueueEntry, has_lawful_names, has_lawful_numbers};
+use manifest_form::{
+    FormFault, Plan, QueueEntry, TableEntry, has_lawful_names, has_lawful_numbers,
+};
 pub use programs::NamedProgram;
-use std::alloc::Global;
+use std::alloc::{AllocError, Global};
 use toml::{Table, Value};
+use world_calls::Version;
 
 /// What a manifest says.
 #[derive(Drop)]
@@ -49,22 +53,34 @@ pub fn read(alloc: Global, text: &str) -> Result<Manifest, ManifestError>
     set_up(alloc, plan)
 }
 
-/// The text of version 2 that says what a text of version 1 says, with one controller, which is number 0, over all its queues.
-/// The text is read and its programs are verified first: its faults are those of `read`, and then M9, where it is of version 2
-/// already. The table alone stays: comments and layout are not kept.
-pub fn migrate(alloc: Global, text: &str) -> Result<String, ManifestError>
-    // What is written is a manifest again, and says the same with one controller.
-    ensures migrated { IfOk result (λ migrated. IsMigrated text.now (string_bytes migrated)) }
+/// The text of a later version that says what a text of a lower version says. One of version 1 gets one controller, which is number 0,
+/// over all its queues. The text is read and its programs are verified first: its faults are those of `read`, and then M9, if its version
+/// is not lower. The table alone stays: comments and layout are not kept.
+pub fn migrate(alloc: Global, text: &str, to: Version) -> Result<String, ManifestError>
+    // What is written is a manifest again, and says the same in the later version.
+    ensures migrated { IfOk result (λ migrated. IsMigrated to text.now (string_bytes migrated)) }
     // Which fault it is.
-    ensures fault { IfErr result (IfFault (HasMigrationFault text.now)) }
+    ensures fault { IfErr result (IfFault (HasMigrationFault to text.now)) }
 {
     let document = Value::Table(parse(alloc, text)?);
     let plan = plan(alloc, &document)?;
-    let controllers = plan.controllers;
+    let version = plan.version;
     let _manifest = set_up(alloc, plan)?;
-    match controllers {
-        None => Ok(migration::print(alloc, &document)?),
-        Some(_) => Err(OrMemory::Fault(ManifestFault::Migrated)),
+    if comes_after(version, to) {
+        Ok(migration::print(alloc, &document, to)?)
+    } else {
+        Err(OrMemory::Fault(ManifestFault::Migrated))
+    }
+}
+
+// Whether the second version is the later one.
+fn comes_after(from: Version, to: Version) -> bool
+    ensures { result ≡ comes_after from to }
+{
+    match from {
+        Version::One => !matches!(to, Version::One),
+        Version::Two => matches!(to, Version::Three),
+        Version::Three => false,
     }
 }
 
@@ -75,29 +91,50 @@ fn set_up(alloc: Global, plan: Plan<'_>) -> Result<Manifest, ManifestError>
     ensures fault { IfErr result (IfFault (HasProgramFault (plan_seen plan.entry))) }
 {
     let Plan {
+        version,
         controllers,
         queues,
         tables,
         programs,
     } = plan;
     let limits = HelperLimits {
-        helpers: helpers_with(controllers),
+        helpers: helpers_with(version),
         queues: count(&queues),
-        table_lengths: TableLengths::new(tables),
+        table_lengths: TableLengths::new(lengths(alloc, &tables)?),
     };
     let programs = programs::read(alloc, &programs, &limits)?;
-    let config = setup::config(alloc, &queues, controllers, limits, &programs)?;
+    let config = setup::config(
+        alloc,
+        version,
+        controllers,
+        tables,
+        &queues,
+        limits,
+        &programs,
+    )?;
     Ok(Manifest { config, programs })
 }
 
 // The helpers that the programs may call.
-fn helpers_with(controllers: Option<u8>) -> HelperSet
-    ensures { result ≡ helpers_with controllers }
+fn helpers_with(version: Version) -> HelperSet
+    ensures { result ≡ helpers_with version }
 {
-    match controllers {
-        None => HelperSet::Queues,
-        Some(_) => HelperSet::Controllers,
+    match version {
+        Version::One => HelperSet::Queues,
+        Version::Two => HelperSet::Controllers,
+        Version::Three => HelperSet::Classes,
     }
+}
+
+// How many words each table has.
+fn lengths(alloc: Global, tables: &[TableEntry]) -> Result<Vec<u16>, AllocError>
+    ensures { IfOk result (λ lengths. lengths.items ≡ map (λ table. table.size) (map table_seen tables.now)) }
+{
+    let mut lengths = Vec::with_capacity(alloc, tables.len())?;
+    for table in tables {
+        lengths.push(table.length)?;
+    }
+    Ok(lengths)
 }
 
 // The text as TOML.

@@ -1,40 +1,49 @@
 // The configuration of a manifest whose programs are accepted: each queue with its openings, its controller and the program that
 // it names.
 
-ghost use Rattle.std.specs.Prelude.{◌≡◌, [], ◌∷◌, ◌++◌, Some, None, unwrap_or, map, find, option_copied, string_bytes, bytes_eq, length, IsSome, IfOk, IfErr, OnOk};
+ghost use Rattle.std.specs.Prelude.{◌≡◌, List, [], ◌∷◌, ◌++◌, Some, None, unwrap_or, map, find, option_copied, string_bytes, bytes_eq, length, IsSome, IfOk, IfErr, OnOk};
 ghost use Rattle.std.specs.Arc.{arc_value};
 ghost use Rattle.std.specs.List.{AllByRecursion, AllZip};
-ghost use Rattle.engine_config.specs.Configured.{alone_of, under_of};
+ghost use Rattle.engine_config.specs.Configured.{alone_of, firsts_of, under_of};
+ghost use Rattle.table_store.specs.Tables.{tables_with};
+ghost use Rattle.world_calls.specs.declared.trace.Version.TheVariants.{One, Three, Two};
+ghost use Rattle.manifest_form.specs.Entries.{TableLine};
 ghost use Rattle.manifest.specs.Meaning.{setup_of, is_named};
-ghost use Rattle.manifest_form.specs.Seen.{queue_seen};
+ghost use Rattle.manifest_form.specs.Seen.{queue_seen, table_seen};
 ghost use Rattle.manifest.specs.Seen.{named_seen, AreNamed, IsGivenFor, IsItsVerdict, IsReady};
 
 use crate::programs::NamedProgram;
 use bpf_accepted::Accepted;
 use engine_config::Config;
 use helpers::HelperLimits;
-use manifest_form::QueueEntry;
+use manifest_form::{QueueEntry, TableEntry};
 use std::alloc::{AllocError, Global};
 use std::sync::Arc;
+use world_calls::Version;
 
-/// The configuration of these queues, under so many controllers, or without any, whose programs are among those that were
-/// accepted under the limits.
+/// The configuration of these queues, under so many controllers, or without any, and of these tables. The queues' programs are among
+/// those that were accepted under the limits.
 pub fn config(
     alloc: Global,
-    queues: &[QueueEntry<'_>],
+    version: Version,
     controllers: Option<u8>,
+    tables: Vec<TableEntry>,
+    queues: &[QueueEntry<'_>],
     limits: HelperLimits,
     programs: &[NamedProgram],
 ) -> Result<Config, AllocError>
-    requires { IsReady limits controllers (map queue_seen queues.now) (map named_seen programs.now) }
+    requires { IsReady limits version controllers (map table_seen tables.items) (map queue_seen queues.now) (map named_seen programs.now) }
     ensures limits { IfOk result (λ config. config.limits ≡ limits) }
     ensures controllers { IfOk result (λ config. config.controllers ≡ unwrap_or controllers 0) }
+    ensures tables { IfOk result (λ config. config.tables ≡ tables_with limits.table_lengths (map (λ table. table.words) (map table_seen tables.items))) }
     ensures queues { IfOk result (λ config. map (setup_of (map named_seen programs.now)) (map queue_seen queues.now) ≡ map Some config.queues) }
     ensures alone { IfOk result (λ config. config.carried ≡ None) }
 {
-    match controllers {
-        None => alone(alloc, queues, limits, programs),
-        Some(controllers) => under(alloc, queues, controllers, limits, programs),
+    let controllers = controllers.unwrap_or(0);
+    match version {
+        Version::One => alone(alloc, queues, limits, programs),
+        Version::Two => under(alloc, queues, controllers, limits, programs),
+        Version::Three => classed(alloc, tables, queues, controllers, limits, programs),
     }
 }
 
@@ -44,9 +53,10 @@ fn alone(
     limits: HelperLimits,
     programs: &[NamedProgram],
 ) -> Result<Config, AllocError>
-    requires { IsReady limits None (map queue_seen queues.now) (map named_seen programs.now) }
+    requires { (tables : List TableLine) × IsReady limits One None tables (map queue_seen queues.now) (map named_seen programs.now) }
     ensures limits { IfOk result (λ config. config.limits ≡ limits) }
     ensures controllers { IfOk result (λ config. config.controllers ≡ 0) }
+    ensures tables { IfOk result (λ config. config.tables ≡ tables_with limits.table_lengths []) }
     ensures queues { IfOk result (λ config. map (setup_of (map named_seen programs.now)) (map queue_seen queues.now) ≡ map Some config.queues) }
     ensures alone { IfOk result (λ config. config.carried ≡ None) }
 {
@@ -64,9 +74,10 @@ fn under(
     limits: HelperLimits,
     programs: &[NamedProgram],
 ) -> Result<Config, AllocError>
-    requires { IsReady limits (Some controllers) (map queue_seen queues.now) (map named_seen programs.now) }
+    requires { (tables : List TableLine) × IsReady limits Two (Some controllers) tables (map queue_seen queues.now) (map named_seen programs.now) }
     ensures limits { IfOk result (λ config. config.limits ≡ limits) }
     ensures controllers { IfOk result (λ config. config.controllers ≡ controllers) }
+    ensures tables { IfOk result (λ config. config.tables ≡ tables_with limits.table_lengths []) }
     ensures queues { IfOk result (λ config. map (setup_of (map named_seen programs.now)) (map queue_seen queues.now) ≡ map Some config.queues) }
     ensures alone { IfOk result (λ config. config.carried ≡ None) }
 {
@@ -75,6 +86,40 @@ fn under(
         unreachable!()
     };
     Ok(config)
+}
+
+fn classed(
+    alloc: Global,
+    tables: Vec<TableEntry>,
+    queues: &[QueueEntry<'_>],
+    controllers: u8,
+    limits: HelperLimits,
+    programs: &[NamedProgram],
+) -> Result<Config, AllocError>
+    requires { IsReady limits Three (Some controllers) (map table_seen tables.items) (map queue_seen queues.now) (map named_seen programs.now) }
+    ensures limits { IfOk result (λ config. config.limits ≡ limits) }
+    ensures controllers { IfOk result (λ config. config.controllers ≡ controllers) }
+    ensures tables { IfOk result (λ config. config.tables ≡ tables_with limits.table_lengths (map (λ table. table.words) (map table_seen tables.items))) }
+    ensures queues { IfOk result (λ config. map (setup_of (map named_seen programs.now)) (map queue_seen queues.now) ≡ map Some config.queues) }
+    ensures alone { IfOk result (λ config. config.carried ≡ None) }
+{
+    let given = given_under(alloc, queues, programs)?;
+    let firsts = first_words(alloc, tables)?;
+    let Some(config) = Config::with_classes(limits, controllers, firsts, given) else {
+        unreachable!()
+    };
+    Ok(config)
+}
+
+// The first words of each table.
+fn first_words(alloc: Global, tables: Vec<TableEntry>) -> Result<Vec<Vec<u64>>, AllocError>
+    ensures { IfOk result (λ lists. firsts_of lists.items ≡ map (λ table. table.words) (map table_seen tables.items)) }
+{
+    let mut lists = Vec::with_capacity(alloc, tables.len())?;
+    for table in tables {
+        lists.push(table.words)?;
+    }
+    Ok(lists)
 }
 
 fn given_alone(

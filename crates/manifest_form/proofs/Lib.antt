@@ -3,4 +3,4 @@ pub mod Codes
 pub mod Lowest
 pub mod Naming
 pub mod Putting
-pub mod Migrated
+pub mod LaterForm

@@ -3,8 +3,9 @@ use Rattle.std.proofs.Common.{◌≡◌, ℕ, Bool, ◌&&◌, ◌==◌, List, []
 use Rattle.std.specs.List.{list_all, list_any}
 use Rattle.manifest_form.specs.declared.entries.QueueEntry.{QueueEntry}
 use Rattle.manifest_form.specs.declared.entries.ProgramEntry.{ProgramEntry}
+use Rattle.world_calls.specs.declared.trace.Version.{Version}
 use Rattle.manifest_form.specs.Document.{is_among}
-use Rattle.manifest_form.specs.Entries.{QueueLine, ProgramLine}
+use Rattle.manifest_form.specs.Entries.{QueueLine, ProgramLine, TableLine}
 use Rattle.manifest_form.specs.Names.{has_lawful_names, is_name, is_alone}
 use Rattle.manifest_form.specs.Seen.{queue_seen, program_seen, are_lawful, are_known}
 use Rattle.manifest_form.proofs.Lists.{list_all-map, list_any-map, list_all_same}
@@ -28,11 +29,11 @@ any_named test programs = list_any-map test name (map program_seen programs) ∙
 counted_named : (test : List ℕ → Bool) (programs : List ProgramEntry) → count_by test (map name (map program_seen programs)) ≡ count_by (λ program. test program.name.now) programs
 counted_named test programs = count_by-map test name (map program_seen programs) ∙ count_by-map (λ program. test (name program)) program_seen programs
 
-pub names_lawful : (controllers : Option ℕ) (queues : List QueueEntry) (tables : List ℕ) (programs : List ProgramEntry) →
-    has_lawful_names (record { controllers = controllers; queues = map queue_seen queues; tables = tables; programs = map program_seen programs })
+pub names_lawful : (version : Version) (controllers : Option ℕ) (queues : List QueueEntry) (tables : List TableLine) (programs : List ProgramEntry) →
+    has_lawful_names (record { version = version; controllers = controllers; queues = map queue_seen queues; tables = tables; programs = map program_seen programs })
     ≡ (are_lawful programs && are_known queues programs)
 unfolding has_lawful_names
-names_lawful controllers queues tables programs =
+names_lawful version controllers queues tables programs =
     let names = map name (map program_seen programs) in
     let formed = all_named is_name programs in
     let alone = all_named (is_alone names) programs
@@ -41,7 +42,7 @@ names_lawful controllers queues tables programs =
     ∙ list_all_same _ _ (λ (queue : QueueEntry). any_named (λ other. bytes_eq other queue.program.now) programs) queues in
     λ i. formed i && alone i && known i
 
-pub names_told : (controllers : Option ℕ) (queues listed : List QueueEntry) (tables : List ℕ) (programs those : List ProgramEntry) (lawful known : Bool) → those ≡ programs → listed ≡ queues
+pub names_told : (version : Version) (controllers : Option ℕ) (queues listed : List QueueEntry) (tables : List TableLine) (programs those : List ProgramEntry) (lawful known : Bool) → those ≡ programs → listed ≡ queues
     → lawful ≡ are_lawful those → known ≡ are_known listed those
-    → (lawful && known) ≡ has_lawful_names (record { controllers = controllers; queues = map queue_seen queues; tables = tables; programs = map program_seen programs })
-names_told controllers queues listed tables programs those lawful known a b c d = rw (c, d, a, b) (sym (names_lawful controllers queues tables programs))
+    → (lawful && known) ≡ has_lawful_names (record { version = version; controllers = controllers; queues = map queue_seen queues; tables = tables; programs = map program_seen programs })
+names_told version controllers queues listed tables programs those lawful known a b c d = rw (c, d, a, b) (sym (names_lawful version controllers queues tables programs))

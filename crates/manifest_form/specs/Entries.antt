@@ -1,7 +1,10 @@
 -- What the entries of a manifest say: its controllers, its queues, its tables and its programs, each as it is written.
-use Rattle.std.specs.Prelude.{ℕ, ℤ, pos, negsuc, Bool, false, ◌&&◌, ◌==◌, nat_le, nat_lt, List, Option, Some, None, unwrap_or, codes, filter_map, if◌then◌else◌}
-use Rattle.toml.specs.Data.{Data}
-use Rattle.manifest_form.specs.Document.{elements_at, integer_at, text_at}
+use Rattle.std.specs.Prelude.{ℕ, ℤ, pos, negsuc, Bool, true, false, ◌&&◌, ◌==◌, nat_le, nat_lt, List, [], Option, Some, None, is_some, unwrap_or, codes, length, map, filter_map, if◌then◌else◌}
+use Rattle.std.specs.List.{list_all}
+use Rattle.toml.specs.Data.{Data, Items, as_integer, get}
+use Rattle.world_calls.specs.declared.trace.Version.{Version}
+use Rattle.world_calls.specs.declared.trace.Version.TheVariants.{One, Three, Two}
+use Rattle.manifest_form.specs.Document.{array_at, elements, elements_at, integer_at, text_at}
 use Rattle.manifest_form.specs.Code.{bytes_in}
 
 -- how a program is written: as the bytes that pairs of digits spell, or as text for the assembler
@@ -19,12 +22,17 @@ pub record ProgramLine : Type 0 where
   pub name : List ℕ
   pub source : Source
 
--- a manifest: how many controllers there are, if it is of the version that has them, its queues, the lengths of its tables, and
--- its programs
+-- a table: how many words it has, and its first ones, as many as are written
+pub record TableLine : Type 0 where
+  pub size : ℕ
+  pub words : List ℕ
+
+-- a manifest: its version, how many controllers there are, if it is of a version that has them, its queues, its tables, and its programs
 pub record Plan : Type 0 where
+  pub version : Version
   pub controllers : Option ℕ
   pub queues : List QueueLine
-  pub tables : List ℕ
+  pub tables : List TableLine
   pub programs : List ProgramLine
 
 -- a number from 1 to this
@@ -43,9 +51,26 @@ abbrev pub is_integer : ℕ → Option ℤ → Bool
 is_integer number (Some (pos n)) = n == number
 is_integer number _ = false
 
--- whether the manifest is of version 1, by the integer 1 alone; else it is judged as one of version 2
+-- whether the manifest is of version 1, by the integer 1 alone, or of version 2, likewise; else it is judged as one of version 3
 unfoldable pub is_first : Data → Bool
 is_first manifest = is_integer 1 (integer_at (codes "version") manifest)
+
+abbrev pub is_second : Data → Bool
+is_second manifest = is_integer 2 (integer_at (codes "version") manifest)
+
+abbrev pub version_by : Bool → Bool → Version
+version_by true second = One
+version_by false true = Two
+version_by false false = Three
+
+unfoldable pub version_of : Data → Version
+version_of manifest = version_by (is_first manifest) (is_second manifest)
+
+-- tables may have first words
+abbrev pub has_words : Version → Bool
+has_words One = false
+has_words Two = false
+has_words Three = true
 
 abbrev pub number_of_controllers : Data → Option ℕ
 number_of_controllers manifest = up_to 8 (integer_at (codes "controllers") manifest)
@@ -76,6 +101,46 @@ queue_of controllers queue = queue_by (openings_at queue) (controller_at control
 abbrev pub length_of : Data → Option ℕ
 length_of entry = up_to 4096 (integer_at (codes "length") entry)
 
+-- a number that is not negative
+abbrev pub word_in : Option ℤ → Option ℕ
+word_in None = None
+word_in (Some (pos n)) = Some n
+word_in (Some (negsuc n)) = None
+
+abbrev pub is_word : Data → Bool
+is_word value = is_some (word_in (as_integer value))
+
+abbrev pub word_at : Data → ℕ
+word_at value = unwrap_or (word_in (as_integer value)) 0
+
+-- the words of a list, if each is one
+abbrev pub words_in : List Data → Option (List ℕ)
+words_in values = if list_all is_word values then Some (map word_at values) else None
+
+abbrev pub words_of : Option Items → Option (List ℕ)
+words_of None = None
+words_of (Some items) = words_in (elements items)
+
+-- the first words of a table: none where none are written
+abbrev pub words_by : Bool → Option Items → Option (List ℕ)
+words_by false items = Some []
+words_by true items = words_of items
+
+abbrev pub are_written : Version → Data → Bool
+are_written version entry = has_words version && is_some (get (codes "words") entry)
+
+abbrev pub words_written : Version → Data → Option (List ℕ)
+words_written version entry = words_by (are_written version entry) (array_at (codes "words") entry)
+
+-- no more words than the table has
+abbrev pub table_by : Option ℕ → Option (List ℕ) → Option TableLine
+table_by None words = None
+table_by (Some size) None = None
+table_by (Some size) (Some words) = if nat_le (length words) size then Some (record { size = size; words = words }) else None
+
+abbrev pub table_of : Version → Data → Option TableLine
+table_of version entry = table_by (length_of entry) (words_written version entry)
+
 -- by what stands under `asm`, and under `code`
 abbrev pub source_by : Option (List ℕ) → Option (List ℕ) → Option Source
 source_by (Some text) digits = Some (asm text)
@@ -96,8 +161,9 @@ program_of program = program_by (text_at (codes "name") program) (source_of prog
 -- what a manifest says that is of the form
 abbrev pub plan_of : Data → Plan
 plan_of manifest = record {
+  version = version_of manifest;
   controllers = controllers_of manifest;
   queues = filter_map (queue_of (controllers_of manifest)) (elements_at (codes "queue") manifest);
-  tables = filter_map length_of (elements_at (codes "table") manifest);
+  tables = filter_map (table_of (version_of manifest)) (elements_at (codes "table") manifest);
   programs = filter_map program_of (elements_at (codes "program") manifest);
 }

@@ -1,19 +1,25 @@
 -- The faults of a manifest's form, and which of them is answered.
 use Rattle.std.specs.Prelude.{ℕ, Bool, true, false, ◌&&◌, ◌||◌, not, List, [], ◌∷◌, Option, Some, None, is_some, codes, if◌then◌else◌}
 use Rattle.std.specs.List.{list_all}
-use Rattle.toml.specs.Data.{Data, get}
+use Rattle.toml.specs.Data.{Data, Items, as_integer, get}
 use Rattle.manifest_form.specs.declared.form_fault.FormFault.{FormFault}
 use Rattle.manifest_form.specs.declared.form_fault.FormFault.TheVariants.{Key, Form, Range}
-use Rattle.manifest_form.specs.Document.{array_at, elements_at, integer_at, text_at, has_keys}
-use Rattle.manifest_form.specs.Entries.{is_first, is_integer, controllers_of, number_of_controllers, controller_written, controller_at, openings_at, length_of, source_of}
+use Rattle.world_calls.specs.declared.trace.Version.{Version}
+use Rattle.manifest_form.specs.Document.{array_at, elements, elements_at, integer_at, text_at, has_keys}
+use Rattle.manifest_form.specs.Entries.{are_written, has_words, is_first, is_integer, is_second, controllers_of, number_of_controllers, controller_written, controller_at, openings_at, source_of, table_of, version_of}
 
 -- M2: every key that is needed is there, and no other.
 abbrev pub queue_has_keys : Option ℕ → Data → Bool
 queue_has_keys None = has_keys (codes "openings" ∷ codes "program" ∷ []) []
 queue_has_keys (Some controllers) = has_keys (codes "openings" ∷ codes "controller" ∷ codes "program" ∷ []) []
 
-abbrev pub table_has_keys : Data → Bool
-table_has_keys = has_keys (codes "length" ∷ []) []
+-- a table may have first words in the version that has them
+abbrev pub keys_of_words : Bool → List (List ℕ)
+keys_of_words true = codes "words" ∷ []
+keys_of_words false = []
+
+abbrev pub table_has_keys : Version → Data → Bool
+table_has_keys version = has_keys (codes "length" ∷ []) (keys_of_words (has_words version))
 
 -- a name, and either `code` or `asm`
 abbrev pub program_has_keys : Data → Bool
@@ -29,7 +35,7 @@ abbrev pub has_lawful_keys : Data → Bool
 has_lawful_keys manifest =
     document_has_keys manifest
     && list_all (queue_has_keys (controllers_of manifest)) (elements_at (codes "queue") manifest)
-    && list_all table_has_keys (elements_at (codes "table") manifest)
+    && list_all (table_has_keys (version_of manifest)) (elements_at (codes "table") manifest)
     && list_all program_has_keys (elements_at (codes "program") manifest)
 
 -- M3: every value is of its type and form.
@@ -39,8 +45,16 @@ queue_has_form controllers queue =
     && is_some (controller_written controllers queue)
     && is_some (text_at (codes "program") queue)
 
-abbrev pub table_has_form : Data → Bool
-table_has_form entry = is_some (integer_at (codes "length") entry)
+-- first words are integers
+abbrev pub are_integers : Option Items → Bool
+are_integers None = false
+are_integers (Some items) = list_all (λ value. is_some (as_integer value)) (elements items)
+
+abbrev pub words_have_form : Version → Data → Bool
+words_have_form version entry = not (are_written version entry) || are_integers (array_at (codes "words") entry)
+
+abbrev pub table_has_form : Version → Data → Bool
+table_has_form version entry = is_some (integer_at (codes "length") entry) && words_have_form version entry
 
 abbrev pub program_has_form : Data → Bool
 program_has_form program = is_some (text_at (codes "name") program) && is_some (source_of program)
@@ -62,25 +76,28 @@ abbrev pub has_lawful_form : Data → Bool
 has_lawful_form manifest =
     document_has_form manifest
     && list_all (queue_has_form (controllers_of manifest)) (elements_at (codes "queue") manifest)
-    && list_all table_has_form (elements_at (codes "table") manifest)
+    && list_all (table_has_form (version_of manifest)) (elements_at (codes "table") manifest)
     && list_all program_has_form (elements_at (codes "program") manifest)
 
--- M4: the version is 1, or it is 2 and there are 1 to 8 controllers, and every number is in its range.
+-- M4: the version is 1, or it is 2 or 3 and there are 1 to 8 controllers, and every number is in its range.
+abbrev pub is_later : Data → Bool
+is_later manifest = is_second manifest || is_integer 3 (integer_at (codes "version") manifest)
+
 abbrev pub document_has_ranges : Data → Bool
-document_has_ranges manifest =
-    is_first manifest || (is_integer 2 (integer_at (codes "version") manifest) && is_some (number_of_controllers manifest))
+document_has_ranges manifest = is_first manifest || (is_later manifest && is_some (number_of_controllers manifest))
 
 abbrev pub queue_has_ranges : Option ℕ → Data → Bool
 queue_has_ranges controllers queue = is_some (openings_at queue) && is_some (controller_at controllers queue)
 
-abbrev pub table_has_ranges : Data → Bool
-table_has_ranges entry = is_some (length_of entry)
+-- a table has 1 to 4096 words, and no more first words than that, of which none is negative
+abbrev pub table_has_ranges : Version → Data → Bool
+table_has_ranges version entry = is_some (table_of version entry)
 
 abbrev pub has_lawful_ranges : Data → Bool
 has_lawful_ranges manifest =
     document_has_ranges manifest
     && list_all (queue_has_ranges (controllers_of manifest)) (elements_at (codes "queue") manifest)
-    && list_all table_has_ranges (elements_at (codes "table") manifest)
+    && list_all (table_has_ranges (version_of manifest)) (elements_at (codes "table") manifest)
 
 -- the lowest of M2 to M4, by whether keys, form and ranges are lawful
 abbrev pub lowest_of : Bool → Bool → Bool → Option FormFault
@@ -104,8 +121,8 @@ document_fault manifest = lowest_of (document_has_keys manifest) (document_has_f
 abbrev pub queue_fault : Option ℕ → Data → Option FormFault
 queue_fault controllers queue = lowest_of (queue_has_keys controllers queue) (queue_has_form controllers queue) (queue_has_ranges controllers queue)
 
-abbrev pub table_fault : Data → Option FormFault
-table_fault entry = lowest_of (table_has_keys entry) (table_has_form entry) (table_has_ranges entry)
+abbrev pub table_fault : Version → Data → Option FormFault
+table_fault version entry = lowest_of (table_has_keys version entry) (table_has_form version entry) (table_has_ranges version entry)
 
 abbrev pub program_fault : Data → Option FormFault
 program_fault program = lowest_of (program_has_keys program) (program_has_form program) true

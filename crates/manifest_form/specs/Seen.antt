@@ -7,12 +7,16 @@ use Rattle.manifest_form.specs.declared.entries.ProgramEntry.{ProgramEntry}
 use Rattle.manifest_form.specs.declared.entries.QueueEntry.{QueueEntry}
 use Rattle.manifest_form.specs.declared.entries.Source.{Source as Written}
 use Rattle.manifest_form.specs.declared.entries.Source.TheVariants.{Code, Asm}
+use Rattle.manifest_form.specs.declared.entries.TableEntry.{TableEntry}
 use Rattle.manifest_form.specs.declared.form.Plan.{Plan as Entries}
-use Rattle.manifest_form.specs.Entries.{Source, code, asm, QueueLine, ProgramLine, Plan}
+use Rattle.manifest_form.specs.Entries.{Source, code, asm, QueueLine, TableLine, ProgramLine, Plan}
 use Rattle.manifest_form.specs.Names.{is_name}
 
 abbrev pub queue_seen : QueueEntry → QueueLine
 queue_seen queue = record { openings = queue.openings; controller = queue.controller; program = queue.program.now }
+
+abbrev pub table_seen : TableEntry → TableLine
+table_seen table = record { size = table.length; words = table.words.items }
 
 abbrev pub source_seen : Written → Source
 source_seen (Code bytes) = code bytes.items
@@ -23,9 +27,10 @@ program_seen program = record { name = program.name.now; source = source_seen pr
 
 abbrev pub plan_seen : Entries → Plan
 plan_seen entries = record {
+  version = entries.version;
   controllers = entries.controllers;
   queues = map queue_seen entries.queues.items;
-  tables = entries.tables.items;
+  tables = map table_seen entries.tables.items;
   programs = map program_seen entries.programs.items;
 }
 

@@ -4,25 +4,28 @@
 ghost use Rattle.std.specs.Prelude.{◌≡◌, ◌++◌, Some, None, map, filter_map, codes, IfOk, IfErr};
 ghost use Rattle.toml.specs.View.{view};
 ghost use Rattle.manifest_form.specs.Document.{integer_at};
-ghost use Rattle.manifest_form.specs.Entries.{up_to, is_first, is_integer, number_of_controllers, controllers_of, queue_of, length_of, program_of, plan_of};
-ghost use Rattle.manifest_form.specs.Faults.{lower, lowest_among, queue_fault, table_fault, program_fault, document_fault, form_fault, has_arrays, document_has_keys, document_has_form, document_has_ranges};
-ghost use Rattle.manifest_form.specs.Seen.{queue_seen, program_seen, plan_seen, IfFault};
+ghost use Rattle.manifest_form.specs.Entries.{up_to, is_first, is_integer, is_second, number_of_controllers, controllers_of, queue_of, program_of, plan_of, table_of, version_of};
+ghost use Rattle.manifest_form.specs.Faults.{lower, lowest_among, queue_fault, table_fault, program_fault, document_fault, form_fault, has_arrays, document_has_keys, document_has_form, document_has_ranges, is_later};
+ghost use Rattle.manifest_form.specs.Seen.{queue_seen, program_seen, plan_seen, table_seen, IfFault};
 
 use crate::document::{array, elements, has, has_keys, integer};
-use crate::entries::{FormError, ProgramEntry, QueueEntry, program, queue, table};
+use crate::entries::{FormError, ProgramEntry, QueueEntry, TableEntry, program, queue, table};
 use crate::form_fault::{FormFault, note};
 use base::OrMemory;
 use engine_config::MAX_CONTROLLERS;
 use std::alloc::{AllocError, Global};
 use toml::Value;
+use world_calls::Version;
 
 /// What a manifest says, entry by entry, in the text's order.
 #[derive(Drop)]
 pub struct Plan<'a> {
+    /// The version by whose rules it is judged.
+    pub version: Version,
     /// How many controllers there are, 1 to 8; `None` in version 1.
     pub controllers: Option<u8>,
     pub queues: Vec<QueueEntry<'a>>,
-    pub tables: Vec<u16>,
+    pub tables: Vec<TableEntry>,
     pub programs: Vec<ProgramEntry<'a>>,
 }
 
@@ -33,12 +36,14 @@ pub fn read(alloc: Global, manifest: &Value) -> Result<Plan<'_>, FormError>
     ensures fault { IfErr result (IfFault (λ fault. form_fault (view manifest.now) ≡ Some fault)) }
 {
     let mut lowest = document_fault(manifest);
+    let version = version(manifest);
     let controllers = controllers(manifest);
     let queues = queues(alloc, elements(manifest, "queue"), controllers, &mut lowest)?;
-    let tables = tables(alloc, elements(manifest, "table"), &mut lowest)?;
+    let tables = tables(alloc, elements(manifest, "table"), version, &mut lowest)?;
     let programs = programs(alloc, elements(manifest, "program"), &mut lowest)?;
     match lowest {
         None => Ok(Plan {
+            version,
             controllers,
             queues,
             tables,
@@ -62,6 +67,20 @@ fn document_fault(manifest: &Value) -> Option<FormFault>
         return Some(FormFault::Range);
     }
     None
+}
+
+// The version by whose rules the manifest is judged: 1 and 2 by these integers alone, and else 3.
+#[tactic(auto, unfolding(crate::specs::Entries::version_of))]
+fn version(manifest: &Value) -> Version
+    ensures { result ≡ version_of (view manifest.now) }
+{
+    if is_first(manifest) {
+        Version::One
+    } else if is_second(manifest) {
+        Version::Two
+    } else {
+        Version::Three
+    }
 }
 
 // Whether the manifest is of version 1, by the integer 1 alone.
@@ -97,18 +116,30 @@ fn document_has_form(manifest: &Value) -> bool
 fn document_has_ranges(manifest: &Value) -> bool
     ensures { result ≡ document_has_ranges (view manifest.now) }
 {
-    is_first(manifest) || (is_second(manifest) && number_of_controllers(manifest).is_some())
+    is_first(manifest) || (is_later(manifest) && number_of_controllers(manifest).is_some())
+}
+
+fn is_later(manifest: &Value) -> bool
+    ensures { result ≡ is_later (view manifest.now) }
+{
+    is_second(manifest) || is_third(manifest)
+}
+
+fn is_third(manifest: &Value) -> bool
+    ensures { result ≡ is_integer 3 (integer_at (codes "version") (view manifest.now)) }
+{
+    matches!(integer(manifest, "version"), Some(3))
 }
 
 fn is_second(manifest: &Value) -> bool
-    ensures { result ≡ is_integer 2 (integer_at (codes "version") (view manifest.now)) }
+    ensures { result ≡ is_second (view manifest.now) }
 {
     matches!(integer(manifest, "version"), Some(2))
 }
 
 // How many controllers there are: no number in version 1, and 0 where it is out of its range.
 #[tactic(auto, unfolding(crate::specs::Entries::controllers_of))]
-fn controllers(manifest: &Value) -> Option<u8>
+pub(crate) fn controllers(manifest: &Value) -> Option<u8>
     ensures { result ≡ controllers_of (view manifest.now) }
 {
     if is_first(manifest) {
@@ -161,20 +192,22 @@ fn queues<'a>(
     Ok(queues)
 }
 
-// The lengths of the tables, likewise.
+// The tables, likewise.
 fn tables(
     alloc: Global,
     entries: &[Value],
+    version: Version,
     lowest: &mut Option<FormFault>,
-) -> Result<Vec<u16>, AllocError>
-    ensures says { IfOk result (λ tables. lowest.new ≡ None → tables.items ≡ filter_map length_of (map view entries.now)) }
-    ensures fault { IfOk result (λ _. lowest.new ≡ lower lowest.old (lowest_among table_fault (map view entries.now))) }
+) -> Result<Vec<TableEntry>, AllocError>
+    ensures says { IfOk result (λ tables. lowest.new ≡ None → map table_seen tables.items ≡ filter_map (table_of version) (map view entries.now)) }
+    ensures fault { IfOk result (λ _. lowest.new ≡ lower lowest.old (lowest_among (table_fault version) (map view entries.now))) }
 {
     let mut tables = Vec::new(alloc);
     for entry in entries {
-        match table(entry) {
-            Ok(length) => tables.push(length)?,
-            Err(fault) => note(lowest, fault),
+        match table(alloc, version, entry) {
+            Ok(table) => tables.push(table)?,
+            Err(OrMemory::OutOfMemory) => return Err(AllocError),
+            Err(OrMemory::Fault(fault)) => note(lowest, fault),
         }
     }
     Ok(tables)

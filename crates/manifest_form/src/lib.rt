@@ -4,15 +4,15 @@
 #![tactic(auto)]
 
 mod code;
-mod document;
+pub mod document;
 mod entries;
 mod form;
 mod form_fault;
 mod migration;
 mod names;
 
-pub use entries::{FormError, ProgramEntry, QueueEntry, Source};
+pub use entries::{FormError, ProgramEntry, QueueEntry, Source, TableEntry};
 pub use form::{Plan, read};
 pub use form_fault::FormFault;
-pub use migration::under_one_controller;
+pub use migration::migrated;
 pub use names::{has_lawful_names, has_lawful_numbers};

@@ -9,7 +9,7 @@ use Rattle.world_calls.specs.declared.record.Record.TheVariants.{Called}
 use Rattle.world.specs.World.{Setup}
 
 abbrev pub no_setup : Setup
-no_setup = record { limits = of_queues 0 []; controllers = 0; queues = []; carried = None }
+no_setup = record { limits = of_queues 0 []; controllers = 0; tables = []; queues = []; carried = None }
 
 abbrev pub no_table : TableId
 no_table = record { words = 0; slots = 0; views_name = 0; atom = 0; block = 0; offset = 0; slot_names = [] }

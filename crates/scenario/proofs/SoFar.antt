@@ -17,6 +17,7 @@ use Rattle.scenario.specs.Said.{IfFault, IsFaulty, IsFaultyLine, Say, is_skipped
 use Rattle.scenario.specs.Steps.{steps_of, steps_said, with_first}
 use Rattle.scenario.proofs.Made.{call_is, drain_is}
 use Rattle.world_calls.specs.declared.call.Call.{Call}
+use Rattle.world_calls.specs.declared.trace.Version.{Version}
 
 -- ---- where a text is cut
 
@@ -70,51 +71,51 @@ by_drain number line lines calls drain e f = steps_by number line lines calls fa
 numbered_by : (number : ℕ) (line : List ℕ) (skipped : Bool) → is_skipped line ≡ skipped → numbered number (line ∷ []) ≡ (if skipped then [] else (number, Some line) ∷ [])
 numbered_by number line skipped e = ap (λ (b : Bool). if b then [] else (number, Some line) ∷ []) e
 
-pub skipped_line : (number : ℕ) (line : List ℕ) → is_skipped line ≡ true → AreOfLine number line []
-skipped_line number line e = record {
+pub skipped_line : (version : Version) (number : ℕ) (line : List ℕ) → is_skipped line ≡ true → AreOfLine version number line []
+skipped_line version number line e = record {
   apart = λ lines others. steps_by number line lines others true e ∙ ap (λ (front : List Step). front ++ steps_of (number + 1) lines others) (sym (steps_by number line [] [] true e));
-  said = ap (map line_of_step) (steps_by number line [] [] true e) ∙ sym (numbered_by number line true e);
+  said = ap (map (line_of_step version)) (steps_by number line [] [] true e) ∙ sym (numbered_by number line true e);
 }
 
-drain_line : (number : ℕ) (line : List ℕ) → is_skipped line ≡ false → command_text commands.Drain ≡ Some line → AreOfLine number line []
-drain_line number line e said =
-    let f = drain_is line said in record {
+drain_line : (version : Version) (number : ℕ) (line : List ℕ) → is_skipped line ≡ false → command_text version commands.Drain ≡ Some line → AreOfLine version number line []
+drain_line version number line e said =
+    let f = drain_is version line said in record {
       apart = λ lines others. by_drain number line lines others true e f ∙ ap (λ (front : List Step). front ++ steps_of (number + 1) lines others) (sym (by_drain number line [] [] true e f));
-      said = ap (map line_of_step) (by_drain number line [] [] true e f) ∙ (ap (λ (text : Option (List ℕ)). (number, text) ∷ []) said ∙ sym (numbered_by number line false e));
+      said = ap (map (line_of_step version)) (by_drain number line [] [] true e f) ∙ (ap (λ (text : Option (List ℕ)). (number, text) ∷ []) said ∙ sym (numbered_by number line false e));
     }
 
-call_line : (number : ℕ) (line : List ℕ) (call : Call) → is_skipped line ≡ false → command_text (commands.Call call) ≡ Some line → AreOfLine number line (call ∷ [])
-call_line number line call e said =
-    let f = call_is call line said in record {
+call_line : (version : Version) (number : ℕ) (line : List ℕ) (call : Call) → is_skipped line ≡ false → command_text version (commands.Call call) ≡ Some line → AreOfLine version number line (call ∷ [])
+call_line version number line call e said =
+    let f = call_is version call line said in record {
       apart = λ lines others. by_drain number line lines (call ∷ others) false e f ∙ ap (λ (front : List Step). front ++ steps_of (number + 1) lines others) (sym (by_drain number line [] (call ∷ []) false e f));
-      said = ap (map line_of_step) (by_drain number line [] (call ∷ []) false e f) ∙ (ap (λ (text : Option (List ℕ)). (number, text) ∷ []) said ∙ sym (numbered_by number line false e));
+      said = ap (map (line_of_step version)) (by_drain number line [] (call ∷ []) false e f) ∙ (ap (λ (text : Option (List ℕ)). (number, text) ∷ []) said ∙ sym (numbered_by number line false e));
     }
 
-pub command_line : (number : ℕ) (line : List ℕ) (command : Command) → is_skipped line ≡ false → command_text command ≡ Some line → AreOfLine number line (calls_in command)
-command_line number line (commands.Call call) e said = call_line number line call e said
-command_line number line commands.Drain e said = drain_line number line e said
+pub command_line : (version : Version) (number : ℕ) (line : List ℕ) (command : Command) → is_skipped line ≡ false → command_text version command ≡ Some line → AreOfLine version number line (calls_in command)
+command_line version number line (commands.Call call) e said = call_line version number line call e said
+command_line version number line commands.Drain e said = drain_line version number line e said
 
 -- ---- the lines in front
 
 -- The lines in front of this rest say the steps that they have by these calls, and the next line has that number. The calls of the
 -- lines that follow stand behind these.
-pub record AreSaidSoFar (text : List ℕ) (calls : List Call) (rest : List ℕ) (number : ℕ) : Type 0 where
+pub record AreSaidSoFar (version : Version) (text : List ℕ) (calls : List Call) (rest : List ℕ) (number : ℕ) : Type 0 where
   pub front : List (List ℕ)
   pub lines : lines_of text ≡ front ++ lines_of rest
   pub place : number ≡ length front + 1
-  pub said : Say front (steps_of 1 front calls)
+  pub said : Say version front (steps_of 1 front calls)
   pub apart : (others : List (List ℕ)) (more : List Call) → steps_of 1 (front ++ others) (calls ++ more) ≡ steps_of 1 front calls ++ steps_of number others more
 
-pub begin : (text : List ℕ) → AreSaidSoFar text [] text 1
-begin text = record { front = []; lines = refl; place = refl; said = refl; apart = λ others more. refl }
+pub begin : (version : Version) (text : List ℕ) → AreSaidSoFar version text [] text 1
+begin version text = record { front = []; lines = refl; place = refl; said = refl; apart = λ others more. refl }
 
-module _ (text : List ℕ) (calls : List Call) (rest : List ℕ) (number : ℕ) (so_far : AreSaidSoFar text calls rest number) where
+module _ (version : Version) (text : List ℕ) (calls : List Call) (rest : List ℕ) (number : ℕ) (so_far : AreSaidSoFar version text calls rest number) where
   module _ (line : List ℕ) (behind : List (List ℕ)) (first : lines_of rest ≡ line ∷ behind) where
     parts : lines_of text ≡ so_far.front ++ line ∷ behind
     parts = so_far.lines ∙ ap (λ (l : List (List ℕ)). so_far.front ++ l) first
 
     -- the line is not of the form, or memory was refused
-    pub first_faulty : (error : OrMemory FaultyLine) → IfFault (λ told. (told ≡ number) × IsFaulty line) error → IfFault (IsFaultyLine text) error
+    pub first_faulty : (error : OrMemory FaultyLine) → IfFault (λ told. (told ≡ number) × IsFaulty version line) error → IfFault (IsFaultyLine version text) error
     first_faulty OutOfMemory none = tt
     first_faulty (Fault fault) (is, faulty) = record {
       front = so_far.front;
@@ -127,16 +128,16 @@ module _ (text : List ℕ) (calls : List Call) (rest : List ℕ) (number : ℕ) 
       faulty = faulty;
     }
 
-    module _ (more : List Call) (are : AreOfLine number line more) where
+    module _ (more : List Call) (are : AreOfLine version number line more) where
       -- the steps are one more, if the line says anything
       steps_more : steps_of 1 (so_far.front ++ line ∷ []) (calls ++ more) ≡ steps_of 1 so_far.front calls ++ steps_of number (line ∷ []) more
       steps_more = so_far.apart (line ∷ []) more
 
-      say_more : Say (so_far.front ++ line ∷ []) (steps_of 1 (so_far.front ++ line ∷ []) (calls ++ more))
+      say_more : Say version (so_far.front ++ line ∷ []) (steps_of 1 (so_far.front ++ line ∷ []) (calls ++ more))
       say_more =
           let next : number ≡ 1 + length so_far.front = omega (arith, so_far.place) in
-          ap (map line_of_step) steps_more
-          ∙ (map-append line_of_step (steps_of 1 so_far.front calls) (steps_of number (line ∷ []) more)
+          ap (map (line_of_step version)) steps_more
+          ∙ (map-append (line_of_step version) (steps_of 1 so_far.front calls) (steps_of number (line ∷ []) more)
           ∙ ((λ i. so_far.said i ++ are.said i)
           ∙ (ap (λ (n : ℕ). numbered 1 so_far.front ++ numbered n (line ∷ [])) next
           ∙ sym (numbered_append 1 so_far.front (line ∷ [])))))
@@ -152,8 +153,8 @@ module _ (text : List ℕ) (calls : List Call) (rest : List ℕ) (number : ℕ) 
 
       module _ (new : List Call) (new_is : new ≡ calls ++ more) where
         -- the line was read, and others follow
-        pub one_more : (left : List ℕ) → behind ≡ lines_of left → AreSaidSoFar text new left (number + 1)
-        one_more left is = subst (λ (all : List Call). AreSaidSoFar text all left (number + 1)) (sym new_is) (record {
+        pub one_more : (left : List ℕ) → behind ≡ lines_of left → AreSaidSoFar version text new left (number + 1)
+        one_more left is = subst (λ (all : List Call). AreSaidSoFar version text all left (number + 1)) (sym new_is) (record {
           front = so_far.front ++ line ∷ [];
           lines = parts ∙ ap (λ (l : List (List ℕ)). so_far.front ++ line ∷ l) is ∙ sym (append_assoc so_far.front (line ∷ []) (lines_of left));
           place = omega (arith, so_far.place, length-append so_far.front (line ∷ []));
@@ -162,8 +163,8 @@ module _ (text : List ℕ) (calls : List Call) (rest : List ℕ) (number : ℕ) 
         })
 
         -- the line was read, and was the last
-        pub all_said : behind ≡ [] → Say (lines_of text) (steps_of 1 (lines_of text) new)
+        pub all_said : behind ≡ [] → Say version (lines_of text) (steps_of 1 (lines_of text) new)
         all_said is =
             let whole : so_far.front ++ line ∷ [] ≡ lines_of text = sym (parts ∙ ap (λ (l : List (List ℕ)). so_far.front ++ line ∷ l) is) in
-            subst (λ (all : List Call). Say (lines_of text) (steps_of 1 (lines_of text) all)) (sym new_is)
-            (subst (λ (lines : List (List ℕ)). Say lines (steps_of 1 lines (calls ++ more))) whole say_more)
+            subst (λ (all : List Call). Say version (lines_of text) (steps_of 1 (lines_of text) all)) (sym new_is)
+            (subst (λ (lines : List (List ℕ)). Say version lines (steps_of 1 lines (calls ++ more))) whole say_more)

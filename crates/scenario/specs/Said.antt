@@ -1,8 +1,9 @@
--- What a scenario's text says: for each line that is not skipped the step with its number and its command, in their order.
+-- What a scenario's text says in a version: for each line that is not skipped the step with its number and its command, in their order.
 use Rattle.std.specs.Prelude.{◌≡◌, ◌≢◌, ◌+◌, ◌==◌, ℕ, Bool, true, false, Option, Some, List, [], ◌∷◌, ◌++◌, length, map, if◌then◌else◌}
 use Rattle.std.specs.List.{slice_split}
 use Rattle.base.specs.declared.or_memory.OrMemory.{OrMemory}
 use Rattle.base.specs.declared.or_memory.OrMemory.TheVariants.{OutOfMemory, Fault}
+use Rattle.world_calls.specs.declared.trace.Version.{Version}
 use Rattle.scenario.specs.Commands.{Step, command_text}
 use Rattle.scenario.specs.declared.reading.FaultyLine.{FaultyLine}
 use Rattle.scenario.specs.declared.command.Command.{Command}
@@ -22,27 +23,27 @@ numbered number [] = []
 numbered number (line ∷ lines) = if is_skipped line then numbered (number + 1) lines else (number, Some line) ∷ numbered (number + 1) lines
 
 -- the number of a step's line, and the line that its command is spelled by
-abbrev pub line_of_step : Step → ℕ × Option (List ℕ)
-line_of_step step = (step.line, command_text step.command)
+abbrev pub line_of_step : Version → Step → ℕ × Option (List ℕ)
+line_of_step version step = (step.line, command_text version step.command)
 
 -- these steps are what the lines say, the first of which is line 1
-abbrev pub Say : List (List ℕ) → List Step → Type 0
-Say lines steps = map line_of_step steps ≡ numbered 1 lines
+abbrev pub Say : Version → List (List ℕ) → List Step → Type 0
+Say version lines steps = map (line_of_step version) steps ≡ numbered 1 lines
 
 -- a line that is not skipped, and spells no command
-abbrev pub IsFaulty : List ℕ → Type 0
-IsFaulty line = (is_skipped line ≡ false) × ((command : Command) → command_text command ≢ Some line)
+abbrev pub IsFaulty : Version → List ℕ → Type 0
+IsFaulty version line = (is_skipped line ≡ false) × ((command : Command) → command_text version command ≢ Some line)
 
 -- The line of that number is the first that is not of the form: those before it say some steps.
-pub record IsFaultyLine (text : List ℕ) (number : ℕ) : Type 0 where
+pub record IsFaultyLine (version : Version) (text : List ℕ) (number : ℕ) : Type 0 where
   pub front : List (List ℕ)
   pub line : List ℕ
   pub behind : List (List ℕ)
   pub lines : lines_of text ≡ front ++ line ∷ behind
   pub place : number ≡ length front + 1
   pub steps : List Step
-  pub before : Say front steps
-  pub faulty : IsFaulty line
+  pub before : Say version front steps
+  pub faulty : IsFaulty version line
 
 -- P of the faulty line's number, unless memory was refused
 abbrev pub IfFault : (ℕ → Type 0) → OrMemory FaultyLine → Type 0

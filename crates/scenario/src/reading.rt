@@ -8,7 +8,7 @@ use crate::command::{Command, command_of, is_drain};
 use crate::scenario::Scenario;
 use base::OrMemory;
 use std::alloc::{AllocError, Global};
-use world_calls::Call;
+use world_calls::{Call, Version};
 
 /// N1: the line of that number, from 1, is not of the form.
 #[derive(Clone, Copy, Debug, PartialEq, Eq)]
@@ -17,20 +17,20 @@ pub struct FaultyLine(pub usize);
 /// Why a scenario was not read: memory was refused, or a line is faulty.
 pub type ScenarioError = OrMemory<FaultyLine>;
 
-/// Reads the whole scenario: a step a line, in their order. Empty lines and those that begin with `#` are skipped. N1 tells the first
-/// line that is not of the form.
-pub fn read(alloc: Global, text: &str) -> Result<Scenario<'_>, ScenarioError>
-    ensures said { IfOk result (λ scenario. Say (lines_of text.now) scenario) }
-    ensures faulty { IfErr result (IfFault (IsFaultyLine text.now)) }
+/// Reads the whole scenario for an engine whose histories have that version: a step a line, in their order. Empty lines and those that
+/// begin with `#` are skipped. N1 tells the first line that is not of the form.
+pub fn read(alloc: Global, version: Version, text: &str) -> Result<Scenario<'_>, ScenarioError>
+    ensures said { IfOk result (λ scenario. Say version (lines_of text.now) scenario) }
+    ensures faulty { IfErr result (IfFault (IsFaultyLine version text.now)) }
 {
     let mut calls = room_for(alloc, text);
     let (mut rest, mut number) = (text, 1usize);
     while let Some((line, behind)) = rest.split_once('\n') {
-        keep(alloc, &mut calls, number, line)?;
+        keep(alloc, version, &mut calls, number, line)?;
         rest = behind;
         number += 1;
     }
-    keep(alloc, &mut calls, number, rest)?;
+    keep(alloc, version, &mut calls, number, rest)?;
     Ok(Scenario { text, calls })
 }
 
@@ -58,16 +58,17 @@ fn count_of(text: &str) -> usize {
 // Keeps what the line of that number asks for, if it says anything.
 fn keep(
     alloc: Global,
+    version: Version,
     calls: &mut Vec<Call>,
     number: usize,
     line: &str,
 ) -> Result<(), ScenarioError>
-    ensures { Keeps number line.now calls.old.items result calls.new.items }
+    ensures { Keeps version number line.now calls.old.items result calls.new.items }
 {
     if is_skipped(line) {
         return Ok(());
     }
-    match command_of(alloc, line)? {
+    match command_of(alloc, version, line)? {
         Some(command) => Ok(keep_call(calls, command)?),
         None => Err(OrMemory::Fault(FaultyLine(number))),
     }

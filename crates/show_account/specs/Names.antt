@@ -1,5 +1,6 @@
--- How statuses and final codes are named in words.
-use Rattle.std.specs.Prelude.{◌≡◌, ◌≢◌, ◌⊎◌, ◌++◌, ℕ, List, [], ◌∷◌, codes}
+-- How statuses, final codes and advice are named in words.
+use Rattle.std.specs.Prelude.{◌≡◌, ◌≢◌, ◌⊎◌, ◌++◌, ◌==◌, if◌then◌else◌, ℕ, List, [], ◌∷◌, codes}
+use Rattle.std.specs.Fmt.{decimal}
 use Rattle.ccb.specs.Status.{code_of}
 use Rattle.ccb.specs.declared.cam_status.CamStatus.{CamStatus}
 use Rattle.ccb.specs.declared.cam_status.CamStatus.TheVariants as statuses
@@ -16,6 +17,28 @@ status_name statuses.ScsiStatusError = codes "SCSI status error"
 status_name statuses.ScsiBusReset = codes "SCSI bus reset"
 status_name statuses.BusDeviceResetSent = codes "bus device reset sent"
 status_name statuses.RequeueRequest = codes "requeue request"
+
+-- the usual name of a word of advice; nothing if it has none
+abbrev pub advice_name : ℕ → List ℕ
+advice_name word =
+    if word == 0 then codes "none"
+    else if word == 1 then codes "test unit ready"
+    else if word == 2 then codes "start unit"
+    else if word == 3 then codes "request sense"
+    else if word == 4 then codes "abort"
+    else if word == 5 then codes "logical unit reset"
+    else if word == 6 then codes "target reset"
+    else if word == 7 then codes "bus reset"
+    else if word == 8 then codes "reconnect"
+    else []
+
+-- a word of advice in words: its name and itself, or itself alone
+abbrev pub advice_by : (name : List ℕ) → ℕ → List ℕ
+advice_by [] word = decimal word
+advice_by (character ∷ name) word = (character ∷ name) ++ (codes " (" ++ (decimal word ++ codes ")"))
+
+abbrev pub advice_text : ℕ → List ℕ
+advice_text word = advice_by (advice_name word) word
 
 -- it is the name of the status that the code is, or nothing if it is none
 abbrev pub IsNameOf : ℕ → List ℕ → Type 0

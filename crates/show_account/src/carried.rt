@@ -2,7 +2,7 @@
 // for which of them are wanted.
 
 use crate::fitting::fits_carried;
-use crate::line::put_head;
+use crate::line::{put_advised, put_class, put_head};
 use ccb::{Place, QueueId};
 use cli_text_page::Page;
 use engine_config::Config;
@@ -161,9 +161,9 @@ fn put_it(line: &CarriedLine, config: &Config, page: &mut Page) {
 fn put_ccb(it: &CarriedCcb, page: &mut Page) {
     page.fill(
         if it.is_active {
-            "ccb {} was carried over, and is active: priority {}, retries {}, attempts {}\n"
+            "ccb {} was carried over, and is active: priority {}, retries {}, attempts {}"
         } else {
-            "ccb {} was carried over, and waits: priority {}, retries {}, attempts {}\n"
+            "ccb {} was carried over, and waits: priority {}, retries {}, attempts {}"
         },
         &[
             u64::from(it.number.0),
@@ -172,6 +172,9 @@ fn put_ccb(it: &CarriedCcb, page: &mut Page) {
             u64::from(it.attempts),
         ],
     );
+    put_class(u64::from(it.class), page);
+    put_advised(u64::from(it.advice), page);
+    page.text("\n");
 }
 
 fn put_freeze(freeze: u32, holder: Holder, page: &mut Page) {

@@ -12,6 +12,6 @@ mod writing;
 pub use carried::put_carried_sums;
 pub use fitting::fits;
 pub use known::{Known, Missing};
-pub use line::{put_code, put_failure, put_why_not};
-pub use names::{name_of_code, status_name};
+pub use line::{put_advice, put_code, put_failure, put_why_not};
+pub use names::{advice_name, name_of_code, status_name};
 pub use writing::account;

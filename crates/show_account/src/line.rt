@@ -1,14 +1,15 @@
 // The line of an event: when, where, and what. It relies on `show_events` for its words, on `names` for names, and on `show_sense` for SCSI
 // statuses and sense data.
 
-ghost use Rattle.std.specs.Prelude.{ℕ, List};
+ghost use Rattle.std.specs.Prelude.{◌++◌, ℕ, List, codes};
+ghost use Rattle.std.specs.Fmt.{decimal};
 ghost use Rattle.cli_text_page.specs.Page.{Puts};
-ghost use Rattle.show_account.specs.Names.{IsCodeText, named_text, unnamed_text};
+ghost use Rattle.show_account.specs.Names.{IsCodeText, advice_text, named_text, unnamed_text};
 
-use crate::names::{failure_of, name_of_code, status_name};
+use crate::names::{advice_name, failure_of, name_of_code, status_name};
 use ccb::{CallRefusal, CamStatus, Place};
 use cli_text_page::Page;
-use show_events::{Cause, Event, Programs, Subject, Values};
+use show_events::{Cause, Event, Happening, Programs, Subject, Values};
 use show_sense::{put_scsi_status, put_sense, sense_code};
 
 /// How many digits a time has at least, and the bytes after it.
@@ -108,6 +109,9 @@ fn put_held(letter: u8, values: &Values, page: &mut Page) {
         b'v' => put_failure(values, page),
         b'y' => put_reported(values, page),
         b'k' => put_code(values.code, page),
+        b'l' => put_class(values.numbers[2], page),
+        b'a' => put_advised(values.numbers[2], page),
+        b'd' => put_advice(values.numbers[0], page),
         b'o' => page.shown(&values.refusal),
         b'p' => put_openings(values.numbers[2], page),
         b'w' => put_cause(values.cause, page),
@@ -121,7 +125,17 @@ pub fn put_why_not(event: &Event, page: &mut Page) {
     if event.values.refusal == CallRefusal::Unknown {
         put_unknown(&event.subject, page);
     } else {
-        page.text(event.values.refusal.cause());
+        page.text(cause_of(event));
+    }
+}
+
+// Why a call is refused that names what is there. A CCB is withdrawn only if it waits.
+fn cause_of(event: &Event) -> &'static str {
+    let is_withdrawal = matches!(event.happening, Happening::NotWithdrawn);
+    if is_withdrawal && event.values.refusal == CallRefusal::NotActive {
+        "it does not wait"
+    } else {
+        event.values.refusal.cause()
     }
 }
 
@@ -141,6 +155,43 @@ fn put_unknown(subject: &Subject, page: &mut Page) {
         page.text(place.kind_word());
         page.fill(" {}", &[u64::from(place.number())]);
     }
+}
+
+/// Puts the class of a CCB after a comma, if it has one.
+pub(crate) fn put_class(class: u64, page: &mut Page) {
+    if class != 0 {
+        page.fill(", class {}", &[class]);
+    }
+}
+
+/// Puts what was advised after a comma, if anything was.
+pub(crate) fn put_advised(word: u64, page: &mut Page) {
+    if word != 0 {
+        page.text(", advised ");
+        put_advice(word, page);
+    }
+}
+
+/// Puts a word of advice: its usual name with its number, or its number alone if it has no name.
+pub fn put_advice(word: u64, page: &mut Page)
+    ensures { Puts page.old (advice_text word) page.new }
+{
+    let name = advice_name(word);
+    if name.is_empty() {
+        page.number(word);
+    } else {
+        put_advice_named(name, word, page);
+    }
+}
+
+// Puts a word of advice under its name.
+fn put_advice_named(name: &str, word: u64, page: &mut Page)
+    ensures { Puts page.old (name.now ++ (codes " (" ++ (decimal word ++ codes ")"))) page.new }
+{
+    page.text(name);
+    page.text(" (");
+    page.number(word);
+    page.text(")");
 }
 
 // So many openings.

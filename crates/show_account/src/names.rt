@@ -1,7 +1,7 @@
-// The names of statuses and final codes in words. It relies on `ccb` for these.
+// The names of statuses, final codes and advice in words. It relies on `ccb` for these.
 
 ghost use Rattle.std.specs.Prelude.{◌≡◌};
-ghost use Rattle.show_account.specs.Names.{IsNameOf, status_name};
+ghost use Rattle.show_account.specs.Names.{IsNameOf, advice_name, status_name};
 
 use ccb::CamStatus;
 
@@ -20,6 +20,24 @@ pub fn status_name(status: CamStatus) -> &'static str
         CamStatus::ScsiBusReset => "SCSI bus reset",
         CamStatus::BusDeviceResetSent => "bus device reset sent",
         CamStatus::RequeueRequest => "requeue request",
+    }
+}
+
+/// The usual name of a word of advice; nothing if it has none, as the words from 65,536 on, which are the host's own.
+pub fn advice_name(word: u64) -> &'static str
+    ensures { result.now ≡ advice_name word }
+{
+    match word {
+        0 => "none",
+        1 => "test unit ready",
+        2 => "start unit",
+        3 => "request sense",
+        4 => "abort",
+        5 => "logical unit reset",
+        6 => "target reset",
+        7 => "bus reset",
+        8 => "reconnect",
+        _ => "",
     }
 }
 

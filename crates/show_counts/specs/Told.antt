@@ -5,7 +5,7 @@ use Rattle.helpers.specs.Table.{number_of}
 use Rattle.world_calls.specs.declared.call.Call.{Call}
 use Rattle.world_calls.specs.declared.call.Call.TheVariants.{Submit, Dispatch, Complete}
 use Rattle.world_calls.specs.declared.call_answer.CallAnswer.{CallAnswer}
-use Rattle.world_calls.specs.declared.call_answer.CallAnswer.TheVariants.{Ccb, Done, Started}
+use Rattle.world_calls.specs.declared.call_answer.CallAnswer.TheVariants.{Ccb, Advised, Done, Started}
 use Rattle.world_calls.specs.declared.carried_line.CarriedLine.{CarriedLine}
 use Rattle.world_calls.specs.declared.carried_line.CarriedLine.TheVariants as lines
 use Rattle.world_calls.specs.declared.record.Record.{Record}
@@ -30,6 +30,12 @@ abbrev pub ccb_in : CallAnswer → Option ℕ
 ccb_in (Ccb ccb) = Some ccb.0
 ccb_in answer = None
 
+-- the CCB that a start was answered by, alone or with what is advised
+abbrev pub started_in : CallAnswer → Option ℕ
+started_in (Ccb ccb) = Some ccb.0
+started_in (Advised ccb advice) = Some ccb.0
+started_in answer = None
+
 -- the run that a call was answered by
 abbrev pub run_in : CallAnswer → Option ℕ
 run_in (Started run freeze) = Some run
@@ -42,7 +48,7 @@ completed_in (Started run freeze) ccb = Some ccb
 completed_in answer ccb = None
 
 abbrev pub submitted_by : CallAnswer → Call → Option (ℕ × ℕ)
-submitted_by answer (Submit queue priority retries) = pair_with (ccb_in answer) queue.0
+submitted_by answer (Submit queue priority retries class) = pair_with (ccb_in answer) queue.0
 submitted_by answer call = None
 
 -- a submission that was answered by a CCB: the CCB, and the queue
@@ -51,7 +57,7 @@ submission (Called answer call) = submitted_by answer call
 submission (Advance run instructions stop r0) = None
 
 abbrev pub started_by : CallAnswer → Call → Option (ℕ × ℕ)
-started_by answer (Dispatch queue) = pair_with (ccb_in answer) queue.0
+started_by answer (Dispatch queue) = pair_with (started_in answer) queue.0
 started_by answer call = None
 
 -- a start that was answered by a CCB: the CCB, and the queue

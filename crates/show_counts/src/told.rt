@@ -2,7 +2,7 @@
 // and lines.
 
 ghost use Rattle.std.specs.Prelude.{◌≡◌};
-ghost use Rattle.show_counts.specs.Told.{carried, ccb_in, code_at, completed_by, completed_in, completion, failure, finish, finished_by, helper_at, helper_call, its_second, pair_with, recovered_by, recovery, run_in, start, started_by, submission, submitted_by, told_by, zero_answer};
+ghost use Rattle.show_counts.specs.Told.{carried, ccb_in, code_at, completed_by, completed_in, completion, failure, finish, finished_by, helper_at, helper_call, its_second, pair_with, recovered_by, recovery, run_in, start, started_by, started_in, submission, submitted_by, told_by, zero_answer};
 
 use world_calls::{Call, CallAnswer, CarriedLine, Record, StoppedAt};
 
@@ -73,6 +73,16 @@ fn ccb_in(answer: CallAnswer) -> Option<u32>
     }
 }
 
+fn started_in(answer: CallAnswer) -> Option<u32>
+    ensures { result ≡ started_in answer }
+{
+    match answer {
+        CallAnswer::Ccb(ccb) => Some(ccb.0),
+        CallAnswer::Advised(ccb, _) => Some(ccb.0),
+        _ => None,
+    }
+}
+
 fn run_in(answer: CallAnswer) -> Option<u32>
     ensures { result ≡ run_in answer }
 {
@@ -100,6 +110,7 @@ fn submitted_by(answer: CallAnswer, call: &Call) -> Option<(u32, u32)>
             queue,
             priority: _,
             retries: _,
+            class: _,
         } => pair_with(ccb_in(answer), queue.0),
         _ => None,
     }
@@ -109,7 +120,7 @@ fn started_by(answer: CallAnswer, call: &Call) -> Option<(u32, u32)>
     ensures { result ≡ started_by answer call.now }
 {
     match call {
-        Call::Dispatch { queue } => pair_with(ccb_in(answer), queue.0),
+        Call::Dispatch { queue } => pair_with(started_in(answer), queue.0),
         _ => None,
     }
 }

@@ -1,5 +1,5 @@
 -- What was decided, in words.
-use Rattle.std.specs.Prelude.{◌≡◌, ◌++◌, ℕ, List, [], ◌∷◌, Option, Some, None, codes, encode_utf8}
+use Rattle.std.specs.Prelude.{◌≡◌, ◌++◌, ◌==◌, if◌then◌else◌, ℕ, List, [], ◌∷◌, Option, Some, None, codes, encode_utf8}
 use Rattle.std.specs.Fmt.{decimal}
 use Rattle.std.specs.List.{flat_map}
 use Rattle.ccb.specs.Places.{kind_word, number_of}
@@ -8,7 +8,7 @@ use Rattle.world_calls.specs.declared.record.Record.{Record}
 use Rattle.world_calls.specs.declared.record.Record.TheVariants.{Called, Advance}
 use Rattle.world_calls.specs.declared.record.StoppedAt.{StoppedAt}
 use Rattle.world_calls.specs.declared.record.StoppedAt.TheVariants as stops
-use Rattle.show_account.specs.Names.{IsCodeText}
+use Rattle.show_account.specs.Names.{IsCodeText, advice_text}
 use Rattle.host_decision.specs.declared.decision.Decision.{Decision}
 use Rattle.host_decision.specs.declared.decision.End.{End}
 use Rattle.host_decision.specs.declared.decision.End.TheVariants.{Requeued, Finished, Kept}
@@ -19,6 +19,10 @@ abbrev pub IsEndText : End → ℕ → List ℕ → Type 0
 IsEndText (Requeued now) retries text = text ≡ codes "requeued, retries " ++ decimal retries ++ (codes ", then " ++ decimal now)
 IsEndText (Finished code) retries text = (named : List ℕ) × IsCodeText code named × (text ≡ codes "finished, " ++ named)
 IsEndText Kept retries text = text ≡ codes "left in recovery"
+
+-- what is advised for its next start, if anything is
+abbrev pub advised_text : ℕ → List ℕ
+advised_text word = if word == 0 then [] else codes ", advised " ++ advice_text word
 
 -- and of the freeze that was taken for the failure
 abbrev pub own_text : Option ℕ → List ℕ
@@ -51,9 +55,13 @@ traced_text (Advance run instructions stop r0) = stop_text stop
 abbrev pub rest_text : Decision → List Record → List ℕ
 rest_text decision records = own_text decision.freeze ++ (flat_map other_text decision.others.items ++ flat_map traced_text records)
 
+-- what stands after what became of the CCB
+abbrev pub last_text : Decision → List Record → List ℕ
+last_text decision records = advised_text decision.advice ++ rest_text decision records
+
 abbrev pub IsDecisionText : Decision → ℕ → List Record → List ℕ → Type 0
 IsDecisionText decision retries records text =
-    (end : List ℕ) × IsEndText decision.end retries end × (text ≡ end ++ rest_text decision records)
+    (end : List ℕ) × IsEndText decision.end retries end × (text ≡ end ++ last_text decision records)
 
 -- how many instructions the run executed, of how many that it may
 abbrev pub instructions_text : (instructions budget : ℕ) → List ℕ

@@ -21,6 +21,10 @@ pub fn put_undecided(undecided: Undecided, config: &Config, question: &Question,
             page.text(" is no failure\n");
         }
         Undecided::Clock => page.fill("the clock reads {} at most\n", &[LAST_READING]),
+        Undecided::Class => page.fill(
+            "the ccb has class {}, and only a manifest of version 3 gives classes\n",
+            &[u64::from(question.failure.class)],
+        ),
         Undecided::Word(place) => {
             if let Some(word) = question.words.get(place) {
                 put_word(config, *word, page);

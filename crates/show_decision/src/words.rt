@@ -5,11 +5,12 @@ ghost use Rattle.std.specs.Prelude.{◌++◌, ℕ, List, codes};
 ghost use Rattle.std.specs.Fmt.{decimal};
 ghost use Rattle.std.specs.List.{flat_map};
 ghost use Rattle.cli_text_page.specs.Page.{Puts, byte_digits};
-ghost use Rattle.show_decision.specs.Words.{IsDecisionText, IsEndText, bytes_text, character, instructions_text, other_text, own_text, stop_text, traced_text};
+ghost use Rattle.show_account.specs.Names.{advice_text};
+ghost use Rattle.show_decision.specs.Words.{IsDecisionText, IsEndText, advised_text, bytes_text, character, instructions_text, other_text, own_text, stop_text, traced_text};
 
 use cli_text_page::Page;
 use host_decision::{Decision, End, LeftFreeze};
-use show_account::put_code;
+use show_account::{put_advice, put_code};
 use world_calls::{Record, StoppedAt};
 
 /// Puts what was decided of a CCB that had so many retries, in a run with these records.
@@ -17,6 +18,7 @@ pub(crate) fn put_decision(decision: &Decision, retries: u32, records: &[Record]
     ensures { (text : List ℕ) × IsDecisionText decision.now retries records.now text × Puts page.old text page.new }
 {
     put_end(decision.end, retries, page);
+    put_advised(decision.advice, page);
     put_own(decision.freeze, page);
     put_others(&decision.others, page);
     put_all_traced(records, page);
@@ -62,6 +64,22 @@ fn put_finished(code: u8, page: &mut Page)
 {
     page.text("finished, ");
     put_code(code, page);
+}
+
+// Puts what is advised for its next start, if anything is.
+fn put_advised(word: u32, page: &mut Page)
+    ensures { Puts page.old (advised_text word) page.new }
+{
+    if word != 0 {
+        put_any_advice(u64::from(word), page);
+    }
+}
+
+fn put_any_advice(word: u64, page: &mut Page)
+    ensures { Puts page.old (codes ", advised " ++ advice_text word) page.new }
+{
+    page.text(", advised ");
+    put_advice(word, page);
 }
 
 // Puts what became of the freeze that was taken for the failure.

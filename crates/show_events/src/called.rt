@@ -4,7 +4,7 @@ use crate::event::{Cause, Event, Subject, Values};
 use crate::happening::Happening;
 use crate::times::RunTimes;
 use crate::walk::Walk;
-use ccb::{Place, QueueId};
+use ccb::{CamStatus, CcbId, Place, QueueId};
 use std::alloc::AllocError;
 use world_calls::{Call, CallAnswer, CompletionRecord};
 
@@ -21,9 +21,15 @@ impl Walk<'_> {
                 queue,
                 priority,
                 retries,
+                class,
             } => {
                 let _ = self.engine.call(call)?;
-                self.submitted(answer, *queue, *priority, *retries, events)
+                let values = Values::three(
+                    u64::from(*priority),
+                    u64::from(*retries),
+                    u64::from(class.unwrap_or(0)),
+                );
+                self.submitted(answer, *queue, values, events)
             }
             Call::Dispatch { queue } => {
                 let _ = self.engine.call(call)?;
@@ -32,6 +38,10 @@ impl Walk<'_> {
             Call::Complete { completion } => {
                 let _ = self.engine.call(call)?;
                 self.completed(answer, completion, events)
+            }
+            Call::Withdraw { ccb } => {
+                let _ = self.engine.call(call)?;
+                self.withdrawn(answer, *ccb, events)
             }
             Call::GuestFreeze { place, guest } => {
                 let _ = self.engine.call(call)?;
@@ -76,8 +86,7 @@ impl Walk<'_> {
         &mut self,
         answer: CallAnswer,
         queue: QueueId,
-        priority: u32,
-        retries: u32,
+        values: Values,
         events: &mut Vec<Event>,
     ) -> Result<(), AllocError> {
         let mut subject = Subject {
@@ -88,7 +97,6 @@ impl Walk<'_> {
             CallAnswer::Ccb(ccb) => {
                 self.times.submit(ccb.0, queue, self.engine.clock())?;
                 subject.ccb = Some(ccb.0);
-                let values = Values::numbers(u64::from(priority), u64::from(retries));
                 self.tell(subject, Happening::Submitted, values, events)
             }
             CallAnswer::Refused(refusal) => {
@@ -105,19 +113,13 @@ impl Walk<'_> {
         queue: QueueId,
         events: &mut Vec<Event>,
     ) -> Result<(), AllocError> {
-        let place = Place::Device(queue);
-        let mut subject = Subject {
-            place: Some(place),
+        let subject = Subject {
+            place: Some(Place::Device(queue)),
             ..Subject::default()
         };
         match answer {
-            CallAnswer::Ccb(ccb) => {
-                let waited = self.times.move_ccb(ccb.0, self.engine.clock())?;
-                let attempt = self.engine.ccb(ccb).map_or(0, |it| it.ccb().attempts);
-                subject.ccb = Some(ccb.0);
-                let values = Values::numbers(u64::from(attempt), waited);
-                self.tell(subject, Happening::Started, values, events)
-            }
+            CallAnswer::Ccb(ccb) => self.started(subject, ccb, 0, events),
+            CallAnswer::Advised(ccb, advice) => self.started(subject, ccb, advice, events),
             CallAnswer::Refused(refusal) => {
                 let frozen = self.frozen(self.what_stops(queue));
                 let happening = if frozen > 0 {
@@ -130,6 +132,52 @@ impl Walk<'_> {
                     ..Values::refused(refusal)
                 };
                 self.tell(subject, happening, values, events)
+            }
+            _ => Ok(()),
+        }
+    }
+
+    // A queue started a CCB, for which that was advised.
+    fn started(
+        &mut self,
+        queue: Subject,
+        ccb: CcbId,
+        advice: u32,
+        events: &mut Vec<Event>,
+    ) -> Result<(), AllocError> {
+        let waited = self.times.move_ccb(ccb.0, self.engine.clock())?;
+        let attempt = self.engine.ccb(ccb).map_or(0, |it| it.ccb().attempts);
+        let subject = Subject {
+            ccb: Some(ccb.0),
+            ..queue
+        };
+        let values = Values::three(u64::from(attempt), waited, u64::from(advice));
+        self.tell(subject, Happening::Started, values, events)
+    }
+
+    fn withdrawn(
+        &mut self,
+        answer: CallAnswer,
+        ccb: CcbId,
+        events: &mut Vec<Event>,
+    ) -> Result<(), AllocError> {
+        let subject = Subject {
+            ccb: Some(ccb.0),
+            place: self.times.queue_of(ccb.0).map(Place::Device),
+            ..Subject::default()
+        };
+        match answer {
+            CallAnswer::Ok => {
+                let waited = self.times.drop_ccb(ccb.0, self.engine.clock());
+                let values = Values {
+                    code: CamStatus::RequestAborted.code(),
+                    ..Values::numbers(waited, 0)
+                };
+                self.tell(subject, Happening::Withdrawn, values, events)
+            }
+            CallAnswer::Refused(refusal) => {
+                let values = Values::refused(refusal);
+                self.tell(subject, Happening::NotWithdrawn, values, events)
             }
             _ => Ok(()),
         }

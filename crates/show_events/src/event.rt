@@ -74,6 +74,14 @@ impl Values {
         }
     }
 
+    /// Three numbers alone.
+    pub(crate) fn three(first: u64, second: u64, third: u64) -> Self {
+        Values {
+            numbers: [first, second, third, 0, 0],
+            ..Values::none()
+        }
+    }
+
     /// A refusal alone.
     pub(crate) fn refused(refusal: CallRefusal) -> Self {
         Values {

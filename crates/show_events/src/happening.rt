@@ -5,10 +5,10 @@ use helpers::HelperEffect;
 /// What happened. Times are milliseconds of the trace's clock.
 #[derive(Clone, Copy)]
 pub enum Happening {
-    /// The CCB waits: its priority, and its retries.
+    /// The CCB waits: its priority, its retries, and its class, which is 0 if none is said.
     Submitted,
     NotSubmitted,
-    /// The CCB is active: for the so manieth time, and how long it waited.
+    /// The CCB is active: for the so manieth time, how long it waited, and what was advised for this start, or 0.
     Started,
     NotStarted,
     /// No CCB is started, since its queue or its controller is frozen.
@@ -21,6 +21,10 @@ pub enum Happening {
     FailedAtLimit,
     /// A completion was refused. The CCB has its queue if it was ever carried over or submitted.
     NotCompleted,
+    /// The host withdrew the CCB: how long it waited.
+    Withdrawn,
+    /// A withdrawal was refused. The CCB has its queue if it was ever carried over or submitted.
+    NotWithdrawn,
     /// A guest took the freeze.
     FrozenByGuest,
     NotFrozenByGuest,
@@ -50,7 +54,7 @@ pub enum Happening {
     /// The run put the bytes into the trace.
     Traced,
     /// The run called a helper that does no more than read or write numbers: R1, R2 and R3 at the call, R0 after it, and R0 less R3.
-    /// Of a queue that is read: how many of its CCBs are active, how many wait, and its openings.
+    /// Of a queue that is read: how many of its CCBs are active, how many wait, and its openings. Of advice: the word.
     Helped(HelperEffect),
     /// The run ended: how many instructions it had in all, and R0.
     Ended,
@@ -62,6 +66,8 @@ pub enum Happening {
 // - `1` to `5`: numbers; `p`: the third number, of openings; `t`: so many times; `z`: that the place is frozen so many times still, or thawed;
 // - `s`: a CAM status by its name; `v`: what became of a CCB that failed; `y`: the SCSI status and the sense that came, if any did; `k`: a final code by its name;
 // - `x`: why a call is refused; `o`: the code of the refusal;
+// - `l`: the class of the CCB behind a comma, and `a`: what was advised behind a comma; each of them is nothing if its number, the third one, is 0;
+// - `d`: what is advised, the first number, by its name;
 // - `g`: a guest; `n`: the name of the queue's program; `w`: why the freeze was there; `b`: bytes, as digits and as text.
 impl Happening {
     /// Whether a completion was taken.
@@ -85,6 +91,7 @@ impl Happening {
                 | Happening::NotStarted
                 | Happening::NotStartedFrozen
                 | Happening::NotCompleted
+                | Happening::NotWithdrawn
                 | Happening::NotFrozenByGuest
                 | Happening::NotRead
                 | Happening::NotResumed
@@ -94,9 +101,9 @@ impl Happening {
     /// The words that tell it, with a letter after a `%` for each value.
     pub fn words(self) -> &'static str {
         match self {
-            Happening::Submitted => "%c waits: priority %1, retries %2",
+            Happening::Submitted => "%c waits: priority %1, retries %2%l",
             Happening::NotSubmitted => "no ccb is submitted: %x (%o)",
-            Happening::Started => "%c starts: attempt %1, it waited %2 ms",
+            Happening::Started => "%c starts: attempt %1, it waited %2 ms%a",
             Happening::NotStarted => "no ccb starts: %x (%o)",
             Happening::NotStartedFrozen => "no ccb starts: %x, %t (%o)",
             Happening::Completed => "%c is finished: request completed (01)%y after %1 ms",
@@ -104,6 +111,8 @@ impl Happening {
             Happening::FailedAtLimit =>
                 "%c %v after %1 ms: no freeze was taken, since a limit is reached; %r of %n begins",
             Happening::NotCompleted => "no completion of %c (%s%y): %x (%o)",
+            Happening::Withdrawn => "%c is withdrawn after it waited %1 ms: %k",
+            Happening::NotWithdrawn => "no withdrawal of %c: %x (%o)",
             Happening::FrozenByGuest => "frozen %t: guest %g took %f",
             Happening::NotFrozenByGuest => "no freeze for guest %g: %x (%o)",
             Happening::GivenBackByGuest => "%z: guest %g gave %f back after %1 ms",
@@ -134,6 +143,7 @@ fn words_of_effect(effect: HelperEffect) -> &'static str {
         HelperEffect::AddWord => "%r added to word %2 of table %1: %5, then %4",
         HelperEffect::TellQueue => "%r read its queue: frozen %t, %1 active, %2 waiting, %p",
         HelperEffect::SetOpenings => "%r set the openings: %4, then %1",
+        HelperEffect::Advise => "%r advised %d",
         HelperEffect::TellController => "%r read how often it is frozen: %t",
         _ => "%r read the clock",
     }

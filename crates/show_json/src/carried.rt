@@ -2,7 +2,7 @@
 
 use crate::event::OPENINGS;
 use crate::json::Json;
-use crate::reported::{put_holder, put_place};
+use crate::reported::{put_advice, put_class, put_holder, put_place};
 use engine_config::Config;
 use freeze_ledger::Freeze;
 use world_calls::{CarriedCcb, CarriedLine};
@@ -90,7 +90,9 @@ fn put_ccb(it: &CarriedCcb, json: &mut Json) {
     json.number("queue", u64::from(it.queue.0));
     json.number("priority", u64::from(it.priority));
     json.number("retries", u64::from(it.retries));
+    put_class(u64::from(it.class), json);
     json.number("attempts", u64::from(it.attempts));
+    put_advice(u64::from(it.advice), json);
     json.word("state", if it.is_active { "active" } else { "waiting" });
     json.end();
 }

@@ -3,7 +3,10 @@
 
 use crate::json::Json;
 use crate::kinds::{helper_of, kind_of};
-use crate::reported::{put_code, put_helper, put_place, put_scsi_status, put_sense, put_status};
+use crate::reported::{
+    put_advice, put_any_advice, put_class, put_code, put_helper, put_place, put_scsi_status,
+    put_sense, put_status,
+};
 use helpers::HelperEffect;
 use show_account::put_why_not;
 use show_events::{Cause, Event, Happening, Programs, Subject, Values};
@@ -75,10 +78,16 @@ fn put_values(event: &Event, json: &mut Json) {
         Happening::Submitted => {
             json.number("priority", values.numbers[0]);
             json.number("retries", values.numbers[1]);
+            put_class(values.numbers[2], json);
         }
         Happening::Started => {
             json.number("attempt", values.numbers[0]);
             json.digits("waited", values.numbers[1]);
+            put_advice(values.numbers[2], json);
+        }
+        Happening::Withdrawn => {
+            json.digits("waited", values.numbers[0]);
+            put_final(values.code, json);
         }
         Happening::NotStartedFrozen | Happening::NotFrozenByRun | Happening::FrozenByRun => {
             json.number("frozen", u64::from(values.frozen));
@@ -186,6 +195,7 @@ fn put_numbers(effect: HelperEffect, values: &Values, json: &mut Json) {
             json.number("openings_before", answer);
             json.number(OPENINGS, first);
         }
+        HelperEffect::Advise => put_any_advice(first, json),
         HelperEffect::TellClock => json.digits("r0", answer),
         _ => json.number("frozen", u64::from(values.frozen)),
     }
@@ -196,6 +206,13 @@ fn put_place_of_word(table: u64, index: u64, json: &mut Json) {
     json.number("index", index);
 }
 
+// The final code of a CCB.
+fn put_final(code: u8, json: &mut Json) {
+    json.begin_at("final");
+    put_code(code, json);
+    json.end();
+}
+
 // What else a run did.
 fn put_step(event: &Event, json: &mut Json) {
     let values = &event.values;
@@ -204,11 +221,7 @@ fn put_step(event: &Event, json: &mut Json) {
             json.number("retries_before", values.numbers[0]);
             json.number("retries", values.numbers[1]);
         }
-        Happening::Finished => {
-            json.begin_at("final");
-            put_code(values.code, json);
-            json.end();
-        }
+        Happening::Finished => put_final(values.code, json),
         Happening::Traced => {
             json.bytes("bytes", values.bytes.as_slice());
             json.ascii("text", values.bytes.as_slice());

@@ -13,6 +13,8 @@ pub fn kind_of(happening: Happening) -> &'static str {
         Happening::Completed => "completed",
         Happening::Failed | Happening::FailedAtLimit => "failed",
         Happening::NotCompleted => "completion_refused",
+        Happening::Withdrawn => "withdrawn",
+        Happening::NotWithdrawn => "withdraw_refused",
         Happening::FrozenByGuest => "frozen_by_guest",
         Happening::NotFrozenByGuest => "guest_freeze_refused",
         Happening::GivenBackByGuest => "released_by_guest",
@@ -43,6 +45,7 @@ fn kind_of_effect(effect: HelperEffect) -> &'static str {
         HelperEffect::TellQueue => "queue_read",
         HelperEffect::SetOpenings => "openings_set",
         HelperEffect::TellController => "controller_read",
+        HelperEffect::Advise => "advised",
         _ => "time_read",
     }
 }
@@ -74,6 +77,7 @@ fn helper_with(effect: HelperEffect) -> Helper {
         HelperEffect::TellQueue => Helper::QueueInfo,
         HelperEffect::SetOpenings => Helper::SetOpenings,
         HelperEffect::TellController => Helper::ControllerFreezes,
+        HelperEffect::Advise => Helper::Advise,
         _ => Helper::Now,
     }
 }

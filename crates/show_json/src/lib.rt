@@ -14,4 +14,6 @@ pub use carried::put_carried;
 pub use event::{OPENINGS, put_facts};
 pub use json::Json;
 pub use kinds::{helper_of, kind_of};
-pub use reported::{put_code, put_helper, put_holder, put_place, put_scsi_status, put_sense_code};
+pub use reported::{
+    put_advice_word, put_code, put_helper, put_holder, put_place, put_scsi_status, put_sense_code,
+};

@@ -5,13 +5,40 @@ use crate::json::Json;
 use ccb::{CamStatus, Place};
 use freeze_ledger::Holder;
 use helpers::Helper;
-use show_account::{name_of_code, status_name};
+use show_account::{advice_name, name_of_code, status_name};
 use show_sense::{SenseCode, scsi_status_name, sense_code, sense_key_name};
 
 /// Puts the members of a final code or of a CAM status: its two digits, and the name of the status that it is.
 pub fn put_code(code: u8, json: &mut Json) {
     json.bytes("code", &[code]);
     json.word("name", name_of_code(code));
+}
+
+// Puts the class of a CCB, if it has one.
+pub(crate) fn put_class(class: u64, json: &mut Json) {
+    if class != 0 {
+        json.number("class", class);
+    }
+}
+
+// Puts what was advised, if anything was.
+pub(crate) fn put_advice(word: u64, json: &mut Json) {
+    if word != 0 {
+        put_any_advice(word, json);
+    }
+}
+
+// Puts a word of advice: its number, and its usual name if it has one.
+pub(crate) fn put_any_advice(word: u64, json: &mut Json) {
+    json.begin_at("advice");
+    put_advice_word(word, json);
+    json.end();
+}
+
+/// Puts the members of a word of advice: its number and its usual name, which is empty if it has none.
+pub fn put_advice_word(word: u64, json: &mut Json) {
+    json.number("number", word);
+    json.word("name", advice_name(word));
 }
 
 // Puts a CAM status under a key.

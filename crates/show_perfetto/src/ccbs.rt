@@ -80,7 +80,7 @@ impl Ccbs {
                 Ok(())
             }
             Happening::Failed | Happening::FailedAtLimit => self.fail(ccb, event, at, output),
-            Happening::Finished => {
+            Happening::Finished | Happening::Withdrawn => {
                 let _ = self.failed.remove(&ccb);
                 Ok(())
             }

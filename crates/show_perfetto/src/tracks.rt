@@ -99,7 +99,7 @@ fn put_counts(event: &Event, at: u64, walk: &Walk<'_>, output: &mut Output) {
         return;
     };
     match event.happening {
-        Happening::Submitted | Happening::Started | Happening::Requeued => {
+        Happening::Submitted | Happening::Started | Happening::Withdrawn | Happening::Requeued => {
             let waiting = waiting(QueueId(event.queue().unwrap_or(u32::MAX)), walk);
             put_count("waiting", waiting, place, at, output);
         }

@@ -79,7 +79,9 @@ impl Tracking {
                 self.begin_ccb(event, Row::Waiting, at)
             }
             Happening::Started => self.begin_ccb(event, Row::Active, at),
-            Happening::Completed | Happening::FailedAtLimit => Ok(self.end_ccb(event, at)),
+            Happening::Completed | Happening::FailedAtLimit | Happening::Withdrawn => {
+                Ok(self.end_ccb(event, at))
+            }
             Happening::Failed => {
                 self.begin_freeze(event, Row::HeldByRun, of_run(event), at)?;
                 Ok(self.end_ccb(event, at))

@@ -14,6 +14,8 @@ pub struct Failure {
     pub sense: ShortBytes,
     /// How often the CCB may still be tried again.
     pub retries: u32,
+    /// What the host said that the command is; 0 if it said nothing.
+    pub class: u32,
     /// How often it was started.
     pub attempts: u32,
     /// What the clock reads, in milliseconds.

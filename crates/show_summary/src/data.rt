@@ -3,7 +3,7 @@
 
 use crate::left_data::put_left;
 use crate::places::{put_controllers, put_frozen, put_its_controller};
-use crate::queues::cell;
+use crate::queues::{cell, finishes};
 use crate::sums::Sums;
 use ccb::{Place, QueueId};
 use engine_config::Config;
@@ -55,6 +55,7 @@ fn put_all(sums: &Sums<'_>, json: &mut Json) {
     }
     json.end_list();
     sums.seen.tried.put(json);
+    sums.seen.advices.put(json);
     sums.seen.words.put(json);
     put_left(&sums.walk, json);
 }
@@ -81,27 +82,41 @@ fn put_counts(sums: &Sums<'_>, queue: u32, json: &mut Json) {
     let row = queue as usize;
     json.number("submissions", Counts::at(&counts.submissions, row));
     json.number("starts", Counts::at(&counts.starts, row));
-    put_codes("completions", &counts.completions, row, json);
+    put_completions(sums, row, json);
     sums.seen.reports.put(queue, json);
     json.number("recoveries", Counts::at(&counts.recoveries, row));
     let requeues = cell(row, HELPERS, u32::from(Helper::Requeue.number()));
     json.number("requeues", Counts::at(&counts.calls, requeues));
-    put_codes("finishes", &counts.finishes, row, json);
+    put_finishes(sums, row, json);
 }
 
-// The codes that there were, each with its name and how often it was.
-fn put_codes(key: &str, counts: &[u64], queue: usize, json: &mut Json) {
-    json.begin_list(key);
+// The statuses with which CCBs were completed.
+fn put_completions(sums: &Sums<'_>, queue: usize, json: &mut Json) {
+    json.begin_list("completions");
     for code in 0..CODES {
-        let count = Counts::at(counts, cell(queue, CODES, code));
-        if count > 0 {
-            json.begin();
-            put_code(u8::try_from(code).unwrap_or(u8::MAX), json);
-            json.number("count", count);
-            json.end();
-        }
+        let count = Counts::at(&sums.counts.completions, cell(queue, CODES, code));
+        put_count(code, count, json);
     }
     json.end_list();
+}
+
+// The codes with which runs finished CCBs, and that of those that were withdrawn.
+fn put_finishes(sums: &Sums<'_>, queue: usize, json: &mut Json) {
+    json.begin_list("finishes");
+    for code in 0..CODES {
+        put_count(code, finishes(sums, queue, code), json);
+    }
+    json.end_list();
+}
+
+// A code, with its name and how often it was, if it ever was.
+fn put_count(code: u32, count: u64, json: &mut Json) {
+    if count > 0 {
+        json.begin();
+        put_code(u8::try_from(code).unwrap_or(u8::MAX), json);
+        json.number("count", count);
+        json.end();
+    }
 }
 
 // How many CCBs of the queue wait and are active at the end, and by how many freezes it is frozen.

@@ -2,6 +2,7 @@
 // counted over the records alone, by `show_counts`; how long, over the events, which `show_events` tells.
 #![tactic(auto)]
 
+mod advices;
 mod attempts;
 mod data;
 mod durations;
@@ -17,6 +18,7 @@ mod reports;
 mod seen;
 mod summary;
 mod sums;
+mod withdrawals;
 mod words;
 
 pub use data::write_summary;

@@ -13,7 +13,7 @@ pub(crate) fn print_queue(sums: &Sums<'_>, queue: u32, page: &mut Page) {
     page.fill("queue {}, program ", &[u64::from(queue)]);
     page.foreign(sums.programs.name(sums.programs.of(queue)));
     print_completions(sums, queue, page);
-    print_recoveries(&sums.counts, queue as usize, page);
+    print_recoveries(sums, queue as usize, page);
     sums.seen.durations.print(queue, page);
     print_frozen(sums, Place::Device(QueueId(queue)), page);
     if sums.config.controllers() > 0 {
@@ -34,13 +34,14 @@ fn print_completions(sums: &Sums<'_>, queue: u32, page: &mut Page) {
         "\n  submissions   {}\n  starts        {}\n  completions   ",
         &[submissions, starts],
     );
-    print_codes(&counts.completions, row, page);
+    print_statuses(sums, row, page);
     page.text("\n");
     sums.seen.reports.print(queue, page);
 }
 
 // What the queue's runs did.
-fn print_recoveries(counts: &Counts, queue: usize, page: &mut Page) {
+fn print_recoveries(sums: &Sums<'_>, queue: usize, page: &mut Page) {
+    let counts = &sums.counts;
     let recoveries = Counts::at(&counts.recoveries, queue);
     let requeues = cell(queue, HELPERS, u32::from(Helper::Requeue.number()));
     let requeues = Counts::at(&counts.calls, requeues);
@@ -48,7 +49,7 @@ fn print_recoveries(counts: &Counts, queue: usize, page: &mut Page) {
         "  recoveries    {}\n  requeues      {}\n  finishes      ",
         &[recoveries, requeues],
     );
-    print_codes(&counts.finishes, queue, page);
+    print_finishes(sums, queue, page);
     page.text("\n");
 }
 
@@ -74,23 +75,41 @@ pub(crate) fn cell(queue: usize, columns: u32, column: u32) -> usize {
         .saturating_add(column as usize)
 }
 
-// The codes that there were, each with its name and how often it was.
-fn print_codes(counts: &[u64], queue: usize, page: &mut Page) {
-    let mut has_any = false;
+/// How many CCBs of a queue ended with that final code: by a run, or since they were withdrawn.
+pub(crate) fn finishes(sums: &Sums<'_>, queue: usize, code: u32) -> u64 {
+    let by_runs = Counts::at(&sums.counts.finishes, cell(queue, CODES, code));
+    by_runs.saturating_add(sums.seen.withdrawals.ended_with(queue, code))
+}
+
+// The statuses with which CCBs were completed, each with its name and how often it was.
+fn print_statuses(sums: &Sums<'_>, queue: usize, page: &mut Page) {
+    let before = page.len();
     for code in 0..CODES {
-        let count = Counts::at(counts, cell(queue, CODES, code));
-        if count > 0 {
-            page.text(if has_any { ", " } else { "" });
-            print_code(code, count, page);
-            has_any = true;
-        }
+        let count = Counts::at(&sums.counts.completions, cell(queue, CODES, code));
+        print_code(code, count, before, page);
     }
-    if !has_any {
-        page.text("none");
+    print_none(before, page);
+}
+
+// The codes with which CCBs ended otherwise, in the same way.
+fn print_finishes(sums: &Sums<'_>, queue: usize, page: &mut Page) {
+    let before = page.len();
+    for code in 0..CODES {
+        print_code(code, finishes(sums, queue, code), before, page);
+    }
+    print_none(before, page);
+}
+
+// A code in a list that begins after so many bytes, with its name and how often it was, if it ever was.
+fn print_code(code: u32, count: u64, before: usize, page: &mut Page) {
+    if count > 0 {
+        page.text(if page.len() > before { ", " } else { "" });
+        put_code(u8::try_from(code).unwrap_or(u8::MAX), page);
+        page.fill(": {}", &[count]);
     }
 }
 
-fn print_code(code: u32, count: u64, page: &mut Page) {
-    put_code(u8::try_from(code).unwrap_or(u8::MAX), page);
-    page.fill(": {}", &[count]);
+// What stands in such a list if no code does.
+fn print_none(before: usize, page: &mut Page) {
+    page.text(if page.len() > before { "" } else { "none" });
 }

@@ -1,5 +1,6 @@
 // What the events of a trace say that records alone do not. It relies on the modules that each follow one thing.
 
+use crate::advices::Advices;
 use crate::attempts::MostTried;
 use crate::durations::AllDurations;
 use crate::frozen::FrozenPlaces;
@@ -7,6 +8,7 @@ use crate::openings::AllOpenings;
 use crate::programs::AllInstructions;
 use crate::refusals::Refused;
 use crate::reports::Reports;
+use crate::withdrawals::Withdrawals;
 use crate::words::Words;
 use engine_config::Config;
 use show_events::{Event, Programs};
@@ -24,14 +26,19 @@ pub(crate) struct Seen {
     pub(crate) durations: AllDurations,
     pub(crate) reports: Reports,
     pub(crate) words: Words,
+    pub(crate) withdrawals: Withdrawals,
+    pub(crate) advices: Advices,
 }
 
 impl Seen {
-    /// Before the first record of a trace of this configuration.
-    pub(crate) fn new(alloc: Global, config: &Config) -> Result<Self, AllocError> {
+    /// Before the first record of a trace of this configuration, which begins or is continued.
+    pub(crate) fn new(alloc: Global, config: &Config, begins: bool) -> Result<Self, AllocError> {
         let durations = AllDurations::new(alloc, config.queues())?;
         let reports = Reports::new(alloc, config.queues())?;
-        let words = Words::new(alloc, config)?;
+        let mut words = Words::new(alloc, config)?;
+        if begins {
+            words.begin(config);
+        }
         Ok(Seen {
             frozen: FrozenPlaces::new(),
             openings: AllOpenings::new(config),
@@ -41,6 +48,8 @@ impl Seen {
             durations,
             reports,
             words,
+            withdrawals: Withdrawals::new(),
+            advices: Advices::new(alloc),
         })
     }
 
@@ -68,6 +77,8 @@ impl Seen {
         self.tried.see(event);
         self.refused.see(event);
         self.words.see(event);
+        self.withdrawals.see(event);
+        self.advices.see(event)?;
         self.durations.see(event)?;
         self.reports.see(event)
     }

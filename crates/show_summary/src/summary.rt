@@ -49,6 +49,7 @@ fn print_all(sums: &Sums<'_>, page: &mut Page) {
         print_program(sums, program, page);
     }
     sums.seen.tried.print(page);
+    sums.seen.advices.print(page);
     sums.seen.words.print(page);
     print_left(&sums.walk, page);
 }

@@ -28,11 +28,12 @@ impl<'a> Sums<'a> {
         shown: Shown<'_>,
     ) -> io::Result<Self> {
         let lines = shown.carried.unwrap_or(&[]);
+        let begins = shown.carried.is_none();
         let mut sums = Sums {
             config,
             programs: Programs::new(alloc, config, named)?,
             counts: count_records(alloc, config.queues(), lines, &shown.trace.records)?,
-            seen: Seen::new(alloc, config)?,
+            seen: Seen::new(alloc, config, begins)?,
             walk: Walk::of(alloc, config, shown)?,
         };
         let clock = sums.walk.clock();

@@ -23,6 +23,23 @@ impl Words {
         Ok(Words { tables })
     }
 
+    /// The words are those with which the configuration has its tables begin.
+    pub(crate) fn begin(&mut self, config: &Config) {
+        let mut table = 0u64;
+        for words in config.first_words() {
+            self.begin_table(table, words.as_slice());
+            table = table.saturating_add(1);
+        }
+    }
+
+    fn begin_table(&mut self, table: u64, words: &[u64]) {
+        let mut index = 0u64;
+        for word in words {
+            self.set(table, index, *word);
+            index = index.saturating_add(1);
+        }
+    }
+
     /// Takes a word that was carried over.
     pub(crate) fn carry(&mut self, table: u32, index: u32, word: u64) {
         self.set(u64::from(table), u64::from(index), word);

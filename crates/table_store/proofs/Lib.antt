@@ -1,1 +1,2 @@
 pub mod OneWord
+pub mod Firsts

@@ -2,11 +2,40 @@
 // All memory is taken when the tables are made. It relies on nothing but the standard library.
 #![tactic(auto)]
 
-ghost use Rattle.std.specs.Prelude.{◌≡◌, ◌+◌, ◌%◌, ◌^◌, ◌<◌, ◌↔◌, IsTrue, IfOk, length, map};
-ghost use Rattle.table_store.specs.Tables.{HasWord, with_word, word_at, zero_table};
+ghost use Rattle.std.specs.Prelude.{◌≡◌, ◌+◌, ◌%◌, ◌^◌, ◌<◌, ◌↔◌, IsTrue, IfOk, length, map, slice_index, slice_index_or, [], List, ℕ};
+ghost use Rattle.table_store.specs.Tables.{HasWord, table_with, tables_with, with_word, word_at, zero_table};
 
 use std::alloc::{AllocError, Global};
 use std::marker::Model;
+
+// The first words of the table of this number, none if there is no list for it.
+fn firsts_at(firsts: &[Vec<u64>], number: usize) -> &[u64]
+    ensures { result.now ≡ slice_index_or (map (λ words. words.items) firsts.now) number [] }
+{
+    match firsts.get(number) {
+        Some(words) => words.as_slice(),
+        None => &[],
+    }
+}
+
+// A table of this length that begins with these words.
+fn table_with(alloc: Global, length: u16, words: &[u64]) -> Result<Vec<u64>, AllocError>
+    ensures { IfOk result (λ table. table.items ≡ table_with length words.now) }
+{
+    let length = usize::from(length);
+    let mut table = Vec::with_capacity(alloc, length)?;
+    for index in 0..length {
+        table.push(word_of(words, index))?;
+    }
+    Ok(table)
+}
+
+// The word at this index, 0 if there are fewer.
+fn word_of(words: &[u64], index: usize) -> u64
+    ensures { result ≡ slice_index words.now index }
+{
+    words.get(index).copied().unwrap_or(0)
+}
 
 /// Tables of words. Contracts see the list of tables, each a list of its words.
 #[derive(Debug, Drop)]
@@ -31,6 +60,23 @@ impl TableStore {
         let mut tables = Vec::with_capacity(alloc, lengths.len())?;
         for length in lengths {
             tables.push(vec![in alloc; 0; usize::from(*length)]?)?;
+        }
+        Ok(TableStore { tables })
+    }
+
+    /// One table of each of these lengths in words, numbered from 0 in this order. Each begins with the words of its list, if there is
+    /// one, as many as it has room for, and its other words are 0. If memory is refused, nothing is kept.
+    pub fn with_words(
+        alloc: Global,
+        lengths: &[u16],
+        firsts: &[Vec<u64>],
+    ) -> Result<Self, AllocError>
+        ensures { IfOk result (λ store. store ≡ tables_with lengths.now (map (λ words. words.items) firsts.now)) }
+    {
+        let mut tables = Vec::with_capacity(alloc, lengths.len())?;
+        for number in 0..lengths.len() {
+            let table = table_with(alloc, lengths[number], firsts_at(firsts, number))?;
+            tables.push(table)?;
         }
         Ok(TableStore { tables })
     }

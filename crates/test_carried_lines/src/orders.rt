@@ -1,6 +1,7 @@
 // Lines in and out of order. It relies on `carried_lines`.
 
 use carried_lines::{Order, read_carried};
+use world_calls::Version;
 
 // Lines one after the other, and whether each is taken. A line that is refused changes nothing for those after it.
 const STEPS: [(&str, bool); 56] = [
@@ -72,7 +73,7 @@ const SHORT: [[&str; 3]; 4] = [
 
 // Whether the line of a text is taken; nothing if the text is of no line.
 fn taken(order: &mut Order, text: &str) -> Option<bool> {
-    let line = read_carried(text)?;
+    let line = read_carried(Version::Two, text)?;
     Some(order.take(&line))
 }
 

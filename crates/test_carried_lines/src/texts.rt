@@ -4,10 +4,12 @@ use carried_lines::{CARRIED, print_carried, read_carried};
 use ccb::{CcbId, Place, QueueId};
 use freeze_ledger::{Freeze, Holder};
 use trace_lines::{NoText, Text};
-use world_calls::{CarriedCcb, CarriedLine};
+use world_calls::{CarriedCcb, CarriedLine, Version};
 
-// Texts that are read, with the least and the greatest numbers.
-const AGAIN: [&str; 18] = [
+const VERSIONS: [Version; 3] = [Version::One, Version::Two, Version::Three];
+
+// Texts that are read in each version, with the least and the greatest numbers.
+const AGAIN: [&str; 15] = [
     "numbers 0 0 0",
     "numbers 4294967295 4294967295 4294967295",
     "clock 0",
@@ -16,9 +18,6 @@ const AGAIN: [&str; 18] = [
     "openings 4294967295 4294967295",
     "word 0 0 0",
     "word 4294967295 4294967295 18446744073709551615",
-    "ccb 0 0 0 0 0 waiting",
-    "ccb 17 3 128 5 1 active",
-    "ccb 4294967295 4294967295 4294967295 4294967295 4294967295 active",
     "freeze 0 queue 0 timer 0",
     "freeze 0 queue 0 guest 0",
     "freeze 0 controller 0 timer 0",
@@ -28,8 +27,22 @@ const AGAIN: [&str; 18] = [
     "freeze 4294967295 controller 4294967295 guest 4294967295",
 ];
 
-// Texts that are not read.
-const UNREAD: [&str; 48] = [
+// Texts of CCBs, which are read where these have neither class nor advice, and where they have both.
+const PLAIN: [&str; 3] = [
+    "ccb 0 0 0 0 0 waiting",
+    "ccb 17 3 128 5 1 active",
+    "ccb 4294967295 4294967295 4294967295 4294967295 4294967295 active",
+];
+
+const CLASSED: [&str; 4] = [
+    "ccb 0 0 0 0 0 0 0 waiting",
+    "ccb 17 3 128 5 1 40 0 active",
+    "ccb 17 3 128 5 1 0 65536 waiting",
+    "ccb 4294967295 4294967295 4294967295 4294967295 4294967295 4294967295 4294967295 active",
+];
+
+// Texts that are not read in any version.
+const UNREAD: [&str; 50] = [
     "",
     " ",
     "numbers",
@@ -67,6 +80,8 @@ const UNREAD: [&str; 48] = [
     "word 0 0 18446744073709551616",
     "ccb 1 2 3 4 5",
     "ccb 1 2 3 4 waiting",
+    "ccb 1 2 3 4 5 6 waiting",
+    "ccb 1 2 3 4 5 6 7 8 waiting",
     "ccb 1 2 3 4 5 ",
     "ccb 1 2 3 4 5 done",
     "ccb 1 2 3 4 5 Active",
@@ -80,14 +95,14 @@ const UNREAD: [&str; 48] = [
     "parks 1",
 ];
 
-// The text that is printed of a line after these bytes, if it has one.
-fn printed_as(line: &CarriedLine, before: &str, text: &str) -> bool {
+// The text that is printed of a line of the version after these bytes, if it has one.
+fn printed_as(version: Version, line: &CarriedLine, before: &str, text: &str) -> bool {
     let mut printed = Text::none();
     if before.len() > 64 {
         return false;
     }
     printed.put(before.as_bytes());
-    match print_carried(line, &mut printed) {
+    match print_carried(version, line, &mut printed) {
         Ok(()) => {
             let (front, rest) = printed.as_slice().split_at(before.len());
             front == before.as_bytes() && rest == text.as_bytes()
@@ -101,7 +116,9 @@ fn is_same_ccb(one: &CarriedCcb, other: &CarriedCcb) -> bool {
         && one.queue == other.queue
         && one.priority == other.priority
         && one.retries == other.retries
+        && one.class == other.class
         && one.attempts == other.attempts
+        && one.advice == other.advice
         && one.is_active == other.is_active
 }
 
@@ -137,12 +154,12 @@ fn is_same(one: &CarriedLine, other: &CarriedLine) -> bool {
 }
 
 // Whether the line is printed as this text, also after another one, and this text is read as the line.
-fn is_line_of(text: &str, line: &CarriedLine) -> bool {
-    let read = match read_carried(text) {
+fn is_line_of(version: Version, text: &str, line: &CarriedLine) -> bool {
+    let read = match read_carried(version, text) {
         Some(read) => is_same(&read, line),
         None => false,
     };
-    read && printed_as(line, "", text) && printed_as(line, "clock 1\n", text)
+    read && printed_as(version, line, "", text) && printed_as(version, line, "clock 1\n", text)
 }
 
 /// A line of each kind has the text that stands beside it, and that text is read as the line.
@@ -173,24 +190,28 @@ pub fn lines_have_these_texts() -> bool {
             },
         ),
         (
-            "ccb 17 3 128 5 2 waiting",
+            "ccb 17 3 128 5 2 42 7 waiting",
             CarriedLine::Ccb(CarriedCcb {
                 number: CcbId(17),
                 queue: QueueId(3),
                 priority: 128,
                 retries: 5,
+                class: 42,
                 attempts: 2,
+                advice: 7,
                 is_active: false,
             }),
         ),
         (
-            "ccb 18 0 1 2 4294967295 active",
+            "ccb 18 0 1 2 4294967295 0 0 active",
             CarriedLine::Ccb(CarriedCcb {
                 number: CcbId(18),
                 queue: QueueId(0),
                 priority: 1,
                 retries: 2,
+                class: 0,
                 attempts: 0xffff_ffff,
+                advice: 0,
                 is_active: true,
             }),
         ),
@@ -212,7 +233,7 @@ pub fn lines_have_these_texts() -> bool {
         ),
     ];
     for (text, line) in lines {
-        if !is_line_of(text, &line) {
+        if !is_line_of(Version::Three, text, &line) {
             return false;
         }
     }
@@ -221,54 +242,83 @@ pub fn lines_have_these_texts() -> bool {
 
 /// What is read of these texts is printed as the same text.
 pub fn texts_are_printed_again() -> bool {
-    for text in AGAIN {
-        let again = match read_carried(text) {
-            Some(line) => printed_as(&line, "", text),
-            None => false,
-        };
-        if !again {
+    for version in VERSIONS {
+        if !are_printed_again(version, &AGAIN) {
             return false;
         }
     }
-    true
+    are_printed_again(Version::One, &PLAIN)
+        && are_printed_again(Version::Two, &PLAIN)
+        && are_printed_again(Version::Three, &CLASSED)
 }
 
-/// These are texts of no line.
-pub fn texts_of_no_line() -> bool {
-    for text in UNREAD {
-        if read_carried(text).is_some() {
-            return false;
-        }
-    }
-    true
-}
-
-/// The longest texts of a CCB and of a freeze have exactly as many bytes as a line may have.
-pub fn longest_texts_fit() -> bool {
-    let texts = [
-        "ccb 4294967295 4294967295 4294967295 4294967295 4294967295 waiting",
-        "freeze 4294967295 controller 4294967295 timer 18446744073709551615",
-    ];
+fn are_printed_again(version: Version, texts: &[&str]) -> bool {
     for text in texts {
-        let again = match read_carried(text) {
-            Some(line) => printed_as(&line, "", text),
-            None => false,
-        };
-        if !again || text.len() != CARRIED {
+        if !is_printed_again(version, text) {
             return false;
         }
     }
     true
 }
 
-/// A freeze that a run holds has no text, and nothing is put.
+fn is_printed_again(version: Version, text: &str) -> bool {
+    match read_carried(version, text) {
+        Some(line) => printed_as(version, &line, "", text),
+        None => false,
+    }
+}
+
+/// These are texts of no line: some of them in no version, and those of CCBs with and without a class not in the others' version.
+pub fn texts_of_no_line() -> bool {
+    for version in VERSIONS {
+        if !are_unread(version, &UNREAD) {
+            return false;
+        }
+    }
+    are_unread(Version::One, &CLASSED)
+        && are_unread(Version::Two, &CLASSED)
+        && are_unread(Version::Three, &PLAIN)
+}
+
+fn are_unread(version: Version, texts: &[&str]) -> bool {
+    for text in texts {
+        if read_carried(version, text).is_some() {
+            return false;
+        }
+    }
+    true
+}
+
+/// The longest text of a CCB has exactly as many bytes as a line may have.
+pub fn longest_texts_fit() -> bool {
+    let text =
+        "ccb 4294967295 4294967295 4294967295 4294967295 4294967295 4294967295 4294967295 waiting";
+    is_printed_again(Version::Three, text) && text.len() == CARRIED
+}
+
+/// A freeze that a run holds has no text, nor has a CCB with an advice where there is none; and nothing is put.
 pub fn a_freeze_of_a_run_has_no_text() -> bool {
     let held = CarriedLine::Freeze(Freeze {
         number: 1,
         place: Place::Device(QueueId(0)),
         holder: Holder::Run(1),
     });
+    let advised = CarriedLine::Ccb(CarriedCcb {
+        number: CcbId(1),
+        queue: QueueId(0),
+        priority: 0,
+        retries: 0,
+        class: 0,
+        attempts: 0,
+        advice: 1,
+        is_active: false,
+    });
+    has_no_text(Version::Three, &held) && has_no_text(Version::Two, &advised)
+}
+
+fn has_no_text(version: Version, line: &CarriedLine) -> bool {
     let mut text = Text::none();
     text.put(b"clock 1\n");
-    print_carried(&held, &mut text) == Err(NoText) && text.as_slice() == b"clock 1\n".as_slice()
+    print_carried(version, line, &mut text) == Err(NoText)
+        && text.as_slice() == b"clock 1\n".as_slice()
 }

@@ -1,7 +1,7 @@
 // How an engine is asked: by its events, or by its methods. It relies on `engine_core` for both, and on `interpreter` for what a run
 // does apart.
 
-use ccb::{CcbId, Place};
+use ccb::{CcbId, Place, QueueId};
 use engine_core::{
     AdvanceAnswer, AdvanceFault, CallFault, CompleteAnswer, DriveFault, Engine, Event,
     ReleaseFault, Reply, Returned, Run, Stopped, Success,
@@ -12,6 +12,7 @@ use interpreter::{Segment, to_stop};
 use std::alloc::AllocError;
 use std::mem;
 use std::sync::Arc;
+use world_calls::Version;
 
 /// How an engine is asked.
 #[derive(Clone, Copy, Debug, PartialEq, Eq)]
@@ -54,8 +55,9 @@ fn by_method(engine: &mut Engine, event: Event<'_>) -> Reply {
             queue,
             priority,
             retries,
-        } => ccb_replied(engine.submit(queue, priority, retries)),
-        Event::Dispatch { queue } => ccb_replied(engine.dispatch(queue)),
+            class,
+        } => ccb_replied(engine.submit(queue, priority, retries, class)),
+        Event::Dispatch { queue } => start_replied(engine, queue),
         Event::Complete { completion } => match engine.complete(*completion) {
             Ok(CompleteAnswer::Done) => Reply::Success(Success::Done),
             Ok(CompleteAnswer::Started(run, freeze)) => Reply::Success(Success::Started(
@@ -65,6 +67,7 @@ fn by_method(engine: &mut Engine, event: Event<'_>) -> Reply {
             Err((fault, back)) if back == *completion => refused(fault),
             Err(_) => Reply::NotAdmitted(Returned::Nothing),
         },
+        Event::Withdraw { ccb } => withdraw_replied(engine.withdraw(ccb)),
         Event::Advance { run } => stop_replied(engine.go_on(run)),
         Event::Clock { reading } => count_replied(engine.clock(reading)),
         Event::GuestFreeze { place, guest } => match place {
@@ -89,6 +92,24 @@ fn refused(fault: CallFault) -> Reply {
 fn ccb_replied(answer: Result<CcbId, CallFault>) -> Reply {
     match answer {
         Ok(ccb) => Reply::Success(Success::Ccb(ccb)),
+        Err(fault) => refused(fault),
+    }
+}
+
+// A start in an engine without classes gives the CCB alone.
+fn start_replied(engine: &mut Engine, queue: QueueId) -> Reply {
+    match engine.dispatch(queue) {
+        Ok(start) => Reply::Success(match engine.version() {
+            Version::One | Version::Two => Success::Ccb(start.ccb),
+            Version::Three => Success::Advised(start),
+        }),
+        Err(fault) => refused(fault),
+    }
+}
+
+fn withdraw_replied(answer: Result<(), CallFault>) -> Reply {
+    match answer {
+        Ok(()) => Reply::Success(Success::Withdrawn),
         Err(fault) => refused(fault),
     }
 }

@@ -115,7 +115,8 @@ impl Desk {
     }
 
     fn attempt(&mut self, line: &str) -> Became {
-        match request_of(*self.out.allocator(), line, false) {
+        let version = self.asked.asked.engine.version();
+        match request_of(*self.out.allocator(), version, line, false) {
             Ok(Some(Request::Call(call))) => outcome_of(self.asked.call(&call)),
             Ok(Some(Request::Totals)) => Became::Sums,
             Ok(Some(Request::Step(run))) => outcome_of(self.asked.step(run)),

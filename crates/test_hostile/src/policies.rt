@@ -137,7 +137,7 @@ fn shut(engine: Engine) -> u32 {
 }
 
 fn start(engine: &mut Engine, queue: QueueId) -> bool {
-    engine.submit(queue, 10, 3).is_ok() && engine.dispatch(queue).is_ok()
+    engine.submit(queue, 10, 3, 0).is_ok() && engine.dispatch(queue).is_ok()
 }
 
 // The run of the CCB of that number, which fails.

@@ -27,6 +27,18 @@ const TEXT: &str = "camr-trace 1\nsubmit 0 10 3 = ccb 1\ndispatch 0 = ccb 1\n\
     complete 1 0c 02 700006000000000a00000000290000000000 = run 1 freeze 1\nadvance 1 3 helper 2 = 0\npark 1 = ok\n\
     resume 1 = ok\nadvance 1 2 helper 4 = 0\nadvance 1 2 exit = 0\nend 8 0 0 0\n";
 
+// One queue whose CCBs have classes, and whose policy advises the number 7 too.
+const CLASSED_MANIFEST: &str =
+    "version = 3\ncontrollers = 1\n[[queue]]\nopenings = 2\ncontroller = 0\nprogram = \"p1\"\n[[program]]\nname = \"p1\"\n\
+    asm = \"\"\"\njeq r2, 0, requeue\nmov64 r1, r2\ncall 2\nrequeue:\nmov64 r1, 7\ncall 15\nmov64 r1, 1\ncall 4\n\
+    mov64 r0, 0\nexit\n\"\"\"\n";
+
+// What it tells of a CCB that ends with sense data and starts once more, and of two withdrawals.
+const CLASSED_TEXT: &str = "camr-trace 3\nsubmit 0 10 3 5 = ccb 1\nsubmit 0 10 3 0 = ccb 2\n\
+    dispatch 0 = ccb 1 advice 0\ncomplete 1 0c 02 700006000000000a00000000290000000000 = run 1 freeze 1\n\
+    advance 1 3 helper 2 = 0\nadvance 1 2 helper 15 = 0\nadvance 1 2 helper 4 = 0\nadvance 1 2 exit = 0\n\
+    dispatch 0 = ccb 1 advice 7\nwithdraw 1 = C3\nwithdraw 2 = ok\nend 11 0 1 0\n";
+
 // What stands in traces, and what does not.
 const OTHERS: &[u8; 20] = b"0123456789 \n-=abcCQ~";
 
@@ -154,9 +166,14 @@ fn replay(
 }
 
 // Judges each front of the trace.
-fn judge_fronts(alloc: Global, manifest: &Manifest, seen: &mut Seen) -> Result<bool, AllocError> {
-    for end in 0..=TEXT.len() {
-        let Some(text) = front(TEXT, end) else {
+fn judge_fronts(
+    alloc: Global,
+    manifest: &Manifest,
+    whole: &'static str,
+    seen: &mut Seen,
+) -> Result<bool, AllocError> {
+    for end in 0..=whole.len() {
+        let Some(text) = front(whole, end) else {
             return Ok(false);
         };
         if !judge(alloc, manifest, text, seen)? {
@@ -167,9 +184,14 @@ fn judge_fronts(alloc: Global, manifest: &Manifest, seen: &mut Seen) -> Result<b
 }
 
 // The trace with another byte there, if that is another.
-fn changed(alloc: Global, at: usize, other: u8) -> Result<Option<Vec<u8>>, AllocError> {
+fn changed(
+    alloc: Global,
+    whole: &str,
+    at: usize,
+    other: u8,
+) -> Result<Option<Vec<u8>>, AllocError> {
     let mut text = Vec::new(alloc);
-    text.extend_from_slice(TEXT.as_bytes())?;
+    text.extend_from_slice(whole.as_bytes())?;
     match text.get_mut(at) {
         Some(byte) if *byte != other => *byte = other,
         _ => return Ok(None),
@@ -181,11 +203,12 @@ fn changed(alloc: Global, at: usize, other: u8) -> Result<Option<Vec<u8>>, Alloc
 fn judge_changed(
     alloc: Global,
     manifest: &Manifest,
+    whole: &str,
     at: usize,
     other: u8,
     seen: &mut Seen,
 ) -> Result<bool, AllocError> {
-    let Some(text) = changed(alloc, at, other)? else {
+    let Some(text) = changed(alloc, whole, at, other)? else {
         return Ok(true);
     };
     match str::from_utf8(&text) {
@@ -198,11 +221,12 @@ fn judge_changed(
 fn judge_all_changed(
     alloc: Global,
     manifest: &Manifest,
+    whole: &str,
     seen: &mut Seen,
 ) -> Result<bool, AllocError> {
-    for at in 0..TEXT.len() {
+    for at in 0..whole.len() {
         for other in OTHERS {
-            if !judge_changed(alloc, manifest, at, *other, seen)? {
+            if !judge_changed(alloc, manifest, whole, at, *other, seen)? {
                 return Ok(false);
             }
         }
@@ -210,17 +234,31 @@ fn judge_all_changed(
     Ok(true)
 }
 
-/// The whole one alone is a trace: each line ends with a line feed, the last too.
-pub fn fronts_of_a_trace(alloc: Global) -> Option<bool> {
-    let manifest = manifest_of(alloc, MANIFEST).ok()??;
+// Whether of the fronts of this trace of that manifest the whole one alone is a trace.
+fn whole_alone(alloc: Global, manifest: &str, text: &'static str) -> Option<bool> {
+    let manifest = manifest_of(alloc, manifest).ok()??;
     let mut seen = nothing();
-    let printed = judge_fronts(alloc, &manifest, &mut seen).ok()?;
+    let printed = judge_fronts(alloc, &manifest, text, &mut seen).ok()?;
     Some(printed && seen.read == 1 && seen.accepted == 1)
 }
 
-pub fn one_byte_of_a_trace_changed(alloc: Global) -> Option<bool> {
-    let manifest = manifest_of(alloc, MANIFEST).ok()??;
+/// The whole one alone is a trace: each line ends with a line feed, the last too.
+pub fn fronts_of_a_trace(alloc: Global) -> Option<bool> {
+    let plain = whole_alone(alloc, MANIFEST, TEXT)?;
+    let classed = whole_alone(alloc, CLASSED_MANIFEST, CLASSED_TEXT)?;
+    Some(plain && classed)
+}
+
+// Whether what is read of the changed traces is printed as it stood, where some are read and some are not.
+fn are_judged(alloc: Global, manifest: &str, text: &str) -> Option<bool> {
+    let manifest = manifest_of(alloc, manifest).ok()??;
     let mut seen = nothing();
-    let printed = judge_all_changed(alloc, &manifest, &mut seen).ok()?;
+    let printed = judge_all_changed(alloc, &manifest, text, &mut seen).ok()?;
     Some(printed && seen.read > 0 && seen.refused > 0)
+}
+
+pub fn one_byte_of_a_trace_changed(alloc: Global) -> Option<bool> {
+    let plain = are_judged(alloc, MANIFEST, TEXT)?;
+    let classed = are_judged(alloc, CLASSED_MANIFEST, CLASSED_TEXT)?;
+    Some(plain && classed)
 }

@@ -1,7 +1,7 @@
 // The calls of a host as they are, each with what it answers: their clauses stay here, so that the checks are proved without them.
 
 use ccb::{CamStatus, CcbId, Completion, Place, QueueId};
-use host_embedding::{CallResult, HostedEngine, Numbering, PutLines, RunHandle};
+use host_embedding::{CallResult, Fate, HostedEngine, Numbering, PutLines, RunHandle};
 use host_opening::{ManifestFault, OpenFault, RecoverFault, open, put_recover_fault, recover};
 use std::alloc::Global;
 
@@ -36,13 +36,13 @@ pub fn totals(engine: &HostedEngine) -> (u64, u32, u32, u32) {
 
 pub fn submit(engine: &mut HostedEngine, queue: u32, retries: u32) -> (CallResult, u32) {
     let mut ccb = 0;
-    let result = engine.submit(queue, 0, retries, &mut ccb);
+    let result = engine.submit(queue, 0, retries, 0, &mut ccb);
     (result, ccb)
 }
 
 pub fn dispatch(engine: &mut HostedEngine, queue: u32) -> (CallResult, u32) {
-    let mut ccb = 0;
-    let result = engine.dispatch(queue, &mut ccb);
+    let (mut ccb, mut advice) = (0, 0);
+    let result = engine.dispatch(queue, &mut ccb, &mut advice);
     (result, ccb)
 }
 
@@ -92,15 +92,15 @@ pub fn stretch(run: &mut RunHandle) -> CallResult {
 
 /// What is answered, and R0 if the run ended.
 pub fn advance(engine: &mut HostedEngine, run: &mut RunHandle) -> (CallResult, Option<u64>) {
-    let (mut r0, mut ended) = (0, false);
-    let result = engine.advance(run, &mut r0, &mut ended);
+    let (mut r0, mut ended, mut fate) = (0, false, Fate::Kept);
+    let result = engine.advance(run, &mut r0, &mut ended, &mut fate);
     (result, if ended { Some(r0) } else { None })
 }
 
 /// The same of all stops that the run comes to.
 pub fn drive(engine: &mut HostedEngine, run: &mut RunHandle) -> (CallResult, Option<u64>) {
-    let (mut r0, mut ended) = (0, false);
-    let result = engine.drive(run, &mut r0, &mut ended);
+    let (mut r0, mut ended, mut fate) = (0, false, Fate::Kept);
+    let result = engine.drive(run, &mut r0, &mut ended, &mut fate);
     (result, if ended { Some(r0) } else { None })
 }
 

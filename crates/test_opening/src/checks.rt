@@ -266,7 +266,7 @@ pub fn parks(alloc: Global) -> Option<bool> {
 pub fn faulty_manifests(alloc: Global) -> Option<bool> {
     let is_not_utf8 = matches!(&opened(alloc, &[0xff]), Err(OpenFault::NotUtf8));
     let mut place = [0; 10];
-    match opened(alloc, b"version = 3") {
+    match opened(alloc, b"version = 4") {
         Err(OpenFault::Manifest(fault)) => {
             let count = put_fault(alloc, &fault, &mut place);
             Some(is_not_utf8 && has_text(&place, count, "M2"))

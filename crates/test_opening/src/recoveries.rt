@@ -265,7 +265,7 @@ pub fn faulty_manifests_come_first(alloc: Global) -> Option<bool> {
     let _room = engine_at(alloc, "camr-trace 2\n")?;
     let manifest = MANIFEST.as_bytes();
     Some(
-        is_faulty(alloc, "version = 3", b"camr", "M2")
+        is_faulty(alloc, "version = 4", b"camr", "M2")
             && matches!(
                 recovered(alloc, &[0xff], b"camr"),
                 Err(RecoverFault::NotUtf8)

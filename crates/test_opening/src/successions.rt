@@ -181,7 +181,7 @@ fn is_as_it_was(engine: &mut HostedEngine) -> bool {
 pub fn refused_successions(alloc: Global) -> Option<bool> {
     let mut engine = held(alloc)?;
     Some(
-        by_text(alloc, &mut engine, b"version = 3") == (CallResult::Faulty, false)
+        by_text(alloc, &mut engine, b"version = 4") == (CallResult::Faulty, false)
             && by_text(alloc, &mut engine, &[0xff]) == (CallResult::NotUtf8, true)
             && by_text(alloc, &mut engine, ALONE.as_bytes()) == (CallResult::DoesNotFit, true)
             && is_as_it_was(&mut engine)
@@ -194,7 +194,7 @@ pub fn refused_successions(alloc: Global) -> Option<bool> {
 fn is_told_to_be_live(alloc: Global, engine: &mut HostedEngine, run: &mut RunHandle) -> bool {
     renew(alloc, engine, Numbering::Same) == CallResult::RunsLive
         && by_text(alloc, engine, &[0xff]) == (CallResult::RunsLive, true)
-        && by_text(alloc, engine, b"version = 3") == (CallResult::RunsLive, true)
+        && by_text(alloc, engine, b"version = 4") == (CallResult::RunsLive, true)
         && advance(engine, run) == (CallResult::NotStretched, None)
         && drive(engine, run) == (CallResult::Done, Some(7))
         && renew(alloc, engine, Numbering::Same) == CallResult::Done

@@ -27,7 +27,9 @@ enum Check {
     FewBytes,
     EachWrite,
     Records,
+    OfNoClasses,
     OfControllers,
+    OfClasses,
     Reading,
     Writers,
     RunWithoutMemory,
@@ -41,14 +43,16 @@ enum Check {
 }
 
 /// All checks, with their names.
-const CHECKS: [(&str, Check); 19] = [
+const CHECKS: [(&str, Check); 21] = [
     ("words_of_notices", Check::NoticeWords),
     ("a_run_tells", Check::RunTells),
     ("a_replay_tells", Check::ReplayTells),
     ("few_bytes_at_a_time", Check::FewBytes),
     ("each_write_fails_once", Check::EachWrite),
     ("lines_of_records", Check::Records),
+    ("lines_of_no_classes", Check::OfNoClasses),
     ("lines_of_controllers", Check::OfControllers),
+    ("lines_of_classes", Check::OfClasses),
     ("read_and_memory_refused_once", Check::Reading),
     ("writers_that_fail", Check::Writers),
     ("run_with_a_writer_without_memory", Check::RunWithoutMemory),
@@ -85,7 +89,9 @@ fn holds<R: Files + AllocGlobal + Threads + Wait + Sync>(
         Check::FewBytes => printing::few_bytes_at_a_time(alloc),
         Check::EachWrite => printing::each_write_fails_once(alloc),
         Check::Records => traces::lines_of_records(rt),
+        Check::OfNoClasses => traces::lines_of_no_classes(rt),
         Check::OfControllers => traces::lines_of_controllers(rt),
+        Check::OfClasses => traces::lines_of_classes(rt),
         Check::Reading => traces::read_and_memory_refused_once(alloc),
         Check::Writers => writers::writers_that_fail(rt, alloc).ok(),
         Check::RunWithoutMemory => writers::run_with_a_writer_without_memory(rt, alloc).ok(),

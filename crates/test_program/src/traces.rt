@@ -1,6 +1,6 @@
 // Texts that are traces are printed again as they stood. If all else of a text is in order, its line alone stands in data/: in
-// records.txt those of both versions, in of_controllers.txt those of the second alone. What is no trace stands in the cases of
-// `test_system`.
+// records.txt those of all versions, in of_no_classes.txt those of the first two, in of_controllers.txt those of the last two, and in
+// of_classes.txt those of the third alone. What is no trace stands in the cases of `test_system`.
 
 use base::OrMemory;
 use cli_commands::WriterSink;
@@ -10,15 +10,25 @@ use std::io::Write;
 use std::rt::Files;
 use trace::{print, read};
 
-/// The lines of both versions, and how many there are.
+/// The lines of all versions, and how many there are.
 const RECORDS: &str = "records.txt";
 
-const MANY: u32 = 34;
+const RECORD_COUNT: u32 = 31;
 
-/// The lines of the second version alone.
+/// The lines of the versions in which CCBs have no class and no advice.
+const OF_NO_CLASSES: &str = "of_no_classes.txt";
+
+const NO_CLASS_COUNT: u32 = 4;
+
+/// The lines of the versions that have controllers.
 const OF_CONTROLLERS: &str = "of_controllers.txt";
 
-const FEW: u32 = 7;
+const CONTROLLER_COUNT: u32 = 7;
+
+/// The lines of the version in which CCBs have a class and an advice.
+const OF_CLASSES: &str = "of_classes.txt";
+
+const CLASS_COUNT: u32 = 9;
 
 /// A small trace.
 const SMALL: &str =
@@ -77,11 +87,19 @@ fn all_read_of<R: Files + AllocGlobal>(rt: &R, path: &str, versions: &[u32]) -> 
 }
 
 pub fn lines_of_records<R: Files + AllocGlobal>(rt: &R) -> Option<bool> {
-    Some(all_read_of(rt, RECORDS, &[1, 2])? == MANY)
+    Some(all_read_of(rt, RECORDS, &[1, 2, 3])? == RECORD_COUNT)
+}
+
+pub fn lines_of_no_classes<R: Files + AllocGlobal>(rt: &R) -> Option<bool> {
+    Some(all_read_of(rt, OF_NO_CLASSES, &[1, 2])? == NO_CLASS_COUNT)
 }
 
 pub fn lines_of_controllers<R: Files + AllocGlobal>(rt: &R) -> Option<bool> {
-    Some(all_read_of(rt, OF_CONTROLLERS, &[2])? == FEW)
+    Some(all_read_of(rt, OF_CONTROLLERS, &[2, 3])? == CONTROLLER_COUNT)
+}
+
+pub fn lines_of_classes<R: Files + AllocGlobal>(rt: &R) -> Option<bool> {
+    Some(all_read_of(rt, OF_CLASSES, &[3])? == CLASS_COUNT)
 }
 
 /// If memory is refused that alone is told, and the same text is read then. Which call for memory is refused is set from outside.

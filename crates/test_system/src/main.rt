@@ -61,8 +61,8 @@ fn test_file<R: AllocGlobal + Threads + Wait + Sync, W: Write>(
 ) -> Result<()> {
     for case in &test_cases::read(rt.alloc(), text)? {
         test(rt, path, case, tally, out)?;
-        if let Some(migrated) = migrating::migrated(rt, rt.alloc(), case)? {
-            test(rt, path, &migrated, tally, out)?;
+        for migrated in &migrating::migrated(rt, rt.alloc(), case)? {
+            test(rt, path, migrated, tally, out)?;
         }
         if let Some(live) = living::live(rt, rt.alloc(), case)? {
             test(rt, path, &live, tally, out)?;

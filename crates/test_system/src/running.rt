@@ -42,7 +42,7 @@ pub fn run<R: Threads + Wait + Sync>(
 // Whether the second program carries these words out.
 fn is_inspected(words: &[String]) -> bool {
     match words.first() {
-        Some(word) => matches!(word.as_str(), "explain" | "show" | "decide"),
+        Some(word) => matches!(word.as_str(), "explain" | "show" | "decide" | "try"),
         None => false,
     }
 }
@@ -76,11 +76,30 @@ fn inspected<R: Threads + Wait + Sync>(
 ) -> u8 {
     match cli_inspect_line::plan(alloc, words) {
         Ok(plan) => match read_inspected(alloc, &plan, case) {
-            Ok(inputs) => inspect(rt, alloc, &plan, &inputs, &Silent, out, err),
+            Ok(inputs) => inspect_keeping(rt, alloc, &plan, &inputs, out, err),
             Err(fault) => report_unread(alloc, &plan, &fault, err),
         },
         Err(fault) => report_usage(&fault, out, err),
     }
+}
+
+// Carries a plan of the second out. What it keeps stands behind what went out.
+fn inspect_keeping<R: Threads + Wait + Sync>(
+    rt: &R,
+    alloc: Global,
+    plan: &InspectPlan,
+    inputs: &[Vec<u8>],
+    out: &mut Vec<u8>,
+    err: &mut Vec<u8>,
+) -> u8
+    requires { length inputs.now ≡ length (inspected_paths plan.now) }
+{
+    let mut kept = Vec::new(alloc);
+    let status = inspect(rt, alloc, plan, inputs, &Silent, out, &mut kept, err);
+    if out.extend_from_slice(kept.as_slice()).is_err() {
+        return Fault::OutOfMemory.report(err);
+    }
+    status
 }
 
 // Carries the plan out; what a live engine is asked is what comes on standard input.

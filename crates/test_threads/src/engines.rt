@@ -49,7 +49,7 @@ pub fn engine_of(alloc: Global, manifest: &str) -> Option<Engine> {
 }
 
 fn submit(engine: &mut Engine, queue: QueueId) -> bool {
-    engine.submit(queue, 1, 3).is_ok()
+    engine.submit(queue, 1, 3, 0).is_ok()
 }
 
 fn start(engine: &mut Engine, queue: QueueId) -> bool {

@@ -62,6 +62,7 @@ fn event_of(asked: Asked) -> Event<'static> {
             queue: QUEUE,
             priority: 10,
             retries: 3,
+            class: 0,
         },
         Asked::Dispatch => Event::Dispatch { queue: QUEUE },
         Asked::Resume(run) => Event::Resume { run },

@@ -32,6 +32,7 @@ fn submits<B: Object, R: Wait>(rt: &R, shared: &Shared<B>, caller: &mut Caller<B
         queue: QUEUE,
         priority: 1,
         retries: 0,
+        class: 0,
     };
     is_ccb(given(rt, shared, caller, event))
 }

@@ -225,6 +225,16 @@ impl Both {
         self.plain.recovering = self.plain.recovering.saturating_sub(1);
     }
 
+    // One is withdrawn, if one of that number waits.
+    fn withdraw(&mut self) {
+        let number = self.next_pair().number;
+        if !self.queue.waits(number) {
+            return;
+        }
+        self.queue.withdraw(number);
+        self.plain.waiting.retain(|other| other.number != number);
+    }
+
     fn set_openings(&mut self) {
         let openings = 1 + (self.numbers.next() % 200) as u8;
         self.queue.set_openings(openings);
@@ -244,7 +254,8 @@ impl Both {
             2 | 3 => self.put_back()?,
             4 => self.stop(),
             5 => self.leave(),
-            6 | 7 => self.start(),
+            6 => self.start(),
+            7 => self.withdraw(),
             _ if fills => self.insert()?,
             8 | 9 | 10 => self.start(),
             11 | 12 | 13 => self.stop(),

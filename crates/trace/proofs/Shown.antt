@@ -23,7 +23,7 @@ use Rattle.world_calls.specs.declared.totals.Totals.{Totals}
 use Rattle.world_calls.specs.declared.trace.Version.{Version}
 use Rattle.trace_lines.specs.Answers.{named_number_text, form_text, answer_text}
 use Rattle.trace_lines.specs.Calls.{word_of, word_text}
-use Rattle.trace_lines.specs.Lines.{slot_text, fields_text, line_text}
+use Rattle.trace_lines.specs.Lines.{may_lack, slot_text, fields_text, line_text}
 use Rattle.trace_lines.specs.Rows.{row_of, may_be}
 use Rattle.trace_lines.specs.Texts.{where_true, pair_text, is_byte, bytes_text, sense_text, code_text, number_text, long_number_text, helper_text, stop_text, field_text, told_by, tells_name, tells_bytes, tells_code}
 use Rattle.trace_lines.specs.declared.kind.Kind.{Kind}
@@ -162,6 +162,7 @@ most_of kinds.Status = 2
 most_of kinds.Byte = 2
 most_of kinds.Sense = 128
 most_of kinds.Stop = 160
+most_of kinds.Class = 20
 
 few_field : (kind : Kind) (value : Value) → IsFew (most_of kind) (field_text kind value)
 unfolding field_text
@@ -172,6 +173,7 @@ few_field kinds.Status (values.Status status) = few_where 2 (nat_lt 0 (code_of s
 few_field kinds.Byte (values.Byte byte) = few_where 2 (is_byte byte) (pair_text byte) (λ h. (omega arith, shown_pair byte (ltb-true byte 256 h)))
 few_field kinds.Sense (values.Bytes bytes) = few_sense bytes
 few_field kinds.Stop (values.Stop stop) = few_stop stop
+few_field kinds.Class (values.Number number) = few_number number
 few_field kind value = λ text e. absurd cc
 
 abbrev slot_most : Option Kind → ℕ
@@ -181,7 +183,7 @@ slot_most (Some kind) = 1 + most_of kind
 few_slot : (kind : Option Kind) (value : Option Value) → IsFew (slot_most kind) (slot_text kind value)
 few_slot None None = few_text 0 [] (omega arith) refl
 few_slot None (Some value) = λ text e. absurd cc
-few_slot (Some kind) None = λ text e. absurd cc
+few_slot (Some kind) None = few_where (1 + most_of kind) (may_lack kind) [] (λ h. (omega arith, refl))
 few_slot (Some kind) (Some value) = few_append 1 (most_of kind) (1 + most_of kind) (Some (codes " ")) (field_text kind value) (omega arith) (few_text 1 (codes " ") (omega arith) refl) (few_field kind value)
 
 abbrev fields_most : Slots Kind → ℕ
@@ -223,6 +225,9 @@ few_named name number few p = few_append 10 20 30 (Some name) (number_text numbe
 
 few_form : (form : Form) (answer : CallAnswer) → IsFew 60 (form_text form answer)
 few_form forms.Ccb (answers.Ccb ccb) = few_more 30 60 (named_number_text (codes "ccb ") ccb.0) (omega arith) (few_named (codes "ccb ") ccb.0 (omega arith) refl)
+few_form forms.Start (answers.Ccb ccb) = few_more 30 60 (named_number_text (codes "ccb ") ccb.0) (omega arith) (few_named (codes "ccb ") ccb.0 (omega arith) refl)
+few_form forms.Start (answers.Advised ccb advice) =
+    few_append 30 30 60 (named_number_text (codes "ccb ") ccb.0) (named_number_text (codes " advice ") advice) (omega arith) (few_named (codes "ccb ") ccb.0 (omega arith) refl) (few_named (codes " advice ") advice (omega arith) refl)
 few_form forms.Completed answers.Done = few_text 60 (codes "done") (omega arith) refl
 few_form forms.Completed (answers.Started run freeze) =
     few_append 30 30 60 (named_number_text (codes "run ") run) (named_number_text (codes " freeze ") freeze) (omega arith) (few_named (codes "run ") run (omega arith) refl) (few_named (codes " freeze ") freeze (omega arith) refl)
@@ -243,6 +248,7 @@ short_code refusal = search rules
 few_answer : (row : Row) (answer : CallAnswer) → IsFew 60 (answer_text row answer)
 few_answer row (answers.Refused refusal) = few_where 60 (may_be row refusal) (call_refusal_text refusal) (λ h. (omega (arith, at_most_40 (length (call_refusal_text refusal)) (short_code refusal)), shown_code refusal))
 few_answer row (answers.Ccb ccb) = few_form row.form (answers.Ccb ccb)
+few_answer row (answers.Advised ccb advice) = few_form row.form (answers.Advised ccb advice)
 few_answer row answers.Done = few_form row.form answers.Done
 few_answer row (answers.Started run freeze) = few_form row.form (answers.Started run freeze)
 few_answer row (answers.Freeze freeze) = few_form row.form (answers.Freeze freeze)

@@ -5,7 +5,7 @@ use Rattle.world_calls.specs.declared.record.Record.{Record}
 use Rattle.world_calls.specs.declared.totals.Totals.{Totals}
 use Rattle.world_calls.specs.declared.trace.Trace.{Trace}
 use Rattle.world_calls.specs.declared.trace.Version.{Version}
-use Rattle.world_calls.specs.declared.trace.Version.TheVariants.{One, Two}
+use Rattle.world_calls.specs.declared.trace.Version.TheVariants.{One, Three, Two}
 use Rattle.trace_lines.specs.Calls.{word_text}
 use Rattle.trace_lines.specs.Lines.{line_text, fields_text}
 use Rattle.trace_lines.specs.Rows.{row_of}
@@ -43,26 +43,33 @@ behind_header text trace e =
 pub no_header : (text : List ℕ) → ((version : Version) (rest : List ℕ) → text ≢ header version ++ rest) → (trace : Trace) → trace_text trace ≡ Some text → ⊥
 no_header text apart trace e = let its = behind_header text trace e in apart trace.version its.0 its.2
 
--- neither version's stands there
-pub neither : (text : List ℕ) → ((rest : List ℕ) → text ≢ header One ++ rest) → ((rest : List ℕ) → text ≢ header Two ++ rest) → (version : Version) (rest : List ℕ) → text ≢ header version ++ rest
-neither text one two One = one
-neither text one two Two = two
+-- no version's stands there
+pub none_of : (text : List ℕ) → ((rest : List ℕ) → text ≢ header One ++ rest) → ((rest : List ℕ) → text ≢ header Two ++ rest) → ((rest : List ℕ) → text ≢ header Three ++ rest)
+    → (version : Version) (rest : List ℕ) → text ≢ header version ++ rest
+none_of text one two three One = one
+none_of text one two three Two = two
+none_of text one two three Three = three
 
 cancel : (front a b : List ℕ) → front ++ a ≡ front ++ b → a ≡ b
 cancel [] a b e = e
 cancel (x ∷ front) a b e = cancel front a b (let tails : front ++ a ≡ front ++ b = cc in tails)
 
--- the digit of the version is that of the first, 1 (49)
-is_first : List ℕ → Bool
-is_first text = get_or text 11 0 == 49
+-- the digit of the version
+has_digit : ℕ → List ℕ → Bool
+has_digit digit text = get_or text 11 0 == digit
 
 -- a text has one first line of all
 pub one_header : (a b : Version) (xs ys : List ℕ) → header a ++ xs ≡ header b ++ ys → (a ≡ b) × (xs ≡ ys)
-unfolding is_first
+unfolding has_digit
 one_header One One xs ys e = (refl, cancel (header One) xs ys e)
 one_header Two Two xs ys e = (refl, cancel (header Two) xs ys e)
-one_header One Two xs ys e = let clash : true ≡ false = ap is_first e in absurd cc
-one_header Two One xs ys e = let clash : false ≡ true = ap is_first e in absurd cc
+one_header Three Three xs ys e = (refl, cancel (header Three) xs ys e)
+one_header One Two xs ys e = let clash : true ≡ false = ap (has_digit 49) e in absurd cc
+one_header One Three xs ys e = let clash : true ≡ false = ap (has_digit 49) e in absurd cc
+one_header Two One xs ys e = let clash : true ≡ false = ap (has_digit 50) e in absurd cc
+one_header Two Three xs ys e = let clash : true ≡ false = ap (has_digit 50) e in absurd cc
+one_header Three One xs ys e = let clash : true ≡ false = ap (has_digit 51) e in absurd cc
+one_header Three Two xs ys e = let clash : true ≡ false = ap (has_digit 51) e in absurd cc
 
 -- ---- what stands in front
 

@@ -8,7 +8,7 @@ use Rattle.world_calls.specs.declared.record.StoppedAt.TheVariants as stopped
 use Rattle.world_calls.specs.declared.totals.Totals.{Totals}
 use Rattle.world_calls.specs.declared.trace.Trace.{Trace}
 use Rattle.world_calls.specs.declared.trace.Version.{Version}
-use Rattle.world_calls.specs.declared.trace.Version.TheVariants.{One, Two}
+use Rattle.world_calls.specs.declared.trace.Version.TheVariants.{One, Three, Two}
 use Rattle.trace_lines.specs.Answers.{answer_text}
 use Rattle.trace_lines.specs.Calls.{three, values_of, word_of}
 use Rattle.trace_lines.specs.Lines.{fields_text, line_text}
@@ -28,6 +28,7 @@ use Rattle.trace.specs.declared.sums.TheConstants.{SUMS}
 abbrev pub header : Version → List ℕ
 header One = codes "camr-trace 1\n"
 header Two = codes "camr-trace 2\n"
+header Three = codes "camr-trace 3\n"
 
 -- where a run stopped, as a field
 abbrev pub stop_of : StoppedAt → Stop
@@ -46,7 +47,7 @@ abbrev pub told_text : Record → Option (List ℕ)
 told_text (Called answer call) = answer_text (row_of (word_of call)) answer
 told_text (Advance run instructions stop r0) = long_number_text r0
 
--- a record's line without its line feed, which is the same in both versions
+-- a record's line without its line feed, which is the same in each version that may have the record
 abbrev pub line_of : Record → Option (List ℕ)
 line_of entry = option_append (line_text (asked_of entry).0 (asked_of entry).1) (option_append (Some (codes " = ")) (told_text entry))
 

@@ -2,7 +2,7 @@
 // anything. It relies on `world_calls` for records.
 
 ghost use Rattle.std.specs.Prelude.{◌<◌, ◌^◌, All};
-ghost use Rattle.trace.specs.HasText.{AnswerFits, CallFits, NumbersFit, StopFits};
+ghost use Rattle.trace.specs.HasText.{AnswerFits, CallFits, ClassFits, NumbersFit, StopFits};
 
 use world_calls::{Call, CallAnswer, Record, StoppedAt};
 
@@ -31,13 +31,16 @@ fn call_fits(call: &Call)
             queue,
             priority,
             retries,
+            class,
         } => {
             number_fits(queue.0);
             number_fits(*priority);
             number_fits(*retries);
+            class_fits(*class);
         }
         Call::Dispatch { queue } => number_fits(queue.0),
         Call::Complete { completion } => number_fits(completion.ccb().0),
+        Call::Withdraw { ccb } => number_fits(ccb.0),
         Call::GuestFreeze { place, guest } => {
             number_fits(place.number());
             number_fits(*guest);
@@ -53,6 +56,10 @@ fn answer_fits(answer: CallAnswer)
 {
     match answer {
         CallAnswer::Ccb(ccb) => number_fits(ccb.0),
+        CallAnswer::Advised(ccb, advice) => {
+            number_fits(ccb.0);
+            number_fits(advice);
+        }
         CallAnswer::Started { run, freeze } => {
             number_fits(run);
             number_fits(freeze);
@@ -70,6 +77,15 @@ fn stop_fits(stop: &StoppedAt)
     match stop {
         StoppedAt::Trace(_, bytes) => bytes_fit(bytes.as_slice()),
         StoppedAt::Helper(_) | StoppedAt::Finish(_, _) | StoppedAt::Exit => {}
+    }
+}
+
+fn class_fits(class: Option<u32>)
+    ensures { ClassFits class }
+{
+    match class {
+        Some(class) => number_fits(class),
+        None => {}
     }
 }
 

@@ -1,7 +1,8 @@
 // Reads a trace: its first line, which says the version, a record a line, and the sums. It relies on `entry` and `sums` for lines, and on
 // `base_chunked_list` for the records.
 
-ghost use Rattle.std.specs.Prelude.{◌≡◌, ◌+◌, ◌++◌, ◌<◌, ◌^◌, IfOk, MatchOption, length};
+ghost use Rattle.std.specs.Prelude.{◌≡◌, ◌≢◌, ◌+◌, ◌++◌, ◌<◌, ◌^◌, IfOk, List, MatchOption, length, ℕ};
+ghost use Rattle.world_calls.specs.declared.trace.Version.TheVariants.{One};
 ghost use Rattle.trace.specs.HasText.{AllHaveText};
 ghost use Rattle.trace.specs.Reading.{AreReadAgain, IsReadAgain, Says, SaysLines};
 ghost use Rattle.trace.specs.TraceText.{header};
@@ -27,11 +28,24 @@ pub fn read(alloc: Global, text: &str) -> Result<Trace, TraceError>
     // What was read can be printed.
     ensures spelled { IfOk result (λ trace. AllHaveText trace.version trace.records.items) }
 {
-    if let Some(lines) = behind(Version::One, text) {
-        return read_lines(alloc, Version::One, lines, SECOND);
+    match behind(Version::One, text) {
+        Some(lines) => read_lines(alloc, Version::One, lines, SECOND),
+        None => read_later(alloc, text),
     }
-    match behind(Version::Two, text) {
-        Some(lines) => read_lines(alloc, Version::Two, lines, SECOND),
+}
+
+// Reads a trace that is none of the first version.
+fn read_later(alloc: Global, text: &str) -> Result<Trace, TraceError>
+    requires later { (rest : List ℕ) → text.now ≢ header One ++ rest }
+    ensures said { Says text.now result }
+    ensures back { IsReadAgain text.now result }
+    ensures spelled { IfOk result (λ trace. AllHaveText trace.version trace.records.items) }
+{
+    if let Some(lines) = behind(Version::Two, text) {
+        return read_lines(alloc, Version::Two, lines, SECOND);
+    }
+    match behind(Version::Three, text) {
+        Some(lines) => read_lines(alloc, Version::Three, lines, SECOND),
         None => Err(OrMemory::Fault(TraceFault::Header)),
     }
 }

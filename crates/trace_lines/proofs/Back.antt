@@ -4,7 +4,7 @@ use Rattle.ccb.specs.Completion.{Outcome}
 use Rattle.ccb.specs.declared.place.Place.TheVariants.{Controller, Device}
 use Rattle.world_calls.specs.declared.call.Call.{Call}
 use Rattle.world_calls.specs.declared.call.Call.TheVariants as calls
-use Rattle.trace_lines.specs.Calls.{one, two, three, completed, values_of, word_of, word_text, call_of}
+use Rattle.trace_lines.specs.Calls.{number_of, one, two, submitted, completed, values_of, word_of, word_text, call_of}
 use Rattle.trace_lines.specs.CallsAreLines.{CallsAreLines}
 use Rattle.trace_lines.specs.Rows.{row_of}
 use Rattle.trace_lines.specs.Lines.{fields_text}
@@ -14,13 +14,15 @@ use Rattle.trace_lines.specs.declared.value.Value.{Value}
 use Rattle.trace_lines.specs.declared.value.Value.TheVariants as values
 use Rattle.trace_lines.specs.declared.word.Word.{Word}
 use Rattle.trace_lines.specs.declared.word.Word.TheVariants as words
-use Rattle.trace_lines.proofs.Held.{HasSlots, slots_of, holds_nothing, holds_number, holds_long_number, holds_status, holds_byte, holds_bytes, as_one, as_two, as_three, as_four}
+use Rattle.trace_lines.proofs.Held.{HasSlots, slots_of, holds_nothing, holds_number, holds_class, holds_long_number, holds_status, holds_byte, holds_bytes, as_one, as_two, as_three_more, as_four}
 use Rattle.trace_lines.proofs.Tests.{parts_of}
 
 there_and_back : (call : Call) → call_of (word_of call) (values_of call) ≡ Some call
-there_and_back (calls.Submit queue priority retries) = refl
+there_and_back (calls.Submit queue priority retries None) = refl
+there_and_back (calls.Submit queue priority retries (Some class)) = refl
 there_and_back (calls.Dispatch queue) = refl
 there_and_back (calls.Complete outcome) = refl
+there_and_back (calls.Withdraw ccb) = refl
 there_and_back (calls.GuestFreeze (Device queue) guest) = refl
 there_and_back (calls.GuestFreeze (Controller controller) guest) = refl
 there_and_back (calls.GuestRelease freeze) = refl
@@ -58,8 +60,10 @@ back_and_there words.Submit held text call e made =
     let a = holds_number held.first s.one s.first in
     let b = holds_number held.second s.two s.second in
     let d = holds_number held.third s.three s.third in
-    let is = as_three held (values.Number a.0) (values.Number b.0) (values.Number d.0) a.1 b.1 d.1 (holds_nothing held.fourth s.four s.fourth) in
-    let found = from (calls.Submit (record { 0 = a.0 }) b.0 d.0) call words.Submit (three (values.Number a.0) (values.Number b.0) (values.Number d.0)) (refl, refl) (ap (call_of words.Submit) (sym is) ∙ made) in
+    let f = holds_class held.fourth s.four s.fourth in
+    let is : held ≡ submitted (record { 0 = a.0 }) b.0 d.0 f.0 = as_three_more held (values.Number a.0) (values.Number b.0) (values.Number d.0) (number_of f.0) a.1 b.1 d.1 f.1 in
+    let found = from (calls.Submit (record { 0 = a.0 }) b.0 d.0 f.0) call words.Submit (submitted (record { 0 = a.0 }) b.0 d.0 f.0) (refl, refl)
+    (sym (there_and_back (calls.Submit (record { 0 = a.0 }) b.0 d.0 f.0)) ∙ ap (call_of words.Submit) (sym is) ∙ made) in
     (found.0, found.1 ∙ sym is)
 back_and_there words.Dispatch held text call e made =
     one_number words.Dispatch (λ n. calls.Dispatch (record { 0 = n })) held call (slots_of (row_of words.Dispatch).fields held text e) (λ n. (refl, refl)) made (λ n. refl)
@@ -73,6 +77,8 @@ back_and_there words.Complete held text call e made =
     let is : held ≡ completed outcome = as_four held (values.Number a.0) (values.Status b.0) (values.Byte d.0) (values.Bytes f.0) a.1 b.1 d.1 f.1 in
     let found = from (calls.Complete outcome) call words.Complete (completed outcome) (refl, refl) (ap (call_of words.Complete) (sym is) ∙ made) in
     (found.0, found.1 ∙ sym is)
+back_and_there words.Withdraw held text call e made =
+    one_number words.Withdraw (λ n. calls.Withdraw (record { 0 = n })) held call (slots_of (row_of words.Withdraw).fields held text e) (λ n. (refl, refl)) made (λ n. refl)
 back_and_there words.Advance held text call e made = absurd cc
 back_and_there words.FreezeQueue held text call e made =
     two_numbers words.FreezeQueue (λ n m. calls.GuestFreeze (Device (record { 0 = n })) m) held call (slots_of (row_of words.FreezeQueue).fields held text e) (λ n m. (refl, refl)) made (λ n m. refl)

@@ -8,7 +8,7 @@ use Rattle.trace_lines.specs.declared.value.Value.{Value}
 use Rattle.trace_lines.specs.declared.value.Value.TheVariants as values
 use Rattle.ccb.specs.declared.cam_status.CamStatus.{CamStatus}
 use Rattle.trace_lines.specs.Texts.{field_text, status_text}
-use Rattle.trace_lines.specs.Calls.{one, two, three}
+use Rattle.trace_lines.specs.Calls.{number_of, one, two, three}
 use Rattle.trace_lines.specs.Lines.{slot_text, fields_text}
 use Rattle.trace_lines.proofs.Tests.{parts_of}
 
@@ -39,6 +39,13 @@ pub holds_number : (value : Option Value) (text : List ℕ) → slot_text (Some 
 unfolding field_text
 holds_number (Some (values.Number number)) text e = (number, refl)
 holds_number value text e = absurd cc
+
+-- a class, or none
+pub holds_class : (value : Option Value) (text : List ℕ) → slot_text (Some kinds.Class) value ≡ Some text → (class : Option ℕ) × (value ≡ number_of class)
+unfolding field_text
+holds_class None text e = (None, refl)
+holds_class (Some (values.Number number)) text e = (Some number, refl)
+holds_class value text e = absurd cc
 
 pub holds_long_number : (value : Option Value) (text : List ℕ) → slot_text (Some kinds.LongNumber) value ≡ Some text → (number : ℕ) × (value ≡ Some (values.LongNumber number))
 unfolding field_text
@@ -80,6 +87,10 @@ as_two held a b p q r s = λ i. record { first = p i; second = q i; third = r i;
 
 pub as_three : (held : Slots Value) (a b d : Value) → held.first ≡ Some a → held.second ≡ Some b → held.third ≡ Some d → held.fourth ≡ None → held ≡ three a b d
 as_three held a b d p q r s = λ i. record { first = p i; second = q i; third = r i; fourth = s i }
+
+pub as_three_more : (held : Slots Value) (a b d : Value) (f : Option Value) → held.first ≡ Some a → held.second ≡ Some b → held.third ≡ Some d → held.fourth ≡ f
+    → held ≡ record { first = Some a; second = Some b; third = Some d; fourth = f }
+as_three_more held a b d f p q r s = λ i. record { first = p i; second = q i; third = r i; fourth = s i }
 
 pub as_four : (held : Slots Value) (a b d f : Value) → held.first ≡ Some a → held.second ≡ Some b → held.third ≡ Some d → held.fourth ≡ Some f
     → held ≡ record { first = Some a; second = Some b; third = Some d; fourth = Some f }

@@ -10,11 +10,11 @@ use Rattle.trace_lines.specs.declared.word.Word.{Word}
 use Rattle.trace_lines.specs.Calls.{word_text}
 use Rattle.trace_lines.specs.Rows.{row_of, word_named}
 use Rattle.trace_lines.specs.Texts.{field_text}
-use Rattle.trace_lines.specs.Lines.{slot_text, fields_text, line_text}
-use Rattle.trace_lines.specs.Reading.{ends_word, is_stop, is_behind, stops_at, stops_last, IsCut, ReadsSlot, ReadsFields, ReadsLine}
+use Rattle.trace_lines.specs.Lines.{may_lack, slot_text, fields_text, line_text}
+use Rattle.trace_lines.specs.Reading.{ends_word, is_last, is_behind, is_last_at, are_last, IsCut, ReadsSlot, ReadsFields, ReadsLine}
 use Rattle.trace_lines.proofs.Cutting.{cut_once}
 use Rattle.trace_lines.proofs.Rows.{word_black, row_stops, found_again, found_is}
-use Rattle.trace_lines.proofs.Tests.{three, parts_of, joined, same_text}
+use Rattle.trace_lines.proofs.Tests.{three, parts_of, passed, joined, same_text}
 
 was_not : (a : Bool) → not a ≡ true → a ≡ false
 was_not true h = absurd cc
@@ -47,7 +47,7 @@ pairs a b x y p q = λ i. Some (p i, q i)
 ends_slot : (kind : Option Kind) (value : Option Value) (told rest : List ℕ) → slot_text kind value ≡ Some told → ends_word rest ≡ true → ends_word (told ++ rest) ≡ true
 ends_slot None None told rest e h = let none : [] ≡ told = cc in ap (λ (t : List ℕ). ends_word (t ++ rest)) (sym none) ∙ h
 ends_slot None (Some value) told rest e h = absurd cc
-ends_slot (Some kind) None told rest e h = absurd cc
+ends_slot (Some kind) None told rest e h = let its = passed (may_lack kind) [] told e in ap (λ (t : List ℕ). ends_word (t ++ rest)) (sym its.1) ∙ h
 ends_slot (Some kind) (Some value) told rest e h =
     let parts = parts_of (Some (codes " ")) (field_text kind value) told e in
     let front : codes " " ≡ parts.0 = cc in
@@ -61,18 +61,18 @@ ends_more kind value o told ends e =
     let parts = parts_of (slot_text kind value) o told e in
     ap ends_word parts.4 ∙ ends_slot kind value parts.0 parts.1 parts.2 (ends parts.1 parts.3)
 
-behind_plain : (kind : Option Kind) (rest : List ℕ) → stops_at kind ≡ false → ends_word rest ≡ true → is_behind kind rest ≡ true
+behind_plain : (kind : Option Kind) (rest : List ℕ) → is_last_at kind ≡ false → ends_word rest ≡ true → is_behind kind rest ≡ true
 behind_plain None rest plain h = refl
 behind_plain (Some kind) rest plain h = rw plain h
 
 behind_nothing : (kind : Option Kind) → is_behind kind [] ≡ true
 behind_nothing None = refl
-behind_nothing (Some kind) = either (is_stop kind)
+behind_nothing (Some kind) = either (is_last kind)
 
-behind_third : (third fourth : Option Kind) (value : Option Value) (rest : List ℕ) → (not (stops_at third) || is_none fourth) ≡ true → slot_text fourth value ≡ Some rest → is_behind third rest ≡ true
+behind_third : (third fourth : Option Kind) (value : Option Value) (rest : List ℕ) → (not (is_last_at third) || is_none fourth) ≡ true → slot_text fourth value ≡ Some rest → is_behind third rest ≡ true
 behind_third third None None rest last e = let none : [] ≡ rest = cc in ap (is_behind third) (sym none) ∙ behind_nothing third
 behind_third third None (Some value) rest last e = absurd cc
-behind_third third (Some kind) value rest last e = behind_plain third rest (no_stop (stops_at third) last) (ends_last (Some kind) value rest e)
+behind_third third (Some kind) value rest last e = behind_plain third rest (no_stop (is_last_at third) last) (ends_last (Some kind) value rest e)
 
 -- ---- one slot behind another
 
@@ -98,14 +98,14 @@ forth kind text held rest reads o e = let said = reads.said in joined (slot_text
 -- ---- four of them
 
 pub record Lasts (fields : Slots Kind) : Type 0 where
-  pub first : stops_at fields.first ≡ false
-  pub second : stops_at fields.second ≡ false
-  pub third : (not (stops_at fields.third) || is_none fields.fourth) ≡ true
+  pub first : is_last_at fields.first ≡ false
+  pub second : is_last_at fields.second ≡ false
+  pub third : (not (is_last_at fields.third) || is_none fields.fourth) ≡ true
 
-lasts : (fields : Slots Kind) → stops_last fields ≡ true → Lasts fields
+lasts : (fields : Slots Kind) → are_last fields ≡ true → Lasts fields
 lasts fields h =
-    let parts = three (not (stops_at fields.first)) (not (stops_at fields.second)) (not (stops_at fields.third) || is_none fields.fourth) h in
-    record { first = was_not (stops_at fields.first) parts.0; second = was_not (stops_at fields.second) parts.1; third = parts.2 }
+    let parts = three (not (is_last_at fields.first)) (not (is_last_at fields.second)) (not (is_last_at fields.third) || is_none fields.fourth) h in
+    record { first = was_not (is_last_at fields.first) parts.0; second = was_not (is_last_at fields.second) parts.1; third = parts.2 }
 
 abbrev from_fourth : Slots Kind → Slots Value → Option (List ℕ)
 from_fourth fields held = slot_text fields.fourth held.fourth
@@ -141,7 +141,7 @@ module _ (fields : Slots Kind) (text : List ℕ) where
   }
 
   module _ (a : Option Value) (t : Bor (List ℕ)) (ra : ReadsSlot fields.first text a (Some t)) where
-    one : stops_last fields ≡ true → (held : Slots Value) → fields_text fields held ≡ Some text → (from_second fields held ≡ Some t.now) × (a ≡ held.first)
+    one : are_last fields ≡ true → (held : Slots Value) → fields_text fields held ≡ Some text → (from_second fields held ≡ Some t.now) × (a ≡ held.first)
     unfolding fields_text
     one last held e =
         let l = lasts fields last in
@@ -156,7 +156,7 @@ module _ (fields : Slots Kind) (text : List ℕ) where
     }
 
     module _ (b : Option Value) (u : Bor (List ℕ)) (rb : ReadsSlot fields.second t.now b (Some u)) where
-      two : stops_last fields ≡ true → (held : Slots Value) → fields_text fields held ≡ Some text → (from_third fields held ≡ Some u.now) × (b ≡ held.second)
+      two : are_last fields ≡ true → (held : Slots Value) → fields_text fields held ≡ Some text → (from_third fields held ≡ Some u.now) × (b ≡ held.second)
       two last held e =
           let l = lasts fields last in
           step fields.second t.now b u rb held.second (from_third fields held) (one last held e).0 (λ r f. behind_plain fields.second r l.second (ends_third fields held r f))
@@ -170,7 +170,7 @@ module _ (fields : Slots Kind) (text : List ℕ) where
       }
 
       module _ (d : Option Value) (v : Bor (List ℕ)) (rd : ReadsSlot fields.third u.now d (Some v)) where
-        three_read : stops_last fields ≡ true → (held : Slots Value) → fields_text fields held ≡ Some text → (from_fourth fields held ≡ Some v.now) × (d ≡ held.third)
+        three_read : are_last fields ≡ true → (held : Slots Value) → fields_text fields held ≡ Some text → (from_fourth fields held ≡ Some v.now) × (d ≡ held.third)
         three_read last held e =
             let l = lasts fields last in
             step fields.third u.now d v rd held.third (from_fourth fields held) (two last held e).0 (λ r f. behind_third fields.third fields.fourth held.fourth r l.third f)
@@ -186,7 +186,7 @@ module _ (fields : Slots Kind) (text : List ℕ) where
         }
 
         module _ (g : Option Value) (w : Bor (List ℕ)) (rg : ReadsSlot fields.fourth v.now g (Some w)) where
-          four_read : stops_last fields ≡ true → (held : Slots Value) → fields_text fields held ≡ Some text → (Some [] ≡ Some w.now) × (g ≡ held.fourth)
+          four_read : are_last fields ≡ true → (held : Slots Value) → fields_text fields held ≡ Some text → (Some [] ≡ Some w.now) × (g ≡ held.fourth)
           four_read last held e = step fields.fourth v.now g w rg held.fourth (Some []) (with_nothing (from_fourth fields held) v.now (three_read last held e).0) nothing_behind
 
           pub something_left : (length w.now == 0) ≡ false → ReadsFields fields text None

@@ -17,7 +17,7 @@ use Rattle.helpers.specs.Table.{number_of}
 use Rattle.helpers.specs.declared.table.Helper.{Helper}
 use Rattle.trace_lines.specs.Answers.{named_number_text, form_text, answer_text}
 use Rattle.trace_lines.specs.Calls.{word_text}
-use Rattle.trace_lines.specs.Lines.{slot_text, fields_text, line_text}
+use Rattle.trace_lines.specs.Lines.{may_lack, slot_text, fields_text, line_text}
 use Rattle.trace_lines.specs.Rows.{row_of, may_be}
 use Rattle.trace_lines.specs.Texts.{where_true, pair_text, is_byte, bytes_text, sense_text, code_text, number_text, long_number_text, helper_text, stop_text, field_text, told_by, tells_name, tells_bytes, tells_code}
 use Rattle.trace_lines.specs.declared.kind.Kind.{Kind}
@@ -122,12 +122,13 @@ plain_field kinds.Status (values.Status status) = plain_where (nat_lt 0 (code_of
 plain_field kinds.Byte (values.Byte byte) = plain_where (is_byte byte) (pair_text byte) (λ h. plain_pair byte)
 plain_field kinds.Sense (values.Bytes bytes) = plain_sense bytes
 plain_field kinds.Stop (values.Stop stop) = plain_stop stop
+plain_field kinds.Class (values.Number number) = plain_number number
 plain_field kind value = λ text e. absurd cc
 
 plain_slot : (kind : Option Kind) (value : Option Value) → IsPlain (slot_text kind value)
 plain_slot None None = plain_text [] refl
 plain_slot None (Some value) = λ text e. absurd cc
-plain_slot (Some kind) None = λ text e. absurd cc
+plain_slot (Some kind) None = plain_where (may_lack kind) [] (λ h. refl)
 plain_slot (Some kind) (Some value) = plain_append (Some (codes " ")) (field_text kind value) (plain_text (codes " ") refl) (plain_field kind value)
 
 pub plain_fields : (fields : Slots Kind) (held : Slots Value) → IsPlain (fields_text fields held)
@@ -150,6 +151,9 @@ plain_named name number p = plain_append (Some name) (number_text number) (plain
 
 plain_form : (form : Form) (answer : CallAnswer) → IsPlain (form_text form answer)
 plain_form forms.Ccb (answers.Ccb ccb) = plain_named (codes "ccb ") ccb.0 refl
+plain_form forms.Start (answers.Ccb ccb) = plain_named (codes "ccb ") ccb.0 refl
+plain_form forms.Start (answers.Advised ccb advice) =
+    plain_append (named_number_text (codes "ccb ") ccb.0) (named_number_text (codes " advice ") advice) (plain_named (codes "ccb ") ccb.0 refl) (plain_named (codes " advice ") advice refl)
 plain_form forms.Completed answers.Done = plain_text (codes "done") refl
 plain_form forms.Completed (answers.Started run freeze) =
     plain_append (named_number_text (codes "run ") run) (named_number_text (codes " freeze ") freeze) (plain_named (codes "run ") run refl) (plain_named (codes " freeze ") freeze refl)
@@ -166,6 +170,7 @@ plain_code refusal = search rules
 pub plain_answer : (row : Row) (answer : CallAnswer) → IsPlain (answer_text row answer)
 plain_answer row (answers.Refused refusal) = plain_where (may_be row refusal) (call_refusal_text refusal) (λ h. plain_code refusal)
 plain_answer row (answers.Ccb ccb) = plain_form row.form (answers.Ccb ccb)
+plain_answer row (answers.Advised ccb advice) = plain_form row.form (answers.Advised ccb advice)
 plain_answer row answers.Done = plain_form row.form answers.Done
 plain_answer row (answers.Started run freeze) = plain_form row.form (answers.Started run freeze)
 plain_answer row (answers.Freeze freeze) = plain_form row.form (answers.Freeze freeze)

@@ -1,5 +1,5 @@
 -- An answer is read as it is printed.
-use Rattle.std.proofs.Common.{◌≡◌, ◌<◌, ◌^◌, ◌==◌, ◌||◌, ℕ, Bool, true, false, Option, Some, None, IfSome, List, [], ◌∷◌, ◌++◌, get_or, refl, sym, ap, ◌∙◌, arith, codes, nat_lt, decimal, bytes_eq, append_assoc, ◌⊎◌, inl, inr, rules}
+use Rattle.std.proofs.Common.{◌≡◌, ◌<◌, ◌^◌, ◌==◌, ◌||◌, ℕ, Bool, true, false, Option, Some, None, IfSome, List, [], ◌∷◌, ◌++◌, get_or, refl, sym, ap, ◌∙◌, arith, codes, nat_lt, decimal, bytes_eq, append_assoc, append-nil, ◌⊎◌, inl, inr, rules}
 use Rattle.std.specs.List.{list_all}
 use Rattle.std.specs.Prelude.{find}
 use Rattle.std.specs.Option.{option_map}
@@ -16,7 +16,7 @@ use Rattle.world_calls.specs.declared.call_answer.CallAnswer.TheVariants as answ
 use Rattle.trace_lines.specs.declared.table.Form.{Form}
 use Rattle.trace_lines.specs.declared.table.Form.TheVariants as forms
 use Rattle.trace_lines.specs.declared.table.Row.{Row}
-use Rattle.trace_lines.specs.Answers.{named_number_text, started_text, code_told, refusal_text, form_text, answer_text}
+use Rattle.trace_lines.specs.Answers.{named_number_text, advised_answer_text, advised_text, started_text, code_told, refusal_text, form_text, answer_text}
 use Rattle.trace_lines.specs.Rows.{may_be}
 use Rattle.trace_lines.specs.Texts.{where_true, number_text}
 use Rattle.trace_lines.specs.Reading.{IsCut, ends_word, is_black}
@@ -51,42 +51,144 @@ named_reads name text inner read front reads = record {
 pair_same : (run freeze : ℕ) (told : ℕ × ℕ) → run ≡ told.0 → freeze ≡ told.1 → ◌≡◌ {A = Option (ℕ × ℕ)} (Some (run, freeze)) (Some told)
 pair_same run freeze told p q = λ i. Some (p i, q i)
 
--- ---- a run and its freeze
+-- ---- two numbers, each behind its name
 
-module _ (text inner word rest : List ℕ) (front : text ≡ codes "run " ++ inner) (cut : IsCut inner word rest) where
-  started_parts : (told : ℕ × ℕ) → started_text told ≡ Some text → (number_text told.0 ≡ Some word) × (named_number_text (codes " freeze ") told.1 ≡ Some rest)
-  started_parts told e =
-      let parts = parts_of (named_number_text (codes "run ") told.0) (named_number_text (codes " freeze ") told.1) text e in
-      let run = named_parts (codes "run ") told.0 parts.0 parts.2 in
-      let freeze = named_parts (codes " freeze ") told.1 parts.1 parts.3 in
-      let whole : codes "run " ++ (run.0 ++ parts.1) ≡ codes "run " ++ inner =
-      sym (append_assoc (codes "run ") run.0 parts.1) ∙ ap (λ (t : List ℕ). t ++ parts.1) (sym run.2) ∙ sym parts.4 ∙ front in
-      let digits = passed (nat_lt told.0 (2 ^ 32)) (decimal told.0) run.0 run.1 in
+-- the first name, and the second one, which begins with a blank
+module _ (first second : List ℕ) (text inner word rest : List ℕ) (front : text ≡ first ++ inner) (cut : IsCut inner word rest) where
+  abbrev both_text : ℕ × ℕ → Option (List ℕ)
+  both_text told = option_append (named_number_text first told.0) (named_number_text (32 ∷ second) told.1)
+
+  both_parts : (told : ℕ × ℕ) → both_text told ≡ Some text → (number_text told.0 ≡ Some word) × (named_number_text (32 ∷ second) told.1 ≡ Some rest)
+  both_parts told e =
+      let parts = parts_of (named_number_text first told.0) (named_number_text (32 ∷ second) told.1) text e in
+      let one = named_parts first told.0 parts.0 parts.2 in
+      let two = named_parts (32 ∷ second) told.1 parts.1 parts.3 in
+      let whole : first ++ (one.0 ++ parts.1) ≡ first ++ inner =
+      sym (append_assoc first one.0 parts.1) ∙ ap (λ (t : List ℕ). t ++ parts.1) (sym one.2) ∙ sym parts.4 ∙ front in
+      let digits = passed (nat_lt told.0 (2 ^ 32)) (decimal told.0) one.0 one.1 in
       let fits : told.0 < 2 ^ 64 = omega (arith, ltb-true told.0 (2 ^ 32) digits.0) in
-      let joined : run.0 ++ parts.1 ≡ word ++ rest = cancel (codes "run ") (run.0 ++ parts.1) inner whole ∙ cut.whole in
-      let ends : ends_word parts.1 ≡ true = ap ends_word freeze.2 in
-      let found = cut_once run.0 word parts.1 rest joined (ap (list_all is_black) (sym digits.1) ∙ decimal_black told.0 fits) ends cut.black cut.ends in
-      (run.1 ∙ ap Some found.0, parts.3 ∙ ap Some found.1)
+      let joined : one.0 ++ parts.1 ≡ word ++ rest = cancel first (one.0 ++ parts.1) inner whole ∙ cut.whole in
+      let ends : ends_word parts.1 ≡ true = ap ends_word two.2 in
+      let found = cut_once one.0 word parts.1 rest joined (ap (list_all is_black) (sym digits.1) ∙ decimal_black told.0 fits) ends cut.black cut.ends in
+      (one.1 ∙ ap Some found.0, parts.3 ∙ ap Some found.1)
 
+  no_first : Reads number_text word None → Reads both_text text None
+  no_first none = record { said = tt; back = λ told e. let there = none.back told.0 (both_parts told e).0 in absurd cc }
+
+  no_second : Reads (named_number_text (32 ∷ second)) rest None → Reads both_text text None
+  no_second none = record { said = tt; back = λ told e. let there = none.back told.1 (both_parts told e).1 in absurd cc }
+
+  both_read : (one two : ℕ) → Reads number_text word (Some one) → Reads (named_number_text (32 ∷ second)) rest (Some two) → Reads both_text text (Some (one, two))
+  both_read one two reads behind = record {
+    said =
+        joined (option_append (Some first) (number_text one)) (named_number_text (32 ∷ second) two) (first ++ word) rest (ap (option_append (Some first)) reads.said) behind.said
+        ∙ ap Some (append_assoc first word rest ∙ ap (λ (t : List ℕ). first ++ t) (sym cut.whole) ∙ sym front);
+    back = λ told e.
+        let parts = both_parts told e in
+        let a = reads.back told.0 parts.0 in
+        let b = behind.back told.1 parts.1 in
+        let ones : one ≡ told.0 = cc in
+        let twos : two ≡ told.1 = cc in
+        pair_same one two told ones twos;
+  }
+
+-- a run and its freeze
+module _ (text inner word rest : List ℕ) (front : text ≡ codes "run " ++ inner) (cut : IsCut inner word rest) where
   pub no_run : Reads number_text word None → Reads started_text text None
-  no_run none = record { said = tt; back = λ told e. let there = none.back told.0 (started_parts told e).0 in absurd cc }
+  no_run none = no_first (codes "run ") (codes "freeze ") text inner word rest front cut none
 
   pub no_freeze : Reads (named_number_text (codes " freeze ")) rest None → Reads started_text text None
-  no_freeze none = record { said = tt; back = λ told e. let there = none.back told.1 (started_parts told e).1 in absurd cc }
+  no_freeze none = no_second (codes "run ") (codes "freeze ") text inner word rest front cut none
 
   pub started_reads : (run freeze : ℕ) → Reads number_text word (Some run) → Reads (named_number_text (codes " freeze ")) rest (Some freeze) → Reads started_text text (Some (run, freeze))
-  started_reads run freeze first second = record {
-    said =
-        joined (option_append (Some (codes "run ")) (number_text run)) (named_number_text (codes " freeze ") freeze) (codes "run " ++ word) rest (ap (option_append (Some (codes "run "))) first.said) second.said
-        ∙ ap Some (append_assoc (codes "run ") word rest ∙ ap (λ (t : List ℕ). codes "run " ++ t) (sym cut.whole) ∙ sym front);
-    back = λ told e.
-        let parts = started_parts told e in
-        let a = first.back told.0 parts.0 in
-        let b = second.back told.1 parts.1 in
-        let runs : run ≡ told.0 = cc in
-        let freezes : freeze ≡ told.1 = cc in
-        pair_same run freeze told runs freezes;
-  }
+  started_reads run freeze one two = both_read (codes "run ") (codes "freeze ") text inner word rest front cut run freeze one two
+
+-- a CCB and what is advised
+module _ (text inner word rest : List ℕ) (front : text ≡ codes "ccb " ++ inner) (cut : IsCut inner word rest) where
+  pub no_ccb : Reads number_text word None → Reads advised_text text None
+  no_ccb none = no_first (codes "ccb ") (codes "advice ") text inner word rest front cut none
+
+  pub no_advice : Reads (named_number_text (codes " advice ")) rest None → Reads advised_text text None
+  no_advice none = no_second (codes "ccb ") (codes "advice ") text inner word rest front cut none
+
+  pub advised_reads : (ccb advice : ℕ) → Reads number_text word (Some ccb) → Reads (named_number_text (codes " advice ")) rest (Some advice) → Reads advised_text text (Some (ccb, advice))
+  advised_reads ccb advice one two = both_read (codes "ccb ") (codes "advice ") text inner word rest front cut ccb advice one two
+
+-- ---- what a start is answered
+
+-- a number alone is no two numbers
+alone : (text digits : List ℕ) (number : ℕ) (told : ℕ × ℕ) → number_text number ≡ Some digits → text ≡ codes "ccb " ++ digits → advised_text told ≡ Some text → ⊥
+alone text digits number told e whole both_e =
+    let its = passed (nat_lt number (2 ^ 32)) (decimal number) digits e in
+    let fits : number < 2 ^ 64 = omega (arith, ltb-true number (2 ^ 32) its.0) in
+    let cut : IsCut digits digits [] = record { whole = sym (append-nil digits); black = ap (list_all is_black) (sym its.1) ∙ decimal_black number fits; ends = refl } in
+    let parts = both_parts (codes "ccb ") (codes "advice ") text digits digits [] whole cut told both_e in
+    let second = named_parts (codes " advice ") told.1 [] parts.1 in
+    let bad : [] ≡ codes " advice " ++ second.0 = second.2 in
+    absurd cc
+
+ccb_alone : (number : ℕ) (told : ℕ × ℕ) (text : List ℕ) → named_number_text (codes "ccb ") number ≡ Some text → advised_text told ≡ Some text → ⊥
+ccb_alone number told text e both_e =
+    let parts = named_parts (codes "ccb ") number text e in
+    alone text parts.0 number told parts.1 parts.2 both_e
+
+ccb_in : Option ℕ → Option CallAnswer
+ccb_in None = None
+ccb_in (Some number) = Some (answers.Ccb (record { 0 = number }))
+
+same_ccb : (a b : ℕ) → ◌≡◌ {A = Option ℕ} (Some a) (Some b) → ◌≡◌ {A = Option CallAnswer} (Some (answers.Ccb (record { 0 = a }))) (Some (answers.Ccb (record { 0 = b })))
+unfolding ccb_in
+same_ccb a b e = ap ccb_in e
+
+advised_in : Option (ℕ × ℕ) → Option CallAnswer
+advised_in None = None
+advised_in (Some told) = Some (answers.Advised (record { 0 = told.0 }) told.1)
+
+same_advised : (a b r f : ℕ) → ◌≡◌ {A = Option (ℕ × ℕ)} (Some (a, b)) (Some (r, f)) → ◌≡◌ {A = Option CallAnswer} (Some (answers.Advised (record { 0 = a }) b)) (Some (answers.Advised (record { 0 = r }) f))
+unfolding advised_in
+same_advised a b r f e = ap advised_in e
+
+one_ccb : (text : List ℕ) (ccb : ℕ) → Reads (named_number_text (codes "ccb ")) text (Some ccb) → (answer : CallAnswer) → form_text forms.Start answer ≡ Some text
+    → ◌≡◌ {A = Option CallAnswer} (Some (answers.Ccb (record { 0 = ccb }))) (Some answer)
+one_ccb text ccb reads (answers.Ccb other) e = same_ccb ccb other.0 (reads.back other.0 e)
+one_ccb text ccb reads (answers.Advised other advice) e = absurd (ccb_alone ccb (other.0, advice) text reads.said e)
+one_ccb text ccb reads answer e = absurd cc
+
+pub begun_alone : (text : List ℕ) (ccb : ℕ) → Reads (named_number_text (codes "ccb ")) text (Some ccb) → Reads (form_text forms.Start) text (Some (answers.Ccb (record { 0 = ccb })))
+begun_alone text ccb reads = record { said = reads.said; back = λ answer e. one_ccb text ccb reads answer e }
+
+one_advised : (text : List ℕ) (ccb advice : ℕ) → Reads advised_text text (Some (ccb, advice)) → (answer : CallAnswer) → advised_answer_text answer ≡ Some text
+    → ◌≡◌ {A = Option CallAnswer} (Some (answers.Advised (record { 0 = ccb }) advice)) (Some answer)
+one_advised text ccb advice reads (answers.Advised other told) e = same_advised ccb advice other.0 told (reads.back (other.0, told) e)
+one_advised text ccb advice reads answer e = absurd cc
+
+pub with_advice_some : (text : List ℕ) (ccb advice : ℕ) → Reads advised_text text (Some (ccb, advice)) → Reads advised_answer_text text (Some (answers.Advised (record { 0 = ccb }) advice))
+with_advice_some text ccb advice reads = record { said = reads.said; back = λ answer e. one_advised text ccb advice reads answer e }
+
+not_advised : (text : List ℕ) → Reads advised_text text None → (answer : CallAnswer) → advised_answer_text answer ≡ Some text → ⊥
+not_advised text none (answers.Advised ccb advice) e = let there = none.back (ccb.0, advice) e in absurd cc
+not_advised text none answer e = absurd cc
+
+pub with_advice_none : (text : List ℕ) → Reads advised_text text None → Reads advised_answer_text text None
+with_advice_none text none = record { said = tt; back = λ answer e. absurd (not_advised text none answer e) }
+
+-- where no number stands alone
+
+said_begun : (text : List ℕ) (read : Option CallAnswer) → IfSome read (λ answer. advised_answer_text answer ≡ Some text) → IfSome read (λ answer. form_text forms.Start answer ≡ Some text)
+said_begun text None said = tt
+said_begun text (Some (answers.Advised ccb advice)) said = said
+said_begun text (Some answer) said = absurd cc
+
+back_begun : (text : List ℕ) (read : Option CallAnswer) → Reads (named_number_text (codes "ccb ")) text None → Reads advised_answer_text text read → (answer : CallAnswer) → form_text forms.Start answer ≡ Some text → read ≡ Some answer
+back_begun text read none reads (answers.Ccb ccb) e = let there = none.back ccb.0 e in absurd cc
+back_begun text read none reads (answers.Advised ccb advice) e = reads.back (answers.Advised ccb advice) e
+back_begun text read none reads answer e = absurd cc
+
+pub begun_advised : (text : List ℕ) (read : Option CallAnswer) → Reads (named_number_text (codes "ccb ")) text None → Reads advised_answer_text text read → Reads (form_text forms.Start) text read
+begun_advised text read none reads = record {
+  said = said_begun text read reads.said;
+  back = λ answer e. back_begun text read none reads answer e;
+}
 
 -- ---- what a call that is completed is answered
 
@@ -139,6 +241,10 @@ number_first number text e =
 
 first_told : (form : Form) (answer : CallAnswer) (text : List ℕ) → form_text form answer ≡ Some text → capital text ≡ false
 first_told forms.Ccb (answers.Ccb ccb) text e = ap capital (named_parts (codes "ccb ") ccb.0 text e).2
+first_told forms.Start (answers.Ccb ccb) text e = ap capital (named_parts (codes "ccb ") ccb.0 text e).2
+first_told forms.Start (answers.Advised ccb advice) text e =
+    let parts = parts_of (named_number_text (codes "ccb ") ccb.0) (named_number_text (codes " advice ") advice) text e in
+    ap capital (parts.4 ∙ ap (λ (t : List ℕ). t ++ parts.1) (named_parts (codes "ccb ") ccb.0 parts.0 parts.2).2)
 first_told forms.Completed answers.Done text e = ap capital (sym (same_text (codes "done") text e))
 first_told forms.Completed (answers.Started run freeze) text e =
     let parts = parts_of (named_number_text (codes "run ") run) (named_number_text (codes " freeze ") freeze) text e in
@@ -174,6 +280,7 @@ told_of row answer text e = inr e
 
 no_refusal : (form : Form) (refusal : CallRefusal) (text : List ℕ) → form_text form (answers.Refused refusal) ≡ Some text → ⊥
 no_refusal forms.Ccb refusal text e = absurd cc
+no_refusal forms.Start refusal text e = absurd cc
 no_refusal forms.Completed refusal text e = absurd cc
 no_refusal forms.Freeze refusal text e = absurd cc
 no_refusal forms.Left refusal text e = absurd cc
@@ -184,6 +291,7 @@ no_refusal forms.R0 refusal text e = absurd cc
 told_as : (row : Row) (answer : CallAnswer) (text : List ℕ) → form_text row.form answer ≡ Some text → answer_text row answer ≡ Some text
 told_as row (answers.Refused refusal) text e = absurd (no_refusal row.form refusal text e)
 told_as row (answers.Ccb ccb) text e = e
+told_as row (answers.Advised ccb advice) text e = e
 told_as row answers.Done text e = e
 told_as row (answers.Started run freeze) text e = e
 told_as row (answers.Freeze freeze) text e = e

@@ -1,4 +1,4 @@
--- What holds of each row: its word is a word of its own, stands in one word, and is found again; where a run stopped is its last field.
+-- What holds of each row: its word is a word of its own, stands in one word, and is found again; what comes last is its last field.
 use Rattle.std.proofs.Common.{◌≡◌, ℕ, true, Option, Some, None, List, refl, sym, ap, ◌∙◌, rules}
 use Rattle.std.specs.Prelude.{find}
 use Rattle.std.specs.List.{list_all}
@@ -8,13 +8,13 @@ use Rattle.trace_lines.specs.declared.table.Row.{Row}
 use Rattle.trace_lines.specs.declared.table.TheConstants.{LINES}
 use Rattle.trace_lines.specs.Calls.{word_text}
 use Rattle.trace_lines.specs.Rows.{row_of, word_named, is_named}
-use Rattle.trace_lines.specs.Reading.{is_black, stops_last}
+use Rattle.trace_lines.specs.Reading.{is_black, are_last}
 use Rattle.trace_lines.proofs.Tests.{found_passes, same_bytes}
 
 pub word_black : (word : Word) → list_all is_black (word_text word) ≡ true
 word_black word = search rules
 
-pub row_stops : (word : Word) → stops_last (row_of word).fields ≡ true
+pub row_stops : (word : Word) → are_last (row_of word).fields ≡ true
 unfolding row_of
 row_stops word = search rules
 

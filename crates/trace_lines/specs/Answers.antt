@@ -19,6 +19,15 @@ named_number_text name number = option_append (Some name) (number_text number)
 abbrev pub started_text : ℕ × ℕ → Option (List ℕ)
 started_text told = option_append (named_number_text (codes "run ") told.0) (named_number_text (codes " freeze ") told.1)
 
+-- a CCB, and what is advised at its start
+abbrev pub advised_text : ℕ × ℕ → Option (List ℕ)
+advised_text told = option_append (named_number_text (codes "ccb ") told.0) (named_number_text (codes " advice ") told.1)
+
+-- an answer that says what is advised, and no other one
+abbrev pub advised_answer_text : CallAnswer → Option (List ℕ)
+advised_answer_text (answers.Advised ccb advice) = advised_text (ccb.0, advice)
+advised_answer_text answer = None
+
 -- the code of a refusal
 abbrev pub code_told : CallRefusal → Option (List ℕ)
 code_told refusal = Some (call_refusal_text refusal)
@@ -26,6 +35,8 @@ code_told refusal = Some (call_refusal_text refusal)
 -- what is no refusal has a text in its form alone
 abbrev pub form_text : Form → CallAnswer → Option (List ℕ)
 form_text forms.Ccb (answers.Ccb ccb) = named_number_text (codes "ccb ") ccb.0
+form_text forms.Start (answers.Ccb ccb) = named_number_text (codes "ccb ") ccb.0
+form_text forms.Start (answers.Advised ccb advice) = advised_text (ccb.0, advice)
 form_text forms.Completed answers.Done = Some (codes "done")
 form_text forms.Completed (answers.Started run freeze) = started_text (run, freeze)
 form_text forms.Freeze (answers.Freeze freeze) = named_number_text (codes "freeze ") freeze

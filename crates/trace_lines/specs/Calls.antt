@@ -1,11 +1,12 @@
 -- Calls and their lines: the word of each call and its text, what its fields hold, and the call of these. A line has its cases here.
 use Rattle.std.specs.Prelude.{ℕ, Option, Some, None, List, [], codes, unwrap_or}
 use Rattle.ccb.specs.Completion.{Outcome}
+use Rattle.ccb.specs.declared.QueueId.{QueueId}
 use Rattle.ccb.specs.declared.cam_status.CamStatus.TheVariants.{RequestInProgress}
 use Rattle.ccb.specs.declared.place.Place.TheVariants.{Controller, Device}
 use Rattle.world_calls.specs.declared.call.Call.{Call}
 use Rattle.world_calls.specs.declared.call.Call.TheVariants as calls
-use Rattle.trace_lines.specs.Values.{byte_in, bytes_in, long_number_at, number_at, status_in}
+use Rattle.trace_lines.specs.Values.{byte_in, bytes_in, long_number_at, number_at, number_in, status_in}
 use Rattle.trace_lines.specs.declared.kind.Slots.{Slots}
 use Rattle.trace_lines.specs.declared.value.Value.{Value}
 use Rattle.trace_lines.specs.declared.value.Value.TheVariants as values
@@ -16,6 +17,7 @@ abbrev pub word_text : Word → List ℕ
 word_text words.Submit = codes "submit"
 word_text words.Dispatch = codes "dispatch"
 word_text words.Complete = codes "complete"
+word_text words.Withdraw = codes "withdraw"
 word_text words.Advance = codes "advance"
 word_text words.FreezeQueue = codes "gfreeze"
 word_text words.FreezeController = codes "cfreeze"
@@ -33,6 +35,19 @@ two first second = record { first = Some first; second = Some second; third = No
 abbrev pub three : Value → Value → Value → Slots Value
 three first second third = record { first = Some first; second = Some second; third = Some third; fourth = None }
 
+-- the number, if there is one
+abbrev pub number_of : Option ℕ → Option Value
+number_of None = None
+number_of (Some number) = Some (values.Number number)
+
+abbrev pub submitted : QueueId → ℕ → ℕ → Option ℕ → Slots Value
+submitted queue priority retries class = record {
+  first = Some (values.Number queue.0);
+  second = Some (values.Number priority);
+  third = Some (values.Number retries);
+  fourth = number_of class;
+}
+
 abbrev pub completed : Outcome → Slots Value
 completed outcome = record {
   first = Some (values.Number outcome.ccb.0);
@@ -42,9 +57,10 @@ completed outcome = record {
 }
 
 abbrev pub word_of : Call → Word
-word_of (calls.Submit queue priority retries) = words.Submit
+word_of (calls.Submit queue priority retries class) = words.Submit
 word_of (calls.Dispatch queue) = words.Dispatch
 word_of (calls.Complete outcome) = words.Complete
+word_of (calls.Withdraw ccb) = words.Withdraw
 word_of (calls.GuestFreeze (Device queue) guest) = words.FreezeQueue
 word_of (calls.GuestFreeze (Controller controller) guest) = words.FreezeController
 word_of (calls.GuestRelease freeze) = words.ReleaseFreeze
@@ -53,9 +69,10 @@ word_of (calls.Park run) = words.Park
 word_of (calls.Resume run) = words.Resume
 
 abbrev pub values_of : Call → Slots Value
-values_of (calls.Submit queue priority retries) = three (values.Number queue.0) (values.Number priority) (values.Number retries)
+values_of (calls.Submit queue priority retries class) = submitted queue priority retries class
 values_of (calls.Dispatch queue) = one (values.Number queue.0)
 values_of (calls.Complete outcome) = completed outcome
+values_of (calls.Withdraw ccb) = one (values.Number ccb.0)
 values_of (calls.GuestFreeze (Device queue) guest) = two (values.Number queue.0) (values.Number guest)
 values_of (calls.GuestFreeze (Controller controller) guest) = two (values.Number controller) (values.Number guest)
 values_of (calls.GuestRelease freeze) = one (values.Number freeze)
@@ -74,9 +91,10 @@ outcome_of held = record {
 
 -- the call, but of a run that went on
 abbrev pub call_of : Word → Slots Value → Option Call
-call_of words.Submit held = Some (calls.Submit (record { 0 = number_at held.first }) (number_at held.second) (number_at held.third))
+call_of words.Submit held = Some (calls.Submit (record { 0 = number_at held.first }) (number_at held.second) (number_at held.third) (number_in held.fourth))
 call_of words.Dispatch held = Some (calls.Dispatch (record { 0 = number_at held.first }))
 call_of words.Complete held = Some (calls.Complete (outcome_of held))
+call_of words.Withdraw held = Some (calls.Withdraw (record { 0 = number_at held.first }))
 call_of words.Advance held = None
 call_of words.FreezeQueue held = Some (calls.GuestFreeze (Device (record { 0 = number_at held.first })) (number_at held.second))
 call_of words.FreezeController held = Some (calls.GuestFreeze (Controller (number_at held.first)) (number_at held.second))

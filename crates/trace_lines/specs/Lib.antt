@@ -8,3 +8,4 @@ pub mod CallsAreLines
 pub mod OwnRows
 pub mod Written
 pub mod Reading
+pub mod Versions

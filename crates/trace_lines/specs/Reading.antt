@@ -46,10 +46,11 @@ pub record ReadsTold (helper : Helper) (text : List ℕ) (read : Option Stop) : 
   pub said : IfSome read (λ stop. (told_text stop ≡ Some text) × IsOf helper stop)
   pub back : (stop : Stop) → told_text stop ≡ Some text → IsOf helper stop → read ≡ Some stop
 
--- where a run stopped has words of its own, so that nothing follows it
-abbrev pub is_stop : Kind → Bool
-is_stop kinds.Stop = true
-is_stop kind = false
+-- nothing follows a field of this kind: where a run stopped has words of its own, and a class may be left out
+abbrev pub is_last : Kind → Bool
+is_last kinds.Stop = true
+is_last kinds.Class = true
+is_last kind = false
 
 abbrev pub is_nothing : List ℕ → Bool
 is_nothing [] = true
@@ -58,13 +59,13 @@ is_nothing (byte ∷ bytes) = false
 -- what may follow a field
 abbrev pub is_behind : Option Kind → List ℕ → Bool
 is_behind None rest = true
-is_behind (Some kind) rest = if is_stop kind then is_nothing rest else ends_word rest
+is_behind (Some kind) rest = if is_last kind then is_nothing rest else ends_word rest
 
 -- the text is this word of a field, and this rest
 pub record IsCutFor (kind : Kind) (text word rest : List ℕ) : Type 0 where
   pub whole : text ≡ word ++ rest
-  pub all : is_stop kind ≡ true → rest ≡ []
-  pub first : is_stop kind ≡ false → IsCut text word rest
+  pub all : is_last kind ≡ true → rest ≡ []
+  pub first : is_last kind ≡ false → IsCut text word rest
 
 -- a field that stands in front is read, and what is behind it is left
 pub record ReadsSlot (kind : Option Kind) (text : List ℕ) (held : Option Value) (read : Option (Bor (List ℕ))) : Type 0 where
@@ -72,18 +73,18 @@ pub record ReadsSlot (kind : Option Kind) (text : List ℕ) (held : Option Value
   pub back : (value : Option Value) (told rest : List ℕ) → slot_text kind value ≡ Some told → text ≡ told ++ rest → is_behind kind rest ≡ true
       → (held ≡ value) × IsSomeAnd read (λ r. r.now ≡ rest)
 
--- where a run stopped is the last of the fields
-abbrev pub stops_at : Option Kind → Bool
-stops_at None = false
-stops_at (Some kind) = is_stop kind
+-- nothing follows the field, if there is one
+abbrev pub is_last_at : Option Kind → Bool
+is_last_at None = false
+is_last_at (Some kind) = is_last kind
 
-abbrev pub stops_last : Slots Kind → Bool
-stops_last fields = not (stops_at fields.first) && not (stops_at fields.second) && (not (stops_at fields.third) || is_none fields.fourth)
+abbrev pub are_last : Slots Kind → Bool
+are_last fields = not (is_last_at fields.first) && not (is_last_at fields.second) && (not (is_last_at fields.third) || is_none fields.fourth)
 
 -- the fields of such a row are read
 pub record ReadsFields (fields : Slots Kind) (text : List ℕ) (read : Option (Slots Value)) : Type 0 where
   pub said : IfSome read (λ held. fields_text fields held ≡ Some text)
-  pub back : stops_last fields ≡ true → (held : Slots Value) → fields_text fields held ≡ Some text → read ≡ Some held
+  pub back : are_last fields ≡ true → (held : Slots Value) → fields_text fields held ≡ Some text → read ≡ Some held
 
 -- What is read is a line that is spelled so, and each such line is read.
 pub record ReadsLine (text : List ℕ) (read : Option (Word × Slots Value)) : Type 0 where

@@ -38,6 +38,7 @@ abbrev pub is_refused_by : Word → RefusedCalls → Bool
 is_refused_by words.Submit calls = calls.submit
 is_refused_by words.Dispatch calls = calls.dispatch
 is_refused_by words.Complete calls = calls.complete
+is_refused_by words.Withdraw calls = calls.withdraw
 is_refused_by words.FreezeQueue calls = calls.freeze
 is_refused_by words.FreezeController calls = calls.freeze
 is_refused_by words.Clock calls = calls.clock

@@ -111,4 +111,5 @@ field_text kinds.Status (values.Status status) = status_text status
 field_text kinds.Byte (values.Byte byte) = byte_text byte
 field_text kinds.Sense (values.Bytes bytes) = sense_text bytes
 field_text kinds.Stop (values.Stop stop) = stop_text stop
+field_text kinds.Class (values.Number number) = number_text number
 field_text kind value = None

@@ -2,8 +2,8 @@
 
 ghost use Rattle.std.specs.Prelude.{◌≡◌, ◌+◌, ◌≤◌, ◌++◌, length, MatchOption};
 ghost use Rattle.ccb.specs.CallRefusalText.{call_refusal_text};
-ghost use Rattle.trace_lines.specs.Answers.{answer_text, code_told, form_text, named_number_text, refusal_text, started_text};
-ghost use Rattle.trace_lines.specs.declared.table.Form.TheVariants.{Completed};
+ghost use Rattle.trace_lines.specs.Answers.{advised_answer_text, advised_text, answer_text, code_told, form_text, named_number_text, refusal_text, started_text};
+ghost use Rattle.trace_lines.specs.declared.table.Form.TheVariants.{Completed, Start};
 ghost use Rattle.trace_lines.specs.Written.{IsPut, KeepsFront, Puts, Reads};
 
 use crate::no_text::NoText;
@@ -57,6 +57,8 @@ impl Form {
     {
         match (self, answer) {
             (Form::Ccb, CallAnswer::Ccb(ccb)) => print_named("ccb ", ccb.0, text),
+            (Form::Start, CallAnswer::Ccb(ccb)) => print_named("ccb ", ccb.0, text),
+            (Form::Start, CallAnswer::Advised(ccb, advice)) => print_advised(ccb.0, advice, text),
             (Form::Completed, CallAnswer::Done) => text.put(b"done"),
             (Form::Completed, CallAnswer::Started { run, freeze }) => {
                 print_started(run, freeze, text)
@@ -79,6 +81,16 @@ fn print_started(run: u32, freeze: u32, text: &mut Text)
 {
     print_named("run ", run, text);
     print_named(" freeze ", freeze, text);
+}
+
+// A CCB, and what is advised at its start.
+fn print_advised(ccb: u32, advice: u32, text: &mut Text)
+    requires room { length text.old + ANSWER ≤ ROOM }
+    ensures text { IsPut (advised_text (ccb, advice)) text.old text.new }
+    ensures few { length text.new ≤ length text.old + ANSWER }
+{
+    print_named("ccb ", ccb, text);
+    print_named(" advice ", advice, text);
 }
 
 // A number behind its name, which is short.
@@ -122,6 +134,7 @@ impl Form {
     {
         match self {
             Form::Ccb => Some(CallAnswer::Ccb(CcbId(named_number("ccb ", text)?))),
+            Form::Start => begun(text),
             Form::Completed => completed(text),
             Form::Freeze => Some(CallAnswer::Freeze(named_number("freeze ", text)?)),
             Form::Left => Some(CallAnswer::Left(number(text)?)),
@@ -136,6 +149,30 @@ impl Form {
             Form::R0 => None,
         }
     }
+}
+
+fn begun(text: &str) -> Option<CallAnswer>
+    ensures { Reads (form_text Start) text.now result }
+{
+    match named_number("ccb ", text) {
+        Some(ccb) => Some(CallAnswer::Ccb(CcbId(ccb))),
+        None => with_advice(text),
+    }
+}
+
+fn with_advice(text: &str) -> Option<CallAnswer>
+    ensures { Reads advised_answer_text text.now result }
+{
+    let (ccb, advice) = advised(text)?;
+    Some(CallAnswer::Advised(CcbId(ccb), advice))
+}
+
+// A CCB, and what is advised at its start.
+fn advised(text: &str) -> Option<(u32, u32)>
+    ensures { Reads advised_text text.now result }
+{
+    let (ccb, rest) = first_word(behind("ccb ", text)?);
+    Some((number(ccb)?, named_number(" advice ", rest)?))
 }
 
 fn completed(text: &str) -> Option<CallAnswer>

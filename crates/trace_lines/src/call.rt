@@ -2,11 +2,11 @@
 
 ghost use Rattle.std.specs.Prelude.{◌≡◌, ◌≢◌, ◌≤◌, IfOk, List, length, ℕ};
 ghost use Rattle.ccb.specs.Completion.{Outcome};
-ghost use Rattle.trace_lines.specs.Calls.{call_of, completed, one, outcome_of, three, two, values_of, word_of};
+ghost use Rattle.trace_lines.specs.Calls.{call_of, completed, number_of, one, outcome_of, submitted, two, values_of, word_of};
 ghost use Rattle.trace_lines.specs.Lines.{line_text};
 
 use crate::kind::Slots;
-use crate::value::{Value, byte_in, bytes_in, long_number_at, number_at, status_in};
+use crate::value::{Value, byte_in, bytes_in, long_number_at, number_at, number_in, status_in};
 use crate::word::Word;
 use base::ShortBytes;
 use ccb::{CamStatus, CcbId, Completion, Place, QueueId};
@@ -21,6 +21,7 @@ pub fn word_of(call: &Call) -> Word
         Call::Submit { .. } => Word::Submit,
         Call::Dispatch { .. } => Word::Dispatch,
         Call::Complete { .. } => Word::Complete,
+        Call::Withdraw { .. } => Word::Withdraw,
         Call::GuestFreeze { place, .. } => match place {
             Place::Device(_) => Word::FreezeQueue,
             Place::Controller(_) => Word::FreezeController,
@@ -41,13 +42,11 @@ pub fn values_of(call: &Call) -> Slots<Value>
             queue,
             priority,
             retries,
-        } => three(
-            Value::Number(queue.0),
-            Value::Number(*priority),
-            Value::Number(*retries),
-        ),
+            class,
+        } => submitted(*queue, *priority, *retries, *class),
         Call::Dispatch { queue } => one(Value::Number(queue.0)),
         Call::Complete { completion } => completed(completion),
+        Call::Withdraw { ccb } => one(Value::Number(ccb.0)),
         Call::GuestFreeze { place, guest } => match place {
             Place::Device(queue) => two(Value::Number(queue.0), Value::Number(*guest)),
             Place::Controller(controller) => {
@@ -57,6 +56,26 @@ pub fn values_of(call: &Call) -> Slots<Value>
         Call::GuestRelease { freeze } => one(Value::Number(*freeze)),
         Call::Clock { reading } => one(Value::LongNumber(*reading)),
         Call::Park { run } | Call::Resume { run } => one(Value::Number(*run)),
+    }
+}
+
+fn submitted(queue: QueueId, priority: u32, retries: u32, class: Option<u32>) -> Slots<Value>
+    ensures { result ≡ submitted queue priority retries class }
+{
+    Slots {
+        first: Some(Value::Number(queue.0)),
+        second: Some(Value::Number(priority)),
+        third: Some(Value::Number(retries)),
+        fourth: number_of(class),
+    }
+}
+
+fn number_of(number: Option<u32>) -> Option<Value>
+    ensures { result ≡ number_of number }
+{
+    match number {
+        Some(number) => Some(Value::Number(number)),
+        None => None,
     }
 }
 
@@ -93,17 +112,6 @@ fn two(first: Value, second: Value) -> Slots<Value>
     }
 }
 
-fn three(first: Value, second: Value, third: Value) -> Slots<Value>
-    ensures { result ≡ three first second third }
-{
-    Slots {
-        first: Some(first),
-        second: Some(second),
-        third: Some(third),
-        fourth: None,
-    }
-}
-
 /// The call of that word and of what the fields of its line hold. None of a run that went on, which is no call. It takes memory for
 /// sense bytes alone.
 pub fn call_of(alloc: Global, word: Word, held: &Slots<Value>) -> Result<Option<Call>, AllocError>
@@ -125,9 +133,13 @@ fn plain_call_of(word: Word, held: &Slots<Value>) -> Option<Call>
             queue: QueueId(number_at(held.first)),
             priority: number_at(held.second),
             retries: number_at(held.third),
+            class: number_in(held.fourth),
         }),
         Word::Dispatch => Some(Call::Dispatch {
             queue: QueueId(number_at(held.first)),
+        }),
+        Word::Withdraw => Some(Call::Withdraw {
+            ccb: CcbId(number_at(held.first)),
         }),
         Word::FreezeQueue => Some(Call::GuestFreeze {
             place: Place::Device(QueueId(number_at(held.first))),

@@ -1,5 +1,8 @@
 // The kinds of fields that a line may have, and up to four things in a row. It relies on nothing.
 
+ghost use Rattle.std.specs.Prelude.{◌≡◌};
+ghost use Rattle.trace_lines.specs.Lines.{may_lack};
+
 /// How a field is spelled.
 #[derive(Clone, Copy)]
 pub enum Kind {
@@ -17,6 +20,26 @@ pub enum Kind {
     Sense,
     /// Where a run stopped: `exit`, or `helper` with its number and what is told of that call.
     Stop,
+    /// A number below 2^32 that may be left out: the class of a command. It is the last of its line's fields.
+    Class,
+}
+
+impl Kind {
+    /// Whether a line may end before a field of this kind.
+    pub(crate) fn may_lack(self) -> bool
+        ensures { result ≡ may_lack self }
+    {
+        match self {
+            Kind::Class => true,
+            Kind::Number
+            | Kind::LongNumber
+            | Kind::Instructions
+            | Kind::Status
+            | Kind::Byte
+            | Kind::Sense
+            | Kind::Stop => false,
+        }
+    }
 }
 
 /// Up to four things, one behind the other: a line's fields, or what they hold.

@@ -13,6 +13,7 @@ mod reading;
 mod table;
 mod text;
 mod value;
+mod version;
 mod word;
 
 pub use answers::ANSWER;
@@ -28,4 +29,5 @@ pub use value::{
     Stop, Value, byte_in, bytes_in, long_number_at, long_number_in, number_at, number_in,
     status_in, stop_in,
 };
+pub use version::has_classes;
 pub use word::Word;

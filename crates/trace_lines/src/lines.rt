@@ -1,7 +1,7 @@
 // Prints and reads a line's word and fields by its row. It relies on `table` for rows, and on `printing` and `reading` for fields.
 
-ghost use Rattle.std.specs.Prelude.{◌≡◌, ◌+◌, ◌≤◌, length};
-ghost use Rattle.trace_lines.specs.Lines.{fields_text, line_text, slot_text};
+ghost use Rattle.std.specs.Prelude.{◌≡◌, ◌+◌, ◌≤◌, ◌==◌, ◌&&◌, length, None, Some};
+ghost use Rattle.trace_lines.specs.Lines.{fields_text, line_text, may_lack, slot_text};
 ghost use Rattle.trace_lines.specs.Reading.{IsCutFor, ReadsFields, ReadsLine, ReadsSlot};
 ghost use Rattle.trace_lines.specs.Written.{KeepsFront, Puts};
 
@@ -58,9 +58,18 @@ fn print_slot(kind: Option<Kind>, value: Option<Value>, text: &mut Text) -> Resu
             text.push(b' ');
             kind.print(value, text)
         }
+        (Some(kind), None) => left_out(kind, text),
         (None, None) => Ok(()),
-        _ => Err(NoText),
+        (None, Some(_)) => Err(NoText),
     }
+}
+
+// A field that is left out puts nothing, and has no spelling unless it may be left out.
+fn left_out(kind: Kind, text: &Text) -> Result<(), NoText>
+    ensures text { Puts (slot_text (Some kind) None) text.now result text.now }
+    ensures front { KeepsFront text.now result text.now }
+{
+    if kind.may_lack() { Ok(()) } else { Err(NoText) }
 }
 
 /// The word and what the fields hold of the line that is spelled so.
@@ -100,17 +109,29 @@ fn read_slot<'a>(kind: Option<Kind>, text: &'a str, held: &mut Option<Value>) ->
         *held = None;
         return Some(text);
     };
+    if lacks(kind, text) {
+        *held = None;
+        return Some(text);
+    }
     let (word, rest) = cut(kind, behind_blank(text)?);
     *held = Some(kind.read(word)?);
     Some(rest)
 }
 
-// The front of a text that is a field of this kind: all of it for where a run stopped, which has words of its own.
+// Whether the line ends before a field of this kind, as it may.
+fn lacks(kind: Kind, text: &str) -> bool
+    ensures { result ≡ (may_lack kind && (length text.now == 0)) }
+{
+    kind.may_lack() && text.is_empty()
+}
+
+// The front of a text that is a field of this kind: all of it where nothing follows such a field.
 fn cut(kind: Kind, text: &str) -> (&str, &str)
     ensures { IsCutFor kind text.now result.0.now result.1.now }
 {
     match kind {
         Kind::Stop => (text, ""),
+        Kind::Class => (text, ""),
         _ => first_word(text),
     }
 }

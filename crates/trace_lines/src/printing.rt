@@ -60,6 +60,10 @@ impl Kind {
             }
             (Kind::Sense, Value::Bytes(bytes)) => print_sense(bytes.as_slice(), text),
             (Kind::Stop, Value::Stop(stop)) => print_stop(stop, text),
+            (Kind::Class, Value::Number(number)) => {
+                print_number(number, text);
+                Ok(())
+            }
             _ => Err(NoText),
         }
     }

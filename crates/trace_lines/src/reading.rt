@@ -30,6 +30,7 @@ impl Kind {
             Kind::Byte => Some(Value::Byte(byte(word)?)),
             Kind::Sense => Some(Value::Bytes(sense(word)?)),
             Kind::Stop => Some(Value::Stop(stop(word)?)),
+            Kind::Class => Some(Value::Number(number(word)?)),
         }
     }
 }

@@ -13,6 +13,8 @@ use world_calls::CallRefusal;
 pub enum Form {
     /// `ccb C`: the number of a CCB.
     Ccb,
+    /// `ccb C`, or `ccb C advice W`: the number of a CCB, and what is advised at its start.
+    Start,
     /// `done`, or `run R freeze F`.
     Completed,
     /// `freeze F`: the number of a freeze.
@@ -36,19 +38,19 @@ pub struct Row {
 }
 
 /// The lines, in the order of their words. The comment of a row names its fields and answers for people.
-pub const LINES: [Row; 10] = [
-    // submit Q PRIORITY RETRIES = ccb C
+pub const LINES: [Row; 11] = [
+    // submit Q PRIORITY RETRIES [CLASS] = ccb C
     Row {
         word: Word::Submit,
         fields: Slots {
             first: Some(Kind::Number),
             second: Some(Kind::Number),
             third: Some(Kind::Number),
-            fourth: None,
+            fourth: Some(Kind::Class),
         },
         form: Form::Ccb,
     },
-    // dispatch Q = ccb C
+    // dispatch Q = ccb C, or ccb C advice W
     Row {
         word: Word::Dispatch,
         fields: Slots {
@@ -57,7 +59,7 @@ pub const LINES: [Row; 10] = [
             third: None,
             fourth: None,
         },
-        form: Form::Ccb,
+        form: Form::Start,
     },
     // complete C STATUS SCSI SENSE = done, or run R freeze F
     Row {
@@ -69,6 +71,17 @@ pub const LINES: [Row; 10] = [
             fourth: Some(Kind::Sense),
         },
         form: Form::Completed,
+    },
+    // withdraw C = ok
+    Row {
+        word: Word::Withdraw,
+        fields: Slots {
+            first: Some(Kind::Number),
+            second: None,
+            third: None,
+            fourth: None,
+        },
+        form: Form::Ok,
     },
     // advance R N STOP = R0
     Row {
@@ -186,6 +199,7 @@ impl Row {
             Word::Submit => calls.submit,
             Word::Dispatch => calls.dispatch,
             Word::Complete => calls.complete,
+            Word::Withdraw => calls.withdraw,
             Word::FreezeQueue | Word::FreezeController => calls.freeze,
             Word::Clock => calls.clock,
             Word::Resume => calls.resume,

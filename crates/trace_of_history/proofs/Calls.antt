@@ -11,6 +11,7 @@ use Rattle.ccb.specs.declared.cam_status.CamStatus.TheVariants.{RequestInProgres
 use Rattle.freeze_ledger.specs.declared.freeze.Freeze.{Freeze}
 use Rattle.ccb.specs.declared.place.Place.TheVariants.{Controller, Device}
 use Rattle.freeze_ledger.specs.Freezes.{entry_of, meets_limit}
+use Rattle.world_calls.specs.Answered.{started_answer}
 use Rattle.world_calls.specs.declared.call.Call.{Call}
 use Rattle.world_calls.specs.declared.call.Call.TheVariants as calls
 use Rattle.world_calls.specs.declared.call_answer.CallAnswer.{CallAnswer}
@@ -18,19 +19,23 @@ use Rattle.world_calls.specs.declared.call_answer.CallAnswer.TheVariants as answ
 use Rattle.ccb.specs.declared.call_refusal.CallRefusal.{CallRefusal}
 use Rattle.ccb.specs.CallRefusalText.{row_of as refusal_row}
 use Rattle.world_calls.specs.declared.record.Record.TheVariants.{Called}
+use Rattle.world_calls.specs.declared.start.Start.{Start}
+use Rattle.world_calls.specs.declared.trace.Version.{Version}
+use Rattle.world_calls.specs.declared.trace.Version.TheVariants.{One, Three, Two}
 use Rattle.trace_lines.specs.Answers.{answer_text}
-use Rattle.trace_lines.specs.Calls.{values_of, word_of, word_text}
-use Rattle.trace_lines.specs.Lines.{fields_text, line_text}
+use Rattle.trace_lines.specs.Calls.{number_of, values_of, word_of, word_text}
+use Rattle.trace_lines.specs.Lines.{fields_text, line_text, slot_text}
 use Rattle.trace_lines.specs.Rows.{row_of}
 use Rattle.trace_lines.specs.Texts.{field_text, is_byte, pair_text, sense_text, status_text}
+use Rattle.trace_lines.specs.declared.kind.Kind.TheVariants as kinds
 use Rattle.trace_lines.specs.declared.table.Row.{Row}
 use Rattle.trace_lines.specs.declared.word.Word.TheVariants as words
-use Rattle.trace.specs.HasText.{AnswerFits, CallFits}
-use Rattle.world.specs.World.{Setup, LiveCcb, LiveRun, World}
+use Rattle.trace.specs.HasText.{AnswerFits, CallFits, ClassFits}
+use Rattle.world.specs.World.{Setup, LiveCcb, LiveRun, World, version_of}
 use Rattle.world.specs.Lookups.{ccb_of, next_waiting, run_of}
 use Rattle.world.specs.Event.{called, Reply, refused, replies, went_on, result}
 use Rattle.world.specs.FreezeSteps.{guest_releases, is_guest}
-use Rattle.world.specs.CcbSteps.{completes, is_success, recovers, starts}
+use Rattle.world.specs.CcbSteps.{completes, is_success, recovers, starts, withdraws}
 use Rattle.world.specs.ParkSteps.{parks, resumes}
 use Rattle.world.specs.Refusals.{refusals_of, unless_refused}
 use Rattle.world.specs.Step.{is_call, performs, WorldStep}
@@ -56,6 +61,13 @@ by_test P false told reply after has e = absurd (let bad : None ≡ Some (reply,
 pub by_found : (P : Reply → Type 0) {X : Type 0} (does : X → Reply × World) (found : Option X) (reply : Reply) (after : World) → ((x : X) → P (does x).0) → option_map does found ≡ Some (reply, after) → P reply
 by_found P does None reply after has e = absurd (let bad : None ≡ Some (reply, after) = e in cc)
 by_found P does (Some x) reply after has e = by_reply P (does x) reply after (has x) e
+
+-- a start is answered by the CCB, or by the CCB and its advice
+starts_a_ccb : (version : Version) (start : Start) → HasReply (row_of words.Dispatch) (replies (started_answer version start))
+unfolding row_of
+starts_a_ccb One start = λ fits. some_named (codes "ccb ") start.ccb.0 fits
+starts_a_ccb Two start = λ fits. some_named (codes "ccb ") start.ccb.0 fits
+starts_a_ccb Three start = λ fits. some_append _ _ (some_named (codes "ccb ") start.ccb.0 fits.0) (some_named (codes " advice ") start.advice fits.1)
 
 starts_a_run : (run freeze : ℕ) → HasReply (row_of words.Complete) (replies (answers.Started run freeze))
 unfolding row_of
@@ -85,10 +97,11 @@ parked world (Some run) reply after e = by_test (HasReply (row_of words.Park)) r
 
 performed : (setup : Setup) (world : World) (call : Call) (reply : Reply) (after : World) → performs setup world call ≡ Some (reply, after) → HasReply (row_of (word_of call)) reply
 unfolding row_of
-performed setup world (calls.Submit queue priority retries) reply after e = by_reply (HasReply (row_of words.Submit)) _ reply after (λ fits. some_named (codes "ccb ") _ fits) e
-performed setup world (calls.Dispatch queue) reply after e = by_found (HasReply (row_of words.Dispatch)) (starts world) (next_waiting queue.0 world.transport.live) reply after (λ live fits. some_named (codes "ccb ") _ fits) e
+performed setup world (calls.Submit queue priority retries class) reply after e = by_reply (HasReply (row_of words.Submit)) _ reply after (λ fits. some_named (codes "ccb ") _ fits) e
+performed setup world (calls.Dispatch queue) reply after e = by_found (HasReply (row_of words.Dispatch)) (starts setup world) (next_waiting queue.0 world.transport.live) reply after (λ live. starts_a_ccb (version_of setup) (record { ccb = live.ccb.number; advice = live.ccb.advice })) e
 performed setup world (calls.Complete outcome) reply after e =
     by_found (HasReply (row_of words.Complete)) (completes setup world outcome) (ccb_of outcome.ccb.0 world.transport.live) reply after (λ live. completed setup world outcome live (is_success outcome.status) refl) e
+performed setup world (calls.Withdraw ccb) reply after e = by_found (HasReply (row_of words.Withdraw)) (withdraws world) (ccb_of ccb.0 world.transport.live) reply after (λ live fits. refl) e
 performed setup world (calls.GuestFreeze (Device queue) guest) reply after e = by_reply (HasReply (row_of words.FreezeQueue)) _ reply after (λ fits. some_named (codes "freeze ") _ fits) e
 performed setup world (calls.GuestFreeze (Controller controller) guest) reply after e = by_reply (HasReply (row_of words.FreezeController)) _ reply after (λ fits. some_named (codes "freeze ") _ fits) e
 performed setup world (calls.GuestRelease freeze) reply after e = released world (entry_of freeze world.transport.freezes) reply after e
@@ -105,9 +118,10 @@ AreEach P (x ∷ xs) = P (refused x.1) × AreEach P xs
 
 among : (setup : Setup) (world : World) (call : Call) → AreEach (HasReply (row_of (word_of call))) (refusals_of setup world call)
 unfolding row_of refusal_row
-among setup world (calls.Submit queue priority retries) = (λ fits. refl, (λ fits. refl, tt))
+among setup world (calls.Submit queue priority retries class) = (λ fits. refl, (λ fits. refl, tt))
 among setup world (calls.Dispatch queue) = (λ fits. refl, (λ fits. refl, (λ fits. refl, (λ fits. refl, (λ fits. refl, tt)))))
 among setup world (calls.Complete outcome) = (λ fits. refl, (λ fits. refl, (λ fits. refl, tt)))
+among setup world (calls.Withdraw ccb) = (λ fits. refl, (λ fits. refl, (λ fits. refl, tt)))
 among setup world (calls.GuestFreeze (Device queue) guest) = (λ fits. refl, (λ fits. refl, tt))
 among setup world (calls.GuestFreeze (Controller controller) guest) = (λ fits. refl, (λ fits. refl, tt))
 among setup world (calls.GuestRelease freeze) = tt
@@ -136,42 +150,49 @@ some_sense (byte ∷ sense) few bytes =
     (and_from (nat_lt 0 (length (byte ∷ sense)) && nat_le (length (byte ∷ sense)) 64) (list_all is_byte (byte ∷ sense))
     (and_from (nat_lt 0 (length (byte ∷ sense))) (nat_le (length (byte ∷ sense)) 64) (lt-ltb 0 (length (byte ∷ sense)) (omega arith)) few) bytes)
 
-asked : (call : Call) → is_call call ≡ true → CallFits call → IsSome (line_text (word_of call) (values_of call))
+-- a class that a submission says, or leaves out
+some_class : (class : Option ℕ) → ClassFits class → IsSome (slot_text (Some kinds.Class) (number_of class))
+unfolding field_text
+some_class None fits = refl
+some_class (Some class) fits = some_field _ (some_number class fits)
+
+asked : (setup : Setup) (call : Call) → is_call setup call ≡ true → CallFits call → IsSome (line_text (word_of call) (values_of call))
 unfolding row_of fields_text field_text
-asked (calls.Submit queue priority retries) can fits =
-    some_line (word_text words.Submit) _ _ _ (Some []) (some_field _ (some_number queue.0 fits.0)) (some_field _ (some_number priority fits.1)) (some_field _ (some_number retries fits.2)) refl
-asked (calls.Dispatch queue) can fits = some_line (word_text words.Dispatch) _ (Some []) (Some []) (Some []) (some_field _ (some_number queue.0 fits)) refl refl refl
-asked (calls.Complete outcome) can fits =
+asked setup (calls.Submit queue priority retries class) can fits =
+    some_line (word_text words.Submit) _ _ _ _ (some_field _ (some_number queue.0 fits.0)) (some_field _ (some_number priority fits.1)) (some_field _ (some_number retries fits.2)) (some_class class fits.3)
+asked setup (calls.Dispatch queue) can fits = some_line (word_text words.Dispatch) _ (Some []) (Some []) (Some []) (some_field _ (some_number queue.0 fits)) refl refl refl
+asked setup (calls.Complete outcome) can fits =
     let reported : Bool = not (code_of outcome.status == code_of RequestInProgress) in
     let all = and_parts (reported && nat_lt outcome.scsi 256 && nat_le (length outcome.sense) 64) (list_all is_byte outcome.sense) can in
     let few = and_parts (reported && nat_lt outcome.scsi 256) (nat_le (length outcome.sense) 64) all.0 in
     let parts = and_parts reported (nat_lt outcome.scsi 256) few.0 in
     some_line (word_text words.Complete) _ _ _ _ (some_field _ (some_number outcome.ccb.0 fits)) (some_field _ (some_status outcome parts.0))
     (some_field _ (some_where (is_byte outcome.scsi) (pair_text outcome.scsi) parts.1)) (some_field _ (some_sense outcome.sense few.1 all.1))
-asked (calls.GuestFreeze (Device queue) guest) can fits = some_line (word_text words.FreezeQueue) _ _ (Some []) (Some []) (some_field _ (some_number queue.0 fits.0)) (some_field _ (some_number guest fits.1)) refl refl
-asked (calls.GuestFreeze (Controller controller) guest) can fits = some_line (word_text words.FreezeController) _ _ (Some []) (Some []) (some_field _ (some_number controller fits.0)) (some_field _ (some_number guest fits.1)) refl refl
-asked (calls.GuestRelease freeze) can fits = some_line (word_text words.ReleaseFreeze) _ (Some []) (Some []) (Some []) (some_field _ (some_number freeze fits)) refl refl refl
-asked (calls.Clock reading) can fits = some_line (word_text words.Clock) _ (Some []) (Some []) (Some []) (some_field _ (some_long_number reading fits)) refl refl refl
-asked (calls.Park run) can fits = some_line (word_text words.Park) _ (Some []) (Some []) (Some []) (some_field _ (some_number run fits)) refl refl refl
-asked (calls.Resume run) can fits = some_line (word_text words.Resume) _ (Some []) (Some []) (Some []) (some_field _ (some_number run fits)) refl refl refl
+asked setup (calls.Withdraw ccb) can fits = some_line (word_text words.Withdraw) _ (Some []) (Some []) (Some []) (some_field _ (some_number ccb.0 fits)) refl refl refl
+asked setup (calls.GuestFreeze (Device queue) guest) can fits = some_line (word_text words.FreezeQueue) _ _ (Some []) (Some []) (some_field _ (some_number queue.0 fits.0)) (some_field _ (some_number guest fits.1)) refl refl
+asked setup (calls.GuestFreeze (Controller controller) guest) can fits = some_line (word_text words.FreezeController) _ _ (Some []) (Some []) (some_field _ (some_number controller fits.0)) (some_field _ (some_number guest fits.1)) refl refl
+asked setup (calls.GuestRelease freeze) can fits = some_line (word_text words.ReleaseFreeze) _ (Some []) (Some []) (Some []) (some_field _ (some_number freeze fits)) refl refl refl
+asked setup (calls.Clock reading) can fits = some_line (word_text words.Clock) _ (Some []) (Some []) (Some []) (some_field _ (some_long_number reading fits)) refl refl refl
+asked setup (calls.Park run) can fits = some_line (word_text words.Park) _ (Some []) (Some []) (Some []) (some_field _ (some_number run fits)) refl refl refl
+asked setup (calls.Resume run) can fits = some_line (word_text words.Resume) _ (Some []) (Some []) (Some []) (some_field _ (some_number run fits)) refl refl refl
 
 -- ---- both
 
 -- what can be asked was asked
-can_be : (setup : Setup) (before : World) (call : Call) (reply : Reply) (after : World) → WorldStep setup before (called call) reply after → is_call call ≡ true
+pub can_be : (setup : Setup) (before : World) (call : Call) (reply : Reply) (after : World) → WorldStep setup before (called call) reply after → is_call setup call ≡ true
 can_be setup before call reply after e =
-    elim (cases_Bool (is_call call)) [
+    elim (cases_Bool (is_call setup call)) [
       | inl can ↦ can
-      | inr cannot ↦ absurd (let bad : None ≡ Some (reply, after) = sym (cond-false (is_call call) _ None cannot) ∙ e in cc)
+      | inr cannot ↦ absurd (let bad : None ≡ Some (reply, after) = sym (cond-false (is_call setup call) _ None cannot) ∙ e in cc)
     ]
 
 -- and the answer is one of its line
 pub answered : (setup : Setup) (before : World) (call : Call) (answer : CallAnswer) (after : World) → WorldStep setup before (called call) (replies answer) after → HasReply (row_of (word_of call)) (replies answer)
 answered setup before call answer after e =
     told (HasReply (row_of (word_of call))) (refusals_of setup before call) before (performs setup before call) (replies answer) after (among setup before call) (performed setup before call (replies answer) after)
-    (sym (cond-true (is_call call) _ None (can_be setup before call (replies answer) after e)) ∙ e)
+    (sym (cond-true (is_call setup call) _ None (can_be setup before call (replies answer) after e)) ∙ e)
 
 pub call_has : (setup : Setup) (before : World) (call : Call) (answer : CallAnswer) (after : World) → WorldStep setup before (called call) (replies answer) after → HasLine (Called answer call)
 call_has setup before call answer after e =
     let has = answered setup before call answer after e in
-    λ fits. some_entry (line_text (word_of call) (values_of call)) (answer_text (row_of (word_of call)) answer) (asked call (can_be setup before call (replies answer) after e) fits.0) (has fits.1)
+    λ fits. some_entry (line_text (word_of call) (values_of call)) (answer_text (row_of (word_of call)) answer) (asked setup call (can_be setup before call (replies answer) after e) fits.0) (has fits.1)

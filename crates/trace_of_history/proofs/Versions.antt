@@ -1,25 +1,27 @@
 -- A record of a history is one that a text of the configuration's version may have.
-use Rattle.std.proofs.Common.{◌≡◌, ◌&&◌, ℕ, zero, suc, not, Bool, true, false, cond, List, [], ◌∷◌, take, drop, replicate, refl, ap, sym, subst, ◌∙◌, arith, nat_lt, rules}
+use Rattle.std.proofs.Common.{◌≡◌, ◌&&◌, ℕ, zero, suc, not, Bool, true, false, cond, Option, Some, None, List, [], ◌∷◌, take, drop, replicate, refl, ap, sym, subst, ◌∙◌, arith, nat_lt, rules}
 use Rattle.std.specs.Prelude.{IsSome}
 use Rattle.std.specs.List.{AllByRecursion}
-use Rattle.std.proofs.lemmas.Bool.{cond-true, cond-false, le-leb}
+use Rattle.std.proofs.lemmas.Bool.{and_from, cond-true, cond-false, le-leb}
 use Rattle.std.proofs.lemmas.Bool.Decides.{nat_tests}
 use Rattle.std.proofs.lemmas.List.Elements.{recursion_from_All}
 use Rattle.std.proofs.lemmas.List.Sums.{sum_by-cons}
+use Rattle.ccb.specs.declared.CcbId.{CcbId}
 use Rattle.ccb.specs.declared.QueueId.{QueueId}
 use Rattle.freeze_ledger.specs.declared.freeze.Freeze.{Freeze}
 use Rattle.ccb.specs.declared.place.Place.{Place}
 use Rattle.ccb.specs.declared.place.Place.TheVariants.{Controller, Device}
 use Rattle.freeze_ledger.specs.Freezes.{frozen, names}
 use Rattle.ccb.specs.Places.{is_place}
-use Rattle.helpers.specs.Table.{is_there, row_of as helper_row}
+use Rattle.helpers.specs.Table.{are_classed, is_there, row_of as helper_row}
 use Rattle.helpers.specs.declared.columns.Tells.{Tells}
 use Rattle.helpers.specs.declared.columns.Tells.TheVariants as tells
 use Rattle.helpers.specs.declared.limits.HelperSet.{HelperSet}
-use Rattle.helpers.specs.declared.limits.HelperSet.TheVariants.{Controllers, Queues}
+use Rattle.helpers.specs.declared.limits.HelperSet.TheVariants.{Classes, Controllers, Queues}
 use Rattle.helpers.specs.declared.request.Request.{Request}
 use Rattle.helpers.specs.declared.table.Helper.{Helper}
 use Rattle.helpers.specs.declared.table.Helper.TheVariants.{FreezeController}
+use Rattle.world_calls.specs.Answered.{started_answer}
 use Rattle.world_calls.specs.Versions.{version_in}
 use Rattle.world_calls.specs.declared.call.Call.{Call}
 use Rattle.world_calls.specs.declared.call.Call.TheVariants as calls
@@ -32,15 +34,16 @@ use Rattle.world_calls.specs.declared.record.Record.{Record}
 use Rattle.world_calls.specs.declared.record.Record.TheVariants.{Called, Advance}
 use Rattle.world_calls.specs.declared.record.StoppedAt.{StoppedAt}
 use Rattle.world_calls.specs.declared.record.StoppedAt.TheVariants as stopped
+use Rattle.world_calls.specs.declared.start.Start.{Start}
 use Rattle.world_calls.specs.declared.trace.Version.{Version}
-use Rattle.world_calls.specs.declared.trace.Version.TheVariants.{One, Two}
+use Rattle.world_calls.specs.declared.trace.Version.TheVariants.{One, Three, Two}
 use Rattle.trace_lines.specs.Calls.{word_of}
 use Rattle.trace_lines.specs.Rows.{may_be, row_of}
 use Rattle.trace_lines.specs.Texts.{where_true}
 use Rattle.trace_lines.specs.declared.word.Word.{Word}
 use Rattle.trace_lines.specs.declared.word.Word.TheVariants as words
-use Rattle.trace.specs.Versions.{is_answer_of_one, is_later, is_later_refusal, is_of, is_stop_of_one, is_unknown as is_answered_unknown}
-use Rattle.world.specs.World.{Setup, World, queue_setup, version_of}
+use Rattle.trace.specs.Versions.{helpers_of, is_answer_of, is_call_of, is_class_of, is_helper_of, is_later, is_later_refusal, is_of, is_start_of, is_stop_of, is_told_of, is_unknown as is_answered_unknown}
+use Rattle.world.specs.World.{Setup, World, class_fits, has_classes, queue_setup, version_of}
 use Rattle.world.specs.Lawful.{AreUnder, IsLawful}
 use Rattle.world.specs.Limits.{NamesNoOther}
 use Rattle.world.specs.Lookups.{next_waiting}
@@ -56,13 +59,61 @@ use Rattle.world_laws.proofs.Leads.{leads_split}
 use Rattle.world_laws.proofs.Sound.{IsSound}
 use Rattle.world_laws.proofs.Steps.Rules.{rule_parts}
 use Rattle.world_laws.proofs.Steps.Running.{some_is, call_parts}
-use Rattle.trace_of_history.proofs.Calls.{HasReply, answered, by_found, told}
+use Rattle.trace_of_history.proofs.Calls.{HasReply, answered, by_found, can_be, told}
+
+-- ---- a submission says a class where CCBs have one, and there alone
+
+class_said : (set : HelperSet) (class : Option ℕ) → class_fits (are_classed set) class ≡ true → is_class_of (version_in set) class ≡ true
+class_said Queues None fits = refl
+class_said Queues (Some class) fits = absurd (let bad : false ≡ true = fits in cc)
+class_said Controllers None fits = refl
+class_said Controllers (Some class) fits = absurd (let bad : false ≡ true = fits in cc)
+class_said Classes None fits = absurd (let bad : false ≡ true = fits in cc)
+class_said Classes (Some class) fits = refl
+
+call_of_its : (setup : Setup) (before : World) (asked : Call) (reply : Reply) (after : World) → WorldStep setup before (called asked) reply after → is_call_of (version_of setup) asked ≡ true
+call_of_its setup before (calls.Submit queue priority retries class) reply after e = class_said setup.limits.helpers class (can_be setup before (calls.Submit queue priority retries class) reply after e)
+call_of_its setup before (calls.Dispatch queue) reply after e = refl
+call_of_its setup before (calls.Complete outcome) reply after e = refl
+call_of_its setup before (calls.Withdraw ccb) reply after e = refl
+call_of_its setup before (calls.GuestFreeze place guest) reply after e = refl
+call_of_its setup before (calls.GuestRelease freeze) reply after e = refl
+call_of_its setup before (calls.Clock reading) reply after e = refl
+call_of_its setup before (calls.Park run) reply after e = refl
+call_of_its setup before (calls.Resume run) reply after e = refl
+
+-- ---- a start reports an advice where CCBs have one, and there alone
+
+-- the reply is an answer, and as a start's
+abbrev IsStart : Version → Reply → Type 0
+IsStart version (replies answer) = is_start_of version answer ≡ true
+IsStart version went_on = ⊥
+IsStart version (result r0) = ⊥
+
+advice_said : (version : Version) (start : Start) → IsStart version (replies (started_answer version start))
+advice_said One start = refl
+advice_said Two start = refl
+advice_said Three start = refl
+
+start_of_its : (setup : Setup) (before : World) (queue : QueueId) (reply : Reply) (after : World) → WorldStep setup before (called (calls.Dispatch queue)) reply after → IsStart (version_of setup) reply
+unfolding refusal_row
+start_of_its setup before queue reply after e =
+    told (IsStart (version_of setup)) (refusals_of setup before (calls.Dispatch queue)) before (performs setup before (calls.Dispatch queue)) reply after (refl, (refl, (refl, (refl, (refl, tt)))))
+    (λ done. by_found (IsStart (version_of setup)) (starts setup before) (next_waiting queue.0 before.transport.live) reply after (λ live. advice_said (version_of setup) (record { ccb = live.ccb.number; advice = live.ccb.advice })) done)
+    e
+
+told_of_its : (setup : Setup) (before : World) (asked : Call) (answer : CallAnswer) (after : World) → WorldStep setup before (called asked) (replies answer) after → is_told_of (version_of setup) asked answer ≡ true
+told_of_its setup before (calls.Submit queue priority retries class) answer after e = refl
+told_of_its setup before (calls.Dispatch queue) answer after e = start_of_its setup before queue (replies answer) after e
+told_of_its setup before (calls.Complete outcome) answer after e = refl
+told_of_its setup before (calls.Withdraw ccb) answer after e = refl
+told_of_its setup before (calls.GuestFreeze place guest) answer after e = refl
+told_of_its setup before (calls.GuestRelease freeze) answer after e = refl
+told_of_its setup before (calls.Clock reading) answer after e = refl
+told_of_its setup before (calls.Park run) answer after e = refl
+told_of_its setup before (calls.Resume run) answer after e = refl
 
 -- ---- where queues alone freeze
-
-queues_alone : (set : HelperSet) → version_in set ≡ One → set ≡ Queues
-queues_alone Queues e = refl
-queues_alone Controllers e = absurd (let bad : Two ≡ One = e in cc)
 
 module _ (setup : Setup) (lawful : IsLawful setup) (alone : setup.limits.helpers ≡ Queues) where
   no_controllers : setup.controllers ≡ 0
@@ -104,7 +155,7 @@ module _ (setup : Setup) (lawful : IsLawful setup) (alone : setup.limits.helpers
 
 -- the reply is an answer, and no such refusal
 abbrev IsOfFirst : Reply → Type 0
-IsOfFirst (replies answer) = is_later_refusal answer ≡ false
+IsOfFirst (replies answer) = is_later_refusal One answer ≡ false
 IsOfFirst went_on = ⊥
 IsOfFirst (result r0) = ⊥
 
@@ -122,14 +173,15 @@ is_other words.Dispatch = false
 is_other word = true
 
 -- only a queue's start may be refused for such a reason
-starts_alone : (word : Word) (refusal : CallRefusal) → (is_other word && may_be (row_of word) refusal && is_later refusal) ≡ false
+starts_alone : (word : Word) (refusal : CallRefusal) → (is_other word && may_be (row_of word) refusal && is_later One refusal) ≡ false
 unfolding row_of refusal_row
 starts_alone word refusal = search rules
 
 first_alone : (word : Word) → is_other word ≡ true → (answer : CallAnswer) → HasReply (row_of word) (replies answer) → IsOfFirst (replies answer)
 first_alone word other (answers.Refused refusal) has =
-    never (may_be (row_of word) refusal) (is_later refusal) (sym (ap (λ (b : Bool). b && may_be (row_of word) refusal && is_later refusal) other) ∙ starts_alone word refusal) (where_some (may_be (row_of word) refusal) (call_refusal_text refusal) (has tt))
+    never (may_be (row_of word) refusal) (is_later One refusal) (sym (ap (λ (b : Bool). b && may_be (row_of word) refusal && is_later One refusal) other) ∙ starts_alone word refusal) (where_some (may_be (row_of word) refusal) (call_refusal_text refusal) (has tt))
 first_alone word other (answers.Ccb ccb) has = refl
+first_alone word other (answers.Advised ccb advice) has = refl
 first_alone word other answers.Done has = refl
 first_alone word other (answers.Started run freeze) has = refl
 first_alone word other (answers.Freeze freeze) has = refl
@@ -147,6 +199,16 @@ TellsUnknown (replies answer) = is_answered_unknown answer ≡ true
 TellsUnknown went_on = ⊥
 TellsUnknown (result r0) = ⊥
 
+-- where CCBs have no class a withdrawal is refused, since what it names is not there
+withdrawn_none : (setup : Setup) → has_classes setup ≡ false → (before : World) (ccb : CcbId) (reply : Reply) (after : World) → WorldStep setup before (called (calls.Withdraw ccb)) reply after → TellsUnknown reply
+withdrawn_none setup none before ccb reply after e =
+    subst TellsUnknown (sym (ap (λ (x : Reply × World). x.0) (some_is (refused refusals.Unknown, before) (reply, after) (sym (cond-true _ _ _ (not_so (has_classes setup) none)) ∙ e)))) refl
+
+start_of_first : (version : Version) (start : Start) → IsOfFirst (replies (started_answer version start))
+start_of_first One start = refl
+start_of_first Two start = refl
+start_of_first Three start = refl
+
 module _ (setup : Setup) (lawful : IsLawful setup) (alone : setup.limits.helpers ≡ Queues) (before : World) (sound : IsSound setup before) where
   -- where no controller is frozen, a start is refused as by the tests before that
   dispatched : (queue : QueueId) (reply : Reply) (after : World) → WorldStep setup before (called (calls.Dispatch queue)) reply after → IsOfFirst reply
@@ -155,7 +217,7 @@ module _ (setup : Setup) (lawful : IsLawful setup) (alone : setup.limits.helpers
       let controller = (queue_setup setup queue.0).controller in
       let tests : List (Bool × CallRefusal) = refusals_of setup before (calls.Dispatch queue) in
       told IsOfFirst (take 4 tests) before (unless_refused (drop 4 tests) before (performs setup before (calls.Dispatch queue))) reply after (refl, (refl, (refl, (refl, tt))))
-      (λ last. by_found IsOfFirst (starts before) (next_waiting queue.0 before.transport.live) reply after (λ live. refl) (sym (cond-false _ _ _ (none_frozen setup lawful alone before sound controller)) ∙ last))
+      (λ last. by_found IsOfFirst (starts setup before) (next_waiting queue.0 before.transport.live) reply after (λ live. start_of_first (version_of setup) (record { ccb = live.ccb.number; advice = live.ccb.advice })) (sym (cond-false _ _ _ (none_frozen setup lawful alone before sound controller)) ∙ last))
       e
 
   -- a controller's freeze is refused, since there is none
@@ -163,19 +225,73 @@ module _ (setup : Setup) (lawful : IsLawful setup) (alone : setup.limits.helpers
   frozen_none controller guest reply after e =
       subst TellsUnknown (sym (ap (λ (x : Reply × World). x.0) (some_is (refused refusals.Unknown, before) (reply, after) (sym (cond-true _ _ _ (every_is_unknown setup lawful alone controller)) ∙ e)))) refl
 
-  by_line : (asked : Call) (answer : CallAnswer) (after : World) → is_other (word_of asked) ≡ true → WorldStep setup before (called asked) (replies answer) after → not (is_later_refusal answer) ≡ true
-  by_line asked answer after other e = not_so (is_later_refusal answer) (first_alone (word_of asked) other answer (answered setup before asked answer after e))
+  by_line : (asked : Call) (answer : CallAnswer) (after : World) → is_other (word_of asked) ≡ true → WorldStep setup before (called asked) (replies answer) after → not (is_later_refusal One answer) ≡ true
+  by_line asked answer after other e = not_so (is_later_refusal One answer) (first_alone (word_of asked) other answer (answered setup before asked answer after e))
 
-  answer_of_one : (asked : Call) (answer : CallAnswer) (after : World) → WorldStep setup before (called asked) (replies answer) after → is_answer_of_one asked answer ≡ true
-  answer_of_one (calls.Submit queue priority retries) answer after e = by_line (calls.Submit queue priority retries) answer after refl e
-  answer_of_one (calls.Dispatch queue) answer after e = not_so (is_later_refusal answer) (dispatched queue (replies answer) after e)
+  answer_of_one : (asked : Call) (answer : CallAnswer) (after : World) → WorldStep setup before (called asked) (replies answer) after → is_answer_of One asked answer ≡ true
+  answer_of_one (calls.Submit queue priority retries class) answer after e = by_line (calls.Submit queue priority retries class) answer after refl e
+  answer_of_one (calls.Dispatch queue) answer after e = not_so (is_later_refusal One answer) (dispatched queue (replies answer) after e)
   answer_of_one (calls.Complete outcome) answer after e = by_line (calls.Complete outcome) answer after refl e
+  answer_of_one (calls.Withdraw ccb) answer after e = withdrawn_none setup (ap are_classed alone) before ccb (replies answer) after e
   answer_of_one (calls.GuestFreeze (Device queue) guest) answer after e = by_line (calls.GuestFreeze (Device queue) guest) answer after refl e
   answer_of_one (calls.GuestFreeze (Controller controller) guest) answer after e = frozen_none controller guest (replies answer) after e
   answer_of_one (calls.GuestRelease freeze) answer after e = by_line (calls.GuestRelease freeze) answer after refl e
   answer_of_one (calls.Clock reading) answer after e = by_line (calls.Clock reading) answer after refl e
   answer_of_one (calls.Park run) answer after e = by_line (calls.Park run) answer after refl e
   answer_of_one (calls.Resume run) answer after e = by_line (calls.Resume run) answer after refl e
+
+-- ---- where controllers freeze too
+
+none_later_two : (refusal : CallRefusal) → is_later Two refusal ≡ false
+unfolding refusal_row
+none_later_two refusal = search rules
+
+none_later_three : (refusal : CallRefusal) → is_later Three refusal ≡ false
+unfolding refusal_row
+none_later_three refusal = search rules
+
+-- the version has each refusal
+has_each : (version : Version) → ((refusal : CallRefusal) → is_later version refusal ≡ false) → (answer : CallAnswer) → not (is_later_refusal version answer) ≡ true
+has_each version none (answers.Refused refusal) = not_so (is_later version refusal) (none refusal)
+has_each version none (answers.Ccb ccb) = refl
+has_each version none (answers.Advised ccb advice) = refl
+has_each version none answers.Done = refl
+has_each version none (answers.Started run freeze) = refl
+has_each version none (answers.Freeze freeze) = refl
+has_each version none (answers.Left count) = refl
+has_each version none (answers.Removed count) = refl
+has_each version none answers.Ok = refl
+
+answer_of_two : (setup : Setup) → has_classes setup ≡ false → (before : World) (asked : Call) (answer : CallAnswer) (after : World) → WorldStep setup before (called asked) (replies answer) after → is_answer_of Two asked answer ≡ true
+answer_of_two setup none before (calls.Submit queue priority retries class) answer after e = has_each Two none_later_two answer
+answer_of_two setup none before (calls.Dispatch queue) answer after e = has_each Two none_later_two answer
+answer_of_two setup none before (calls.Complete outcome) answer after e = has_each Two none_later_two answer
+answer_of_two setup none before (calls.Withdraw ccb) answer after e = withdrawn_none setup none before ccb (replies answer) after e
+answer_of_two setup none before (calls.GuestFreeze (Device queue) guest) answer after e = has_each Two none_later_two answer
+answer_of_two setup none before (calls.GuestFreeze (Controller controller) guest) answer after e = has_each Two none_later_two answer
+answer_of_two setup none before (calls.GuestRelease freeze) answer after e = has_each Two none_later_two answer
+answer_of_two setup none before (calls.Clock reading) answer after e = has_each Two none_later_two answer
+answer_of_two setup none before (calls.Park run) answer after e = has_each Two none_later_two answer
+answer_of_two setup none before (calls.Resume run) answer after e = has_each Two none_later_two answer
+
+answer_of_three : (asked : Call) (answer : CallAnswer) → is_answer_of Three asked answer ≡ true
+answer_of_three (calls.Submit queue priority retries class) answer = has_each Three none_later_three answer
+answer_of_three (calls.Dispatch queue) answer = has_each Three none_later_three answer
+answer_of_three (calls.Complete outcome) answer = has_each Three none_later_three answer
+answer_of_three (calls.Withdraw ccb) answer = has_each Three none_later_three answer
+answer_of_three (calls.GuestFreeze (Device queue) guest) answer = has_each Three none_later_three answer
+answer_of_three (calls.GuestFreeze (Controller controller) guest) answer = has_each Three none_later_three answer
+answer_of_three (calls.GuestRelease freeze) answer = has_each Three none_later_three answer
+answer_of_three (calls.Clock reading) answer = has_each Three none_later_three answer
+answer_of_three (calls.Park run) answer = has_each Three none_later_three answer
+answer_of_three (calls.Resume run) answer = has_each Three none_later_three answer
+
+-- by which helpers there are
+answer_of_set : (setup : Setup) → IsLawful setup → (set : HelperSet) → setup.limits.helpers ≡ set → (before : World) → IsSound setup before → (asked : Call) (answer : CallAnswer) (after : World)
+    → WorldStep setup before (called asked) (replies answer) after → is_answer_of (version_in set) asked answer ≡ true
+answer_of_set setup lawful Queues is before sound asked answer after e = answer_of_one setup lawful is before sound asked answer after e
+answer_of_set setup lawful Controllers is before sound asked answer after e = answer_of_two setup (ap are_classed is) before asked answer after e
+answer_of_set setup lawful Classes is before sound asked answer after e = answer_of_three asked answer
 
 -- ---- a run calls helpers that there are
 
@@ -184,35 +300,37 @@ helper_told tells.Name request = refl
 helper_told tells.Bytes request = refl
 helper_told tells.Code request = refl
 
-module _ (setup : Setup) (alone : setup.limits.helpers ≡ Queues) where
-  called_there : (before : World) (run : ℕ) (its : Told) (r0 : ℕ) (after : World) → WorldStep setup before (executes run (call its)) (result r0) after → is_there Queues (helper_in its) ≡ true
+same_helpers : (set : HelperSet) → helpers_of (version_in set) ≡ set
+same_helpers Queues = refl
+same_helpers Controllers = refl
+same_helpers Classes = refl
+
+module _ (setup : Setup) where
+  called_there : (before : World) (run : ℕ) (its : Told) (r0 : ℕ) (after : World) → WorldStep setup before (executes run (call its)) (result r0) after → is_helper_of (version_of setup) (helper_in its) ≡ true
   called_there before run its r0 after e =
       let c = call_parts setup before run its (result r0) after e in
       let same : helper_in its ≡ c.request.helper = ap helper_in c.told_is ∙ helper_told (helper_row c.request.helper).tells c.request in
       let there = (rule_parts setup.limits c.it.run.machine c.request c.rule).there in
-      subst (λ (set : HelperSet). is_there set (helper_in its) ≡ true) alone (subst (λ (helper : Helper). is_there setup.limits.helpers helper ≡ true) (sym same) there)
+      subst (λ (set : HelperSet). is_there set (helper_in its) ≡ true) (sym (same_helpers setup.limits.helpers)) (subst (λ (helper : Helper). is_there setup.limits.helpers helper ≡ true) (sym same) there)
 
-  stop_of_one : (before : World) (run : ℕ) (stop : StoppedAt) (r0 : ℕ) (after : World) → WorldStep setup before (executes run (stop_of stop)) (result r0) after → is_stop_of_one stop ≡ true
-  stop_of_one before run (stopped.Helper helper) r0 after e = called_there before run (plain helper) r0 after e
-  stop_of_one before run (stopped.Trace helper bytes) r0 after e = called_there before run (traces helper bytes) r0 after e
-  stop_of_one before run (stopped.Finish helper code) r0 after e = called_there before run (finishes helper code) r0 after e
-  stop_of_one before run stopped.Exit r0 after e = refl
+  stop_of_its : (before : World) (run : ℕ) (stop : StoppedAt) (r0 : ℕ) (after : World) → WorldStep setup before (executes run (stop_of stop)) (result r0) after → is_stop_of (version_of setup) stop ≡ true
+  stop_of_its before run (stopped.Helper helper) r0 after e = called_there before run (plain helper) r0 after e
+  stop_of_its before run (stopped.Trace helper bytes) r0 after e = called_there before run (traces helper bytes) r0 after e
+  stop_of_its before run (stopped.Finish helper code) r0 after e = called_there before run (finishes helper code) r0 after e
+  stop_of_its before run stopped.Exit r0 after e = refl
 
-  advance_of_one : (before : World) (run instructions : ℕ) (stop : StoppedAt) (r0 : ℕ) (after : World) → Leads setup before (advance_of run instructions stop r0) after → is_stop_of_one stop ≡ true
-  advance_of_one before run zero stop r0 after leads = absurd (empty_advance_is_none setup run stop r0 before after leads)
-  advance_of_one before run (suc n) stop r0 after leads =
+  advance_of_its : (before : World) (run instructions : ℕ) (stop : StoppedAt) (r0 : ℕ) (after : World) → Leads setup before (advance_of run instructions stop r0) after → is_stop_of (version_of setup) stop ≡ true
+  advance_of_its before run zero stop r0 after leads = absurd (empty_advance_is_none setup run stop r0 before after leads)
+  advance_of_its before run (suc n) stop r0 after leads =
       let parts = leads_split setup before (replicate n (executes run private, went_on)) ((executes run (stop_of stop), result r0) ∷ []) after leads in
-      stop_of_one parts.0 run stop r0 parts.2.0 parts.2.1
+      stop_of_its parts.0 run stop r0 parts.2.0 parts.2.1
 
 -- ---- any record
 
-of_one : (setup : Setup) (before : World) (entry : Record) (after : World) → IsLawful setup → setup.limits.helpers ≡ Queues → IsSound setup before → Leads setup before (events_of entry) after → is_of One entry ≡ true
-of_one setup before (Called answer asked) after lawful alone sound leads = answer_of_one setup lawful alone before sound asked answer leads.0 leads.1
-of_one setup before (Advance run instructions stop r0) after lawful alone sound leads = advance_of_one setup alone before run instructions stop r0 after leads
-
-of_its : (setup : Setup) (before : World) (entry : Record) (after : World) → IsLawful setup → IsSound setup before → Leads setup before (events_of entry) after → (version : Version) → version_of setup ≡ version → is_of version entry ≡ true
-of_its setup before entry after lawful sound leads One is = of_one setup before entry after lawful (queues_alone setup.limits.helpers is) sound leads
-of_its setup before entry after lawful sound leads Two is = refl
-
 pub of_version : (setup : Setup) (before : World) (entry : Record) (after : World) → IsLawful setup → IsSound setup before → Leads setup before (events_of entry) after → is_of (version_of setup) entry ≡ true
-of_version setup before entry after lawful sound leads = of_its setup before entry after lawful sound leads (version_of setup) refl
+of_version setup before (Called answer asked) after lawful sound leads =
+    let version = version_of setup in
+    and_from (is_call_of version asked && is_told_of version asked answer) (is_answer_of version asked answer)
+    (and_from (is_call_of version asked) (is_told_of version asked answer) (call_of_its setup before asked (replies answer) leads.0 leads.1) (told_of_its setup before asked answer leads.0 leads.1))
+    (answer_of_set setup lawful setup.limits.helpers refl before sound asked answer leads.0 leads.1)
+of_version setup before (Advance run instructions stop r0) after lawful sound leads = advance_of_its setup before run instructions stop r0 after leads

@@ -6,7 +6,7 @@ use Rattle.base.specs.declared.or_memory.OrMemory.TheVariants.{OutOfMemory, Faul
 use Rattle.world_calls.specs.declared.carried_line.CarriedLine.{CarriedLine}
 use Rattle.world_calls.specs.declared.trace.Trace.{Trace}
 use Rattle.world_calls.specs.declared.trace.Version.{Version}
-use Rattle.world_calls.specs.declared.trace.Version.TheVariants.{One, Two}
+use Rattle.world_calls.specs.declared.trace.Version.TheVariants.{One, Three, Two}
 use Rattle.trace_lines.proofs.Tests.{parts_of, same_text}
 use Rattle.trace.specs.declared.fault.TraceFault.{TraceFault}
 use Rattle.trace.specs.declared.fault.TraceFault.TheVariants.{Header, Line}
@@ -32,18 +32,25 @@ one_continued : (a b : Version) (xs ys : List ℕ) → continued_header a ++ xs 
 unfolding digit
 one_continued One One xs ys e = (refl, cancel (continued_header One) xs ys e)
 one_continued Two Two xs ys e = (refl, cancel (continued_header Two) xs ys e)
+one_continued Three Three xs ys e = (refl, cancel (continued_header Three) xs ys e)
 one_continued One Two xs ys e = let clash : true ≡ false = ap (λ (t : List ℕ). digit t == 49) e in absurd cc
-one_continued Two One xs ys e = let clash : false ≡ true = ap (λ (t : List ℕ). digit t == 49) e in absurd cc
+one_continued One Three xs ys e = let clash : true ≡ false = ap (λ (t : List ℕ). digit t == 49) e in absurd cc
+one_continued Two One xs ys e = let clash : true ≡ false = ap (λ (t : List ℕ). digit t == 50) e in absurd cc
+one_continued Two Three xs ys e = let clash : true ≡ false = ap (λ (t : List ℕ). digit t == 50) e in absurd cc
+one_continued Three One xs ys e = let clash : true ≡ false = ap (λ (t : List ℕ). digit t == 51) e in absurd cc
+one_continued Three Two xs ys e = let clash : true ≡ false = ap (λ (t : List ℕ). digit t == 51) e in absurd cc
 
 marked : (version : Version) (xs : List ℕ) → mark (continued_header version ++ xs) ≡ 32
 unfolding mark
 marked One xs = refl
 marked Two xs = refl
+marked Three xs = refl
 
 unmarked : (version : Version) (xs : List ℕ) → mark (header version ++ xs) ≡ 10
 unfolding mark
 unmarked One xs = refl
 unmarked Two xs = refl
+unmarked Three xs = refl
 
 -- no text begins with first lines of both kinds
 pub apart : (a b : Version) (text xs ys : List ℕ) → text ≡ continued_header a ++ xs → text ≡ header b ++ ys → ⊥
@@ -52,9 +59,12 @@ apart a b text xs ys e f =
     let differ : true ≡ false = ap (λ (n : ℕ). n == 32) clash in
     absurd cc
 
-pub neither : (text : List ℕ) → ((rest : List ℕ) → text ≢ continued_header One ++ rest) → ((rest : List ℕ) → text ≢ continued_header Two ++ rest) → (version : Version) (rest : List ℕ) → text ≢ continued_header version ++ rest
-neither text one two One = one
-neither text one two Two = two
+-- no version's stands there
+pub none_of : (text : List ℕ) → ((rest : List ℕ) → text ≢ continued_header One ++ rest) → ((rest : List ℕ) → text ≢ continued_header Two ++ rest) → ((rest : List ℕ) → text ≢ continued_header Three ++ rest)
+    → (version : Version) (rest : List ℕ) → text ≢ continued_header version ++ rest
+none_of text one two three One = one
+none_of text one two three Two = two
+none_of text one two three Three = three
 
 -- ---- a continued trace
 

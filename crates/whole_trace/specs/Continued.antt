@@ -19,41 +19,41 @@ use Rattle.carried_lines.specs.CarriedText.{carried_text}
 use Rattle.carried_lines.specs.InOrder.{AreInOrder, IsFront}
 use Rattle.whole_trace.specs.declared.reader.WholeTrace.{WholeTrace}
 
--- the texts of carried lines, each with its line feed
-unfoldable pub carried_texts : List CarriedLine → Option (List ℕ)
-carried_texts [] = Some []
-carried_texts (line ∷ lines) = option_append (with_newline (carried_text line)) (carried_texts lines)
+-- the texts of carried lines of a version, each with its line feed
+unfoldable pub carried_texts : Version → List CarriedLine → Option (List ℕ)
+carried_texts version [] = Some []
+carried_texts version (line ∷ lines) = option_append (with_newline (carried_text version line)) (carried_texts version lines)
 
 -- what stands after the first line
 abbrev pub after_header : Version → List CarriedLine → List Record → Totals → Option (List ℕ)
-after_header version lines records totals = option_append (carried_texts lines) (lines_text version records totals)
+after_header version lines records totals = option_append (carried_texts version lines) (lines_text version records totals)
 
--- the text begins with that line
-abbrev pub BeginsWith : CarriedLine → List ℕ → List ℕ → Type 0
-BeginsWith line more text = option_append (with_newline (carried_text line)) (Some more) ≡ Some text
+-- the text begins with that line of the version
+abbrev pub BeginsWith : Version → CarriedLine → List ℕ → List ℕ → Type 0
+BeginsWith version line more text = option_append (with_newline (carried_text version line)) (Some more) ≡ Some text
 
--- it begins with no carried line
-abbrev pub HasNoCarried : List ℕ → Type 0
-HasNoCarried text = (line : CarriedLine) (more : List ℕ) → BeginsWith line more text → ⊥
+-- it begins with no carried line of the version
+abbrev pub HasNoCarried : Version → List ℕ → Type 0
+HasNoCarried version text = (line : CarriedLine) (more : List ℕ) → BeginsWith version line more text → ⊥
 
 -- The line of this number is the first that is not of the form, and it stands where a carried line may stand: the lines before it are
 -- carried lines in order, none that could be next stands there, and if those before it may be all, no line of a record and no last line.
 pub record IsFaultyCarried (version : Version) (text : List ℕ) (number : ℕ) : Type 0 where
   pub lines : List CarriedLine
   pub rest : List ℕ
-  pub front : option_append (carried_texts lines) (Some rest) ≡ Some text
+  pub front : option_append (carried_texts version lines) (Some rest) ≡ Some text
   pub place : number ≡ length lines + 2
   pub in_order : IsFront lines
-  pub not_next : (line : CarriedLine) (more : List ℕ) → BeginsWith line more rest → IsFront (lines ++ line ∷ []) → ⊥
+  pub not_next : (line : CarriedLine) (more : List ℕ) → BeginsWith version line more rest → IsFront (lines ++ line ∷ []) → ⊥
   pub not_after : AreInOrder lines → HasNoLine version rest
 
 -- The line of this number is the first that is not of the form, and all carried lines stand before it.
 pub record IsFaultyAfter (version : Version) (text : List ℕ) (number : ℕ) : Type 0 where
   pub lines : List CarriedLine
   pub rest : List ℕ
-  pub front : option_append (carried_texts lines) (Some rest) ≡ Some text
+  pub front : option_append (carried_texts version lines) (Some rest) ≡ Some text
   pub in_order : AreInOrder lines
-  pub no_more : HasNoCarried rest
+  pub no_more : HasNoCarried version rest
   pub is : IsFaultyFrom version rest (length lines + 2) number
 
 -- in what stands after the first line of a continued trace, the line of this number is the first that is not of the form
@@ -100,17 +100,17 @@ IsReadContinued version text read =
 -- ---- inside
 
 -- these are all carried lines with which the text begins, and this stands after them
-pub record AreCarried (text : List ℕ) (lines : List CarriedLine) (rest : List ℕ) : Type 0 where
-  pub front : option_append (carried_texts lines) (Some rest) ≡ Some text
+pub record AreCarried (version : Version) (text : List ℕ) (lines : List CarriedLine) (rest : List ℕ) : Type 0 where
+  pub front : option_append (carried_texts version lines) (Some rest) ≡ Some text
   pub in_order : AreInOrder lines
-  pub no_more : HasNoCarried rest
+  pub no_more : HasNoCarried version rest
   pub room : length lines + length rest ≤ length text
 
-abbrev pub SaysCarried : List ℕ → List CarriedLine → Result (Bor (List ℕ)) (OrMemory TraceFault) → Type 0
-SaysCarried text lines (Ok rest) = AreCarried text lines rest.now
-SaysCarried text lines (Err OutOfMemory) = Unit {0}
-SaysCarried text lines (Err (Fault Header)) = ⊥
-SaysCarried text lines (Err (Fault (Line number))) = (version : Version) → IsFaultyCarried version text number
+abbrev pub SaysCarried : Version → List ℕ → List CarriedLine → Result (Bor (List ℕ)) (OrMemory TraceFault) → Type 0
+SaysCarried version text lines (Ok rest) = AreCarried version text lines rest.now
+SaysCarried version text lines (Err OutOfMemory) = Unit {0}
+SaysCarried version text lines (Err (Fault Header)) = ⊥
+SaysCarried version text lines (Err (Fault (Line number))) = IsFaultyCarried version text number
 
 -- what is said of the text after these carried lines
 abbrev pub SaysAfter : Version → List CarriedLine → List ℕ → Result WholeTrace (OrMemory TraceFault) → Type 0

@@ -1,7 +1,8 @@
 // Reads the text of a whole trace. It relies on `trace` for the trace of an engine that was opened, and for the lines of records; and on
 // `continued` for carried lines.
 
-ghost use Rattle.std.specs.Prelude.{◌≡◌, ◌++◌, ◌+◌, ◌<◌, ◌^◌, IfOk, MatchOption, length};
+ghost use Rattle.std.specs.Prelude.{◌≡◌, ◌≢◌, ◌++◌, ◌+◌, ◌<◌, ◌^◌, IfOk, List, MatchOption, length, ℕ};
+ghost use Rattle.world_calls.specs.declared.trace.Version.TheVariants.{One};
 ghost use Rattle.trace.specs.HasText.{AllHaveText};
 ghost use Rattle.carried_lines.specs.FirstLine.{continued_header};
 ghost use Rattle.carried_lines.specs.InOrder.{AreInOrder};
@@ -32,11 +33,24 @@ pub fn read(alloc: Global, text: &str) -> Result<WholeTrace, TraceError>
     // What was read can be printed.
     ensures spelled { IfOk result (λ whole. AllHaveText whole.trace.version whole.trace.records.items) }
 {
-    if let Some(lines) = after(Version::One, text) {
-        return read_continued(alloc, Version::One, lines);
+    match after(Version::One, text) {
+        Some(lines) => read_continued(alloc, Version::One, lines),
+        None => read_later(alloc, text),
     }
-    match after(Version::Two, text) {
-        Some(lines) => read_continued(alloc, Version::Two, lines),
+}
+
+// Reads a trace that is no continued one of the first version.
+fn read_later(alloc: Global, text: &str) -> Result<WholeTrace, TraceError>
+    requires later { (rest : List ℕ) → text.now ≢ continued_header One ++ rest }
+    ensures said { SaysWhole text.now result }
+    ensures back { IsReadAgain text.now result }
+    ensures spelled { IfOk result (λ whole. AllHaveText whole.trace.version whole.trace.records.items) }
+{
+    if let Some(lines) = after(Version::Two, text) {
+        return read_continued(alloc, Version::Two, lines);
+    }
+    match after(Version::Three, text) {
+        Some(lines) => read_continued(alloc, Version::Three, lines),
         None => read_plain(alloc, text),
     }
 }
@@ -70,7 +84,7 @@ fn read_continued(alloc: Global, version: Version, text: &str) -> Result<WholeTr
     ensures spelled { IfOk result (λ whole. AllHaveText whole.trace.version whole.trace.records.items) }
 {
     let mut lines = Vec::new(alloc);
-    match read_carried_lines(&mut lines, text) {
+    match read_carried_lines(version, &mut lines, text) {
         Ok(rest) => read_after(alloc, version, lines, rest),
         Err(fault) => Err(fault),
     }

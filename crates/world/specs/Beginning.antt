@@ -9,13 +9,14 @@ use Rattle.world.specs.FreezeSteps.{is_guest, is_timer}
 use Rattle.world.specs.Refusals.{is_unknown}
 use Rattle.world.specs.Limits.{KeepsLimits}
 
--- It waits or is active, and nothing is left of an earlier completion.
+-- It waits or is active, and nothing is left of an earlier completion, nor of an advice that its start reported.
 pub record IsCarriedCcb (live : LiveCcb) : Type 0 where
   pub state : (live.state ≡ Waiting) ⊎ (live.state ≡ Active)
   pub status : live.ccb.status ≡ RequestInProgress
   pub scsi : live.ccb.scsi ≡ 0
   pub sense : live.ccb.sense ≡ []
   pub freeze : live.ccb.freeze_taken ≡ false
+  pub advice : live.state ≡ Active → live.ccb.advice ≡ 0
 
 -- A timer or a guest holds it, and what it freezes is there.
 pub record IsCarriedFreeze (setup : Setup) (freeze : Freeze) : Type 0 where

@@ -1,10 +1,10 @@
--- What becomes of a CCB that is submitted, started and completed.
+-- What becomes of a CCB that is submitted, started, completed and withdrawn.
 use Rattle.std.specs.Prelude.{ℕ, ◌+◌, Bool, true, false, not, ◌&&◌, ◌||◌, ◌==◌, if◌then◌else◌, nat_lt, nat_le, [], ◌∷◌, ◌++◌, length, filter}
 use Rattle.std.specs.List.{list_all}
 use Rattle.ccb.specs.declared.QueueId.{QueueId}
 use Rattle.ccb.specs.declared.ccb.Ccb.{Ccb}
 use Rattle.ccb.specs.declared.cam_status.CamStatus.{CamStatus}
-use Rattle.ccb.specs.declared.cam_status.CamStatus.TheVariants.{RequestInProgress, RequestCompleted}
+use Rattle.ccb.specs.declared.cam_status.CamStatus.TheVariants.{RequestAborted, RequestInProgress, RequestCompleted}
 use Rattle.ccb.specs.Status.{code_of}
 use Rattle.base.specs.ShortBytes.{most_bytes}
 use Rattle.ccb.specs.Completion.{Outcome}
@@ -15,9 +15,10 @@ use Rattle.ccb.specs.declared.place.Place.TheVariants.{Device}
 use Rattle.freeze_ledger.specs.Freezes.{meets_limit}
 use Rattle.bpf_semantics.specs.MachineState.{entry}
 use Rattle.world_calls.specs.declared.call_answer.CallAnswer.TheVariants as answers
+use Rattle.world_calls.specs.Answered.{started_answer}
 use Rattle.world.specs.declared.ccb_state.CcbState.TheVariants.{Waiting, Active, InRecovery}
 use Rattle.world.specs.Capacities.{most_ccbs, most_ccbs_of_queue, most_runs, last_number}
-use Rattle.world.specs.World.{Setup, queue_setup, LiveCcb, World}
+use Rattle.world.specs.World.{Setup, queue_setup, version_of, LiveCcb, World}
 use Rattle.world.specs.Lookups.{live_count, with_ccb}
 use Rattle.world.specs.Event.{Reply, replies}
 use Rattle.world.specs.FreezeSteps.{froze}
@@ -30,10 +31,10 @@ ccb_meets_limit queue world =
     || nat_le last_number world.transport.greatest_ccb
 
 -- a CCB waits under a new number
-abbrev pub submits : World → QueueId → ℕ → ℕ → Reply × World
-submits world queue priority retries =
+abbrev pub submits : World → QueueId → (priority retries class : ℕ) → Reply × World
+submits world queue priority retries class =
     let number = world.transport.greatest_ccb + 1 in
-    let ccb = submitted (record { 0 = number }) queue priority retries in (
+    let ccb = submitted (record { 0 = number }) queue priority retries class in (
       replies (answers.Ccb (record { 0 = number })),
       record world {
         transport = record world.transport {
@@ -43,10 +44,10 @@ submits world queue priority retries =
       },
     )
 
--- a CCB that waits is active, and was started once more
-abbrev pub starts : World → LiveCcb → Reply × World
-starts world next = (
-  replies (answers.Ccb next.ccb.number),
+-- A CCB that waits is active, and was started once more. Where CCBs have an advice, what was advised for this start is reported.
+abbrev pub starts : Setup → World → LiveCcb → Reply × World
+starts setup world next = (
+  replies (started_answer (version_of setup) (record { ccb = next.ccb.number; advice = next.ccb.advice })),
   record world {
     transport = record world.transport {
       live = with_ccb (record { ccb = started next.ccb; state = Active }) world.transport.live;
@@ -74,6 +75,10 @@ ended_with world ccb code = record world {
 -- it is gone with the code of its status
 abbrev pub finishes : World → Ccb → CamStatus → World
 finishes world ccb status = ended_with world ccb (code_of status)
+
+-- a CCB that waits is gone, as the host wants it
+abbrev pub withdraws : World → LiveCcb → Reply × World
+withdraws world live = (replies answers.Ok, finishes world live.ccb RequestAborted)
 
 -- The CCB is in recovery by a new run, which is out: it begins at the entry of its queue's program, over the context
 -- of the CCB, and is told the number of its freeze.

@@ -7,4 +7,6 @@ pub mod ParkLaws
 pub mod Moved
 pub mod CcbLaws
 pub mod OneController
+pub mod Classes
 pub mod LimitLaws
+pub mod Advice

@@ -6,7 +6,7 @@ use Rattle.freeze_ledger.specs.Freezes.{frozen}
 use Rattle.helpers.specs.declared.table.Helper.TheVariants.{FreezeController}
 use Rattle.helpers.specs.Table.{is_there}
 use Rattle.world.specs.Capacities.{most_openings, most_ccbs, most_ccbs_of_queue, most_runs, most_freezes, most_freezes_of_place, most_frames, most_held, last_number, last_reading}
-use Rattle.world.specs.World.{LiveRun, Setup, queue_count, queue_setup, World}
+use Rattle.world.specs.World.{LiveCcb, LiveRun, Setup, has_classes, queue_count, queue_setup, World}
 use Rattle.world.specs.Lookups.{live_count, run_of}
 use Rattle.world.specs.Refusals.{is_unknown}
 
@@ -25,9 +25,15 @@ pub record FreezeLimits (setup : Setup) (world : World) : Type 0 where
   pub numbered : AreRising 0 (map (λ freeze. freeze.number) world.transport.freezes) world.transport.greatest_freeze
   pub numbers : world.transport.greatest_freeze ≤ last_number
 
--- Each CCB is of a queue that exists, no queue has too many, nor have all together, and numbers rise.
+-- the CCB has no class and no advice
+abbrev pub IsPlain : LiveCcb → Type 0
+IsPlain live = (live.ccb.class ≡ 0) × (live.ccb.advice ≡ 0)
+
+-- Each CCB is of a queue that exists, none has a class or an advice where CCBs have none, no queue has too many, nor have all
+-- together, and numbers rise.
 pub record CcbLimits (setup : Setup) (world : World) : Type 0 where
   pub queues : All (λ live. live.ccb.queue.0 < queue_count setup) world.transport.live
+  pub plain : has_classes setup ≡ false → All IsPlain world.transport.live
   pub a_queue : (queue : ℕ) → live_count queue world.transport.live ≤ most_ccbs_of_queue
   pub all : length world.transport.live ≤ most_ccbs
   pub rising : AreRising 0 (map (λ live. live.ccb.number.0) world.transport.live) world.transport.greatest_ccb

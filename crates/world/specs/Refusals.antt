@@ -5,12 +5,12 @@ use Rattle.ccb.specs.declared.place.Place.{Place}
 use Rattle.ccb.specs.declared.place.Place.TheVariants.{Controller, Device}
 use Rattle.freeze_ledger.specs.Freezes.{frozen, meets_limit}
 use Rattle.world_calls.specs.declared.call.Call.{Call}
-use Rattle.world_calls.specs.declared.call.Call.TheVariants.{Submit, Dispatch, Complete, GuestFreeze, GuestRelease, Clock, Park, Resume}
+use Rattle.world_calls.specs.declared.call.Call.TheVariants.{Submit, Dispatch, Complete, Withdraw, GuestFreeze, GuestRelease, Clock, Park, Resume}
 use Rattle.ccb.specs.declared.call_refusal.CallRefusal.{CallRefusal}
 use Rattle.ccb.specs.declared.call_refusal.CallRefusal.TheVariants.{Unknown, Limit, NotActive, GoesBack, Frozen, NoOpening, NothingWaits, ControllerFrozen}
 use Rattle.world.specs.Capacities.{last_reading}
-use Rattle.world.specs.World.{Setup, queue_count, queue_setup, LiveCcb, LiveRun, World}
-use Rattle.world.specs.Lookups.{is_active, active_count, ccb_of, next_waiting, run_of}
+use Rattle.world.specs.World.{Setup, has_classes, queue_count, queue_setup, LiveCcb, LiveRun, World}
+use Rattle.world.specs.Lookups.{is_active, is_waiting, active_count, ccb_of, next_waiting, run_of}
 use Rattle.world.specs.Event.{Reply, refused}
 use Rattle.world.specs.CcbSteps.{ccb_meets_limit, is_success, run_meets_limit}
 
@@ -24,13 +24,18 @@ abbrev pub works : Option LiveCcb → Bool
 works None = false
 works (Some live) = is_active live.state
 
+-- the CCB is there, and waits
+abbrev pub waits : Option LiveCcb → Bool
+waits None = false
+waits (Some live) = is_waiting live.state
+
 -- the run is there, and parked
 abbrev pub is_parked : Option LiveRun → Bool
 is_parked None = false
 is_parked (Some run) = not run.out
 
 abbrev pub refusals_of : Setup → World → Call → List (Bool × CallRefusal)
-refusals_of setup world (Submit queue priority retries) =
+refusals_of setup world (Submit queue priority retries class) =
     (is_unknown setup (Device queue), Unknown) ∷ (ccb_meets_limit queue.0 world, Limit) ∷ []
 refusals_of setup world (Dispatch queue) =
     (is_unknown setup (Device queue), Unknown) ∷ (nat_lt 0 (frozen (Device queue) world.transport.freezes), Frozen)
@@ -40,6 +45,9 @@ refusals_of setup world (Dispatch queue) =
 refusals_of setup world (Complete outcome) =
     (is_none (ccb_of outcome.ccb.0 world.transport.live), Unknown) ∷ (not (is_success outcome.status) && run_meets_limit world, Limit)
     ∷ (not (works (ccb_of outcome.ccb.0 world.transport.live)), NotActive) ∷ []
+refusals_of setup world (Withdraw ccb) =
+    (not (has_classes setup), Unknown) ∷ (is_none (ccb_of ccb.0 world.transport.live), Unknown)
+    ∷ (not (waits (ccb_of ccb.0 world.transport.live)), NotActive) ∷ []
 refusals_of setup world (GuestFreeze place guest) =
     (is_unknown setup place, Unknown) ∷ (meets_limit place world.transport.freezes world.transport.greatest_freeze, Limit) ∷ []
 refusals_of setup world (GuestRelease freeze) = []

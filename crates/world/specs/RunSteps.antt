@@ -1,7 +1,7 @@
 -- What one instruction of a run does: to its own machine, and by a helper call or its exit to the world.
 use Rattle.std.specs.Prelude.{ℕ, ◌+◌, ◌%◌, ◌^◌, Bool, false, not, ◌&&◌, ◌==◌, if◌then◌else◌, Option, Some, None, filter, slice_index, slice_set}
 use Rattle.std.specs.Option.{option_map, option_and_then}
-use Rattle.ccb.specs.Ccb.{requeued}
+use Rattle.ccb.specs.Ccb.{advised, requeued}
 use Rattle.freeze_ledger.specs.declared.freeze.Holder.{Holder}
 use Rattle.freeze_ledger.specs.declared.freeze.Holder.TheVariants.{Run, Timer, Guest}
 use Rattle.freeze_ledger.specs.declared.freeze.Freeze.{Freeze}
@@ -82,6 +82,14 @@ abbrev pub finishes : World → LiveRun → Request → Option LiveCcb → Optio
 finishes world run request None = None
 finishes world run request (Some live) = Some (answers (ended_with world live.ccb request.arguments.first) run request (answer_number 0))
 
+-- the run's CCB has this advice from now on, and all else is as it was
+abbrev pub advises : World → LiveRun → Request → Option LiveCcb → Option (Reply × World)
+advises world run request None = None
+advises world run request (Some live) =
+    let told : LiveCcb = record live { ccb = advised live.ccb request.arguments.first } in
+    let after = record world { transport = record world.transport { live = with_ccb told world.transport.live } } in
+    Some (answers after run request (answer_number 0))
+
 -- the word that a call names
 abbrev pub its_word : World → Request → ℕ
 its_word world request = word_at world.runs.tables request.arguments.first request.arguments.second
@@ -138,6 +146,7 @@ by_effect effects.TellClock world run request = Some (answers world run request 
 by_effect effects.SetOpenings world run request = Some (opens world run request)
 by_effect effects.FreezeController world run request = Some (takes world run request (Controller run.controller))
 by_effect effects.TellController world run request = Some (answers world run request (answer_number (frozen (Controller run.controller) world.transport.freezes)))
+by_effect effects.Advise world run request = advises world run request (ccb_of run.ccb world.transport.live)
 
 abbrev pub step_request : World → LiveRun → Request → Option (Reply × World)
 step_request world run request = by_effect (row_of request.helper).effect world run request

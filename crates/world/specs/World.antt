@@ -1,13 +1,13 @@
 -- The world at one moment, as CAM (ANSI X3.232) has it: device queues with openings, the CCBs that were submitted to
 -- them, the freezes that hold them, and the runs of recovery programs (RFC 9669) with the tables that they share. It is
 -- lists, and no count is kept.
-use Rattle.std.specs.Prelude.{ℕ, Bool, List, [], length, map, slice_index_or, Option, Some, None}
+use Rattle.std.specs.Prelude.{ℕ, Bool, not, if◌then◌else◌, List, [], length, map, slice_index_or, Option, Some, None}
 use Rattle.ccb.specs.declared.ccb.Ccb.{Ccb}
 use Rattle.freeze_ledger.specs.declared.freeze.Freeze.{Freeze}
 use Rattle.helpers.specs.declared.limits.HelperLimits.{HelperLimits}
+use Rattle.helpers.specs.Table.{are_classed}
 use Rattle.bpf_insn.specs.declared.program.Slot.{Slot}
 use Rattle.bpf_semantics.specs.MachineState.{MachineState}
-use Rattle.table_store.specs.Tables.{zero_table}
 use Rattle.world_calls.specs.declared.trace.Version.{Version}
 use Rattle.world_calls.specs.Versions.{version_in}
 use Rattle.world.specs.declared.ccb_state.CcbState.{CcbState}
@@ -71,17 +71,36 @@ pub record World : Type 0 where
   -- the CCBs that are finished, in the order in which they ended
   pub ended : List EndedCcb
 
--- What an engine is opened with: the limits of the helper calls, how many controllers there are, the device queues in the
--- order of their numbers from 0, and, if the engine follows another one, the world that it takes over.
+-- What an engine is opened with: the limits of the helper calls, how many controllers there are, the words of each table, the
+-- device queues in the order of their numbers from 0, and, if the engine follows another one, the world that it takes over.
 pub record Setup : Type 0 where
   pub limits : HelperLimits
   pub controllers : ℕ
+  pub tables : List (List ℕ)
   pub queues : List QueueSetup
   pub carried : Option World
 
 -- the vocabulary of its histories
 abbrev pub version_of : Setup → Version
 version_of setup = version_in setup.limits.helpers
+
+-- CCBs have a class and an advice, and may be withdrawn
+abbrev pub has_classes : Setup → Bool
+has_classes setup = are_classed setup.limits.helpers
+
+-- a submission says a class where CCBs have one, and there alone
+abbrev pub class_fits : Bool → Option ℕ → Bool
+class_fits has None = not has
+class_fits has (Some class) = has
+
+-- the class of a CCB by that of its submission: 0 where it says none
+abbrev pub class_in : Option ℕ → ℕ
+class_in None = 0
+class_in (Some class) = class
+
+-- the class that the record of a submission says
+abbrev pub class_kept : Setup → ℕ → Option ℕ
+class_kept setup class = if has_classes setup then Some class else None
 
 abbrev pub queue_count : Setup → ℕ
 queue_count setup = length setup.queues
@@ -105,7 +124,7 @@ opening setup = record {
     greatest_freeze = 0;
     clock = 0;
   };
-  runs = record { list = []; greatest = 0; tables = map zero_table setup.limits.table_lengths };
+  runs = record { list = []; greatest = 0; tables = setup.tables };
   ended = [];
 }
 

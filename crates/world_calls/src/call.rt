@@ -2,16 +2,18 @@
 // device reports.
 
 use crate::completion_record::CompletionRecord;
-use ccb::{Place, QueueId};
+use ccb::{CcbId, Place, QueueId};
 
 /// A call of the engine.
 #[derive(Debug, Drop)]
 pub enum Call {
-    /// A CCB is submitted to a queue. The lowest priority number starts first; it may be tried again so many times.
+    /// A CCB is submitted to a queue. The lowest priority number starts first; it may be tried again so many times. Where CCBs have
+    /// a class, and there alone, the submission says it.
     Submit {
         queue: QueueId,
         priority: u32,
         retries: u32,
+        class: Option<u32>,
     },
     /// A queue starts a CCB.
     Dispatch {
@@ -20,6 +22,10 @@ pub enum Call {
     /// A device is done with a CCB.
     Complete {
         completion: CompletionRecord,
+    },
+    /// The host does not want a CCB that waits any more. It ends with the code of REQ_ABORTED.
+    Withdraw {
+        ccb: CcbId,
     },
     /// A guest, by the number that it chose, freezes a place.
     GuestFreeze {

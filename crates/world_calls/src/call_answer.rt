@@ -7,6 +7,8 @@ use ccb::{CallRefusal, CcbId};
 pub enum CallAnswer {
     /// The number of the CCB that was submitted or started, from 1.
     Ccb(CcbId),
+    /// The number of the CCB that was started, and what was advised for this start, or 0: where CCBs have an advice.
+    Advised(CcbId, u32),
     /// The CCB is finished.
     Done,
     /// A run of the queue's program started, with the freeze of that number, or with none as number 0.
@@ -17,7 +19,7 @@ pub enum CallAnswer {
     Left(u32),
     /// How many freezes went since their timers were due, 0 to 1024.
     Removed(u32),
-    /// The run is parked, or out again.
+    /// The CCB is withdrawn, or the run is parked, or out again.
     Ok,
     /// The call was refused, and changed nothing but the history.
     Refused(CallRefusal),

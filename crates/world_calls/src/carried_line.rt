@@ -11,8 +11,12 @@ pub struct CarriedCcb {
     pub queue: QueueId,
     pub priority: u32,
     pub retries: u32,
+    /// What the host said that the command is, or 0.
+    pub class: u32,
     /// How often it was started, up to the largest u32.
     pub attempts: u32,
+    /// What is advised for its next start, or 0.
+    pub advice: u32,
     /// Whether a device works on it. Else it waits.
     pub is_active: bool,
 }

@@ -16,6 +16,8 @@ pub enum Version {
     One,
     /// What freezes is a device queue or a controller.
     Two,
+    /// What freezes is a device queue or a controller, and CCBs have a class and an advice.
+    Three,
 }
 
 impl Version {
@@ -26,6 +28,7 @@ impl Version {
         match helpers {
             HelperSet::Queues => Version::One,
             HelperSet::Controllers => Version::Two,
+            HelperSet::Classes => Version::Three,
         }
     }
 }

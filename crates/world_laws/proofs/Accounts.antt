@@ -1,5 +1,5 @@
 -- Each CCB number that was given is live or ended, and ended once.
-use Rattle.std.proofs.Common.{◌≡◌, ℕ, ◌+◌, ◌<◌, ◌≤◌, List, [], ◌∷◌, ◌++◌, Bool, cond, eqb, Option, Some, None, ◌⊎◌, inl, inr, refl, ap, sym, subst, ◌∙◌, arith, append_assoc}
+use Rattle.std.proofs.Common.{◌≡◌, ℕ, ◌+◌, ◌≤◌, List, [], ◌∷◌, ◌++◌, Bool, cond, eqb, Option, Some, None, ◌⊎◌, inl, inr, refl, ap, sym, subst, ◌∙◌, arith, append_assoc}
 use Rattle.std.proofs.lemmas.Bool.{cases_eq, cases_lt, eq-eqb, ne_eqb}
 use Rattle.std.proofs.lemmas.List.{append-nil}
 use Rattle.std.proofs.lemmas.List.Sums.{sum_by_push}
@@ -122,9 +122,9 @@ module _ (begun : World) (old : (n : ℕ) (it : LiveCcb) → ccb_of n begun.tran
   move_accounts : (setup : Setup) (before : World) (event : Event) (reply : Reply) (after : World) → begun.transport.greatest_ccb ≤ before.transport.greatest_ccb → Accounts before → after.ended ≡ before.ended ++ finished_by before event reply → CcbMove setup before event reply after → Accounts after
   move_accounts setup before event reply after since accounts ended (ccbs_stay e g unended) =
       accounts_from before.transport.live after.transport.live before.ended after.ended before.transport.greatest_ccb after.transport.greatest_ccb e (none_more before after event reply ended unended) g accounts
-  move_accounts setup before event reply after since accounts ended (ccb_enters queue priority retries known full e g unended) =
+  move_accounts setup before event reply after since accounts ended (ccb_enters queue priority retries class unclassed known full e g unended) =
       accounts_from _ after.transport.live before.ended after.ended _ after.transport.greatest_ccb e (none_more before after event reply ended unended) g (accounts_push before.transport.live before.ended before.transport.greatest_ccb _ since refl accounts)
-  move_accounts setup before event reply after since accounts ended (ccb_changes old new found queue_is active may e g unended) =
+  move_accounts setup before event reply after since accounts ended (ccb_changes old new plain found queue_is active may e g unended) =
       accounts_from _ after.transport.live before.ended after.ended before.transport.greatest_ccb after.transport.greatest_ccb e (none_more before after event reply ended unended) g (accounts_put before.transport.live before.ended before.transport.greatest_ccb old new found accounts)
   move_accounts setup before event reply after since accounts ended (ccb_leaves number code old found may e g one) =
       accounts_from _ after.transport.live _ after.ended before.transport.greatest_ccb after.transport.greatest_ccb e (ended ∙ ap (λ (l : List EndedCcb). before.ended ++ l) one) g (accounts_leave before.transport.live before.ended before.transport.greatest_ccb number code old found accounts)
@@ -132,8 +132,8 @@ module _ (begun : World) (old : (n : ℕ) (it : LiveCcb) → ccb_of n begun.tran
   -- numbers that are given only rise
   rises : (setup : Setup) (before : World) (event : Event) (reply : Reply) (after : World) → begun.transport.greatest_ccb ≤ before.transport.greatest_ccb → CcbMove setup before event reply after → begun.transport.greatest_ccb ≤ after.transport.greatest_ccb
   rises setup before event reply after since (ccbs_stay e g unended) = omega (arith, since, g)
-  rises setup before event reply after since (ccb_enters queue priority retries known full e g unended) = omega (arith, since, g)
-  rises setup before event reply after since (ccb_changes old new found queue_is active may e g unended) = omega (arith, since, g)
+  rises setup before event reply after since (ccb_enters queue priority retries class unclassed known full e g unended) = omega (arith, since, g)
+  rises setup before event reply after since (ccb_changes old new plain found queue_is active may e g unended) = omega (arith, since, g)
   rises setup before event reply after since (ccb_leaves number code old found may e g one) = omega (arith, since, g)
 
   leads_accounts : (setup : Setup) (before : World) (xs : List (Event × Reply)) (after : World) → KeepsLists setup before → (run : Leads setup before xs after) → begun.transport.greatest_ccb ≤ before.transport.greatest_ccb → Accounts before → Accounts after × (after.ended ≡ before.ended ++ finished_in setup before xs after run)

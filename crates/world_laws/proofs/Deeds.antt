@@ -3,7 +3,7 @@
 use Rattle.std.proofs.Common.{◌≡◌, ℕ, ◌+◌, ◌%◌, ◌^◌, ◌<◌, ◌≤◌, [], ◌∷◌, Bool, true, false, cond, eqb, slice_index, slice_set, Option, Some, None, inl, inr, refl, ap, sym, subst, ◌∙◌, rules, arith}
 use Rattle.std.proofs.lemmas.Bool.{cases_Bool, cond-true, cond-false, ltb-true, lt-leb, and_right, not-true}
 use Rattle.std.proofs.lemmas.List.Elements.{All-get_or}
-use Rattle.ccb.specs.Ccb.{requeued}
+use Rattle.ccb.specs.Ccb.{advised, requeued}
 use Rattle.freeze_ledger.specs.declared.freeze.Holder.TheVariants.{Run}
 use Rattle.freeze_ledger.specs.declared.freeze.Freeze.{Freeze}
 use Rattle.freeze_ledger.specs.Freezes.{frozen, meets_limit, entry_of, without}
@@ -18,6 +18,7 @@ use Rattle.helpers.specs.declared.columns.ArgKind.TheVariants as asked_for
 use Rattle.helpers.specs.declared.columns.Needs.{Needs}
 use Rattle.helpers.specs.declared.columns.Needs.TheVariants as needs
 use Rattle.helpers.specs.declared.columns.Gives.TheVariants.{Number, NewFreeze}
+use Rattle.helpers.specs.declared.columns.Change.{Change}
 use Rattle.helpers.specs.declared.columns.Change.TheVariants as changes
 use Rattle.helpers.specs.declared.columns.Tells.{Tells}
 use Rattle.helpers.specs.declared.columns.Tells.TheVariants as tells
@@ -25,6 +26,7 @@ use Rattle.helpers.specs.declared.request.Request.{Request}
 use Rattle.helpers.specs.Table.{row_of, answer_number, is_there}
 use Rattle.bpf_semantics.specs.MachineState.{MachineState}
 use Rattle.bpf_semantics.specs.Calls.{meets_need, meets_rule}
+use Rattle.bpf_semantics.specs.Step.{changed_by, after_call}
 use Rattle.table_store.specs.Tables.{HasWord}
 use Rattle.world.specs.declared.ccb_state.CcbState.TheVariants.{Waiting}
 use Rattle.world.specs.Capacities.{most_openings}
@@ -38,7 +40,7 @@ use Rattle.world.specs.Told.{told_by}
 use Rattle.world.specs.Event.{Reply, result}
 use Rattle.world.specs.FreezeSteps.{frozen_with, froze, thawed, timed}
 use Rattle.world.specs.CcbSteps.{ended_with}
-use Rattle.world.specs.RunSteps.{is_run, answers, takes, releases, hands_over, requeues, finishes, its_word, with_its_word, info_answer, by_effect, step_request}
+use Rattle.world.specs.RunSteps.{is_run, answers, takes, releases, hands_over, requeues, finishes, advises, its_word, with_its_word, info_answer, by_effect, step_request}
 use Rattle.world.specs.Refusals.{is_unknown}
 use Rattle.world.specs.Laws.FreezeLaws.{Calls, MovesByEffect}
 use Rattle.world.specs.Limits.{AnswerLimits, NamesNoOther}
@@ -47,7 +49,7 @@ use Rattle.world_laws.proofs.Telling.{info_wrote}
 use Rattle.world_laws.proofs.Alike.{changed, AlikeOr, neither, an_event, one_of, if_so, changes as both_change}
 use Rattle.world_laws.proofs.Steps.Running.{some_is}
 use Rattle.world_laws.proofs.Steps.Rules.{rule_parts, first_as, word_there, first_within}
-use Rattle.world_laws.proofs.Steps.Does.{AnswersFrom, IsAmong, leaves_freezes, takes_one, gives_one_back, hands_one_over, leaves_ccbs, requeues_one, ends_one, Does, moves_by}
+use Rattle.world_laws.proofs.Steps.Does.{AnswersFrom, IsAmong, leaves_freezes, takes_one, gives_one_back, hands_one_over, leaves_ccbs, requeues_one, ends_one, advises_one, Does, moves_by, disposes_by}
 use Rattle.world_laws.proofs.Entries.{Columns, OnlyAnswers, HasItsOwn, LeadsOn, Entry, Reads, reads, nothing_set, staying, calm, named_alone, calmly, plain_row}
 
 -- What the other columns of a row with a deed are.
@@ -71,11 +73,25 @@ Suits effects.TellClock row = OnlyAnswers 0 4611686018427387904 row
 Suits effects.SetOpenings row = Columns (Some (asked_for.Within 1 255)) None None needs.Nothing (Number 1 255) changes.Nothing tells.Name row
 Suits effects.FreezeController row = Columns None None None needs.Room NewFreeze changes.Holds tells.Name row × (row.helper ≡ helpers.FreezeController)
 Suits effects.TellController row = OnlyAnswers 0 255 row
+Suits effects.Advise row = Columns (Some (asked_for.Within 0 4294967295)) None None needs.Undisposed (Number 0 0) changes.Nothing tells.Name row
 
 -- the row of a helper names it
 rows_name : (name : Helper) → (row_of name).helper ≡ name
 unfolding row_of
 rows_name name = search rules
+
+-- the one helper that advises is of that name
+abbrev IsAdvising : HelperEffect → Row → Type 0
+IsAdvising effects.Advise row = row.helper ≡ helpers.Advise
+IsAdvising other row = Unit {0}
+
+advising : (name : Helper) → IsAdvising (row_of name).effect (row_of name)
+unfolding row_of
+advising name = search rules
+
+pub advises_alone : (request : Request) → (row_of request.helper).effect ≡ effects.Advise → request.helper ≡ helpers.Advise
+advises_alone request is =
+    sym (rows_name request.helper) ∙ subst (λ (d : HelperEffect). IsAdvising d (row_of request.helper)) is (advising request.helper)
 
 -- what a row has whose deed freezes a place
 pub record FreezesByRow (row : Row) : Type 0 where
@@ -388,6 +404,51 @@ finish = record {
           rest = nothing_set before _ refl refl refl refl refl;
         }
 
+advise : Entry effects.Advise
+advise = record {
+  leads = λ limits world run request is own rule. (_, ap (advises world run request) (its_ccb limits world run request (suits effects.Advise request is).needs_is own rule).1);
+  alike = λ r c named w run apart request. alike r c named w run apart request (ccb_of run.ccb w.transport.live);
+  does = λ setup before run request is rule p. does setup before run request is rule p (ccb_of run.ccb before.transport.live) refl;
+}
+  where
+    alike : (r : ℕ) (c : LiveRun) (named : c.number ≡ r) (w : World) (run : LiveRun) → (run.number ≡ r → ⊥) → (request : Request) (o : Option LiveCcb) → AlikeOr r c named w (advises w run request o) (advises (changed c w) run request o)
+    alike r c named w run apart request None = neither r c named w
+    alike r c named w run apart request (Some live) = an_event r c named w _ _ (both_change r c named w _ (record w { transport = record w.transport { live = _ } }) _ refl apart)
+
+    does : (setup : Setup) (before : World) (run : LiveRun) (request : Request) → (row_of request.helper).effect ≡ effects.Advise → meets_rule setup.limits run.machine request ≡ true → (p : Reply × World) (o : Option LiveCcb) → ccb_of run.ccb before.transport.live ≡ o → advises before run request o ≡ Some p → Does setup before run request p
+    does setup before run request is rule p None found e = absurd cc
+    does setup before run request is rule p (Some live) found e =
+        let columns = suits effects.Advise request is in
+        let told : LiveCcb = record live { ccb = advised live.ccb request.arguments.first } in
+        let between : World = record before { transport = record before.transport { live = with_ccb told before.transport.live } } in
+        record {
+          given = answer_number 0;
+          between = between;
+          answer = some_is _ _ e;
+          freezes = leaves_freezes (staying setup before run request (answer_number 0) between effects.Advise (Number 0 0) changes.Nothing (record {
+            deed_is = is;
+            gives_is = columns.gives_is;
+            machine_is = columns.machine_is;
+            keeps = refl;
+            held = refl;
+            answer = λ from. (omega arith, omega arith);
+            written = tt;
+            taken = λ other number. refl;
+            moves = λ number after calls same. same;
+          }) refl refl);
+          ccbs = advises_one (record {
+            helper_is = advises_alone request is;
+            told_is = ap (λ (t : Tells). told_by t request) columns.tells_is;
+            calm = disposes_by changes.Nothing request columns.machine_is;
+            disposed = ap (λ (c : Change). (changed_by c request.arguments (answer_number 0) (after_call run.machine 0)).disposed) columns.machine_is;
+            its = record { fresh = fresh_by setup.limits run.machine request columns.needs_is rule; live = live; found = found };
+            live_is = refl;
+            ended_is = refl;
+            greatest_is = refl;
+          });
+          rest = nothing_set before _ refl refl refl refl refl;
+        }
+
 -- a word of a table is one of 64 bits
 its_word_below : (setup : Setup) (world : World) (run : LiveRun) (request : Request) → AnswersFrom setup world run → its_word world request ≤ 18446744073709551615
 its_word_below setup world run request from = omega (arith, word_below world.runs.tables request.arguments.first request.arguments.second from.kept.answers.words)
@@ -472,6 +533,7 @@ entry_for effects.TellClock = reads _ _ _ _ tell_clock
 entry_for effects.SetOpenings = set_openings
 entry_for effects.FreezeController = takes_place _ _ freezes_controller
 entry_for effects.TellController = reads _ _ _ _ tell_controller
+entry_for effects.Advise = advise
 
 -- What they say of calls.
 

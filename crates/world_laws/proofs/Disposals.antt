@@ -15,7 +15,7 @@ use Rattle.world.specs.CcbSteps.{ended_with}
 use Rattle.world.specs.Step.{WorldStep}
 use Rattle.world.specs.Laws.Headline.{is_disposing, is_disposal, is_disposal_of, InRecoveryBy, IsRequeued, IsFinished, DisposesByEffect, DisposesBy, DisposesOfIt}
 use Rattle.world.proofs.Lists.Found.{found_key, put_same, put_other, leave_same, leave_other}
-use Rattle.world_laws.proofs.Steps.Does.{CcbDeed, leaves_ccbs, requeues_one, ends_one}
+use Rattle.world_laws.proofs.Steps.Does.{CcbDeed, leaves_ccbs, requeues_one, ends_one, advises_one}
 use Rattle.world_laws.proofs.Steps.Calls.{Asks, asks_of}
 use Rattle.world.proofs.Steps.Moves.{ccb_key, ccb_found}
 use Rattle.world_laws.proofs.Steps.Effects.{its_instruction}
@@ -91,6 +91,7 @@ by_its_deed effect told request ccb was before after is does = subst (λ (d : He
 -- A call by which a run disposes of its CCB.
 call_disposes : (setup : Setup) (before : World) (event : Event) (reply : Reply) (after : World) → Recovering before → (it : Asks setup before event reply after) → is_disposing (told_of it.request) ≡ true → CcbDeed before it.it.run it.request it.given it.between → DisposesOfIt it.it.number it.it.run.ccb before event after
 call_disposes setup before event reply after recovering it disposing (leaves_ccbs effect) = absurd (let bad : false ≡ true = sym effect.calm ∙ disposing in cc)
+call_disposes setup before event reply after recovering it disposing (advises_one effect) = absurd (let bad : false ≡ true = sym effect.calm ∙ disposing in cc)
 call_disposes setup before event reply after recovering it disposing (requeues_one effect) =
     let number : ℕ = it.it.number in
     let used : ℕ = it.request.arguments.first in

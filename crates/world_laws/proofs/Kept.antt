@@ -19,7 +19,7 @@ use Rattle.world.specs.CcbSteps.{ccb_meets_limit}
 use Rattle.world.specs.Refusals.{is_unknown}
 use Rattle.world.specs.Step.{WorldStep}
 use Rattle.world.specs.Lawful.{IsLawful}
-use Rattle.world.specs.Limits.{FreezeLimits, CcbLimits, RunLimits, KeepsLimits}
+use Rattle.world.specs.Limits.{IsPlain, FreezeLimits, CcbLimits, RunLimits, KeepsLimits}
 use Rattle.world.proofs.Lists.Found.{put, leave, put_keys}
 use Rattle.world.proofs.Lists.Rising.{rising_push, rising_filter, rising_leave, count_put, count_filter, count_leave}
 use Rattle.world.proofs.Lists.Each.{all_found, all_put, put_length}
@@ -105,6 +105,7 @@ ccbs_from : (setup : Setup) (world : World) (live : List LiveCcb) (greatest : �
 ccbs_from setup world live greatest e g kept =
     record {
       queues = rw e kept.queues;
+      plain = λ none. rw e (kept.plain none);
       a_queue = λ q. rw e (kept.a_queue q);
       all = rw e kept.all;
       rising = rw (e, g) kept.rising;
@@ -125,9 +126,9 @@ ccb_room queue world e =
 
 pub ccbs_kept : (setup : Setup) (before : World) (event : Event) (reply : Reply) (after : World) → CcbMove setup before event reply after → CcbLimits setup before → CcbLimits setup after
 ccbs_kept setup before event reply after (ccbs_stay e g unended) kept =
-    ccbs_from setup after before.transport.live before.transport.greatest_ccb e g (record { queues = kept.queues; a_queue = kept.a_queue; all = kept.all; rising = kept.rising; numbers = kept.numbers })
-ccbs_kept setup before event reply after (ccb_enters queue priority retries known full e g unended) kept =
-    let c : LiveCcb = record { ccb = submitted (record { 0 = before.transport.greatest_ccb + 1 }) queue priority retries; state = Waiting } in
+    ccbs_from setup after before.transport.live before.transport.greatest_ccb e g (record { queues = kept.queues; plain = kept.plain; a_queue = kept.a_queue; all = kept.all; rising = kept.rising; numbers = kept.numbers })
+ccbs_kept setup before event reply after (ccb_enters queue priority retries class unclassed known full e g unended) kept =
+    let c : LiveCcb = record { ccb = submitted (record { 0 = before.transport.greatest_ccb + 1 }) queue priority retries class; state = Waiting } in
     let room = ccb_room queue.0 before full in
     let one_more : (q : ℕ) → live_count q before.transport.live + cond {A = ℕ} (eqb queue.0 q) 1 0 ≤ 256 = λ q. elim (cases_eq queue.0 q) [
       | inl same ↦ let here : live_count q before.transport.live < 256 = subst (λ (x : ℕ). live_count x before.transport.live < 256) same room.a_queue in rw (eq-eqb queue.0 q same) (omega arith)
@@ -135,18 +136,20 @@ ccbs_kept setup before event reply after (ccb_enters queue priority retries know
     ] in
     ccbs_from setup after (before.transport.live ++ c ∷ []) (before.transport.greatest_ccb + 1) e g (record {
       queues = All-push (λ (x : LiveCcb). x.ccb.queue.0 < queue_count setup) before.transport.live c kept.queues known;
+      plain = λ none. All-push IsPlain before.transport.live c (kept.plain none) (unclassed none, refl);
       a_queue = λ q. omega (arith, sum_by_push (λ (x : LiveCcb). cond (is_of q x) 1 0) before.transport.live c, one_more q);
       all = omega (arith, room.all, length-append before.transport.live (c ∷ []));
       rising = rising_push ccb_key 0 before.transport.live before.transport.greatest_ccb c kept.rising refl;
       numbers = omega (arith, room.numbers);
     })
-ccbs_kept setup before event reply after (ccb_changes old new found queue_is active_or_not may e g unended) kept =
+ccbs_kept setup before event reply after (ccb_changes old new plain found queue_is active_or_not may e g unended) kept =
     let of_old : (q : ℕ) → is_of q new ≡ is_of q old = λ q. ap (λ (x : ℕ). eqb x q) queue_is in
     let known : new.ccb.queue.0 < queue_count setup = rw queue_is (all_found ccb_key (λ (x : LiveCcb). x.ccb.queue.0 < queue_count setup) new.ccb.number.0 before.transport.live old kept.queues found) in
     let moved : (p : LiveCcb → Bool) → count_by p (with_ccb new before.transport.live) + cond (p old) 1 0 ≡ count_by p before.transport.live + cond (p new) 1 0 = λ p.
     count_put ccb_key p 0 before.transport.live before.transport.greatest_ccb new old kept.rising found in
     ccbs_from setup after (with_ccb new before.transport.live) before.transport.greatest_ccb e g (record {
       queues = all_put ccb_key (λ (x : LiveCcb). x.ccb.queue.0 < queue_count setup) new before.transport.live known kept.queues;
+      plain = λ none. all_put ccb_key IsPlain new before.transport.live (plain none (all_found ccb_key IsPlain new.ccb.number.0 before.transport.live old (kept.plain none) found)) (kept.plain none);
       a_queue = λ q.
           let same : cond {A = ℕ} (is_of q new) 1 0 ≡ cond (is_of q old) 1 0 = ap (λ (b : Bool). cond {A = ℕ} b 1 0) (of_old q) in
           omega (arith, moved (is_of q), same, kept.a_queue q);
@@ -157,6 +160,7 @@ ccbs_kept setup before event reply after (ccb_changes old new found queue_is act
 ccbs_kept setup before event reply after (ccb_leaves number code old found may e g one) kept =
     ccbs_from setup after (leave ccb_key number before.transport.live) before.transport.greatest_ccb e g (record {
       queues = All-filter (λ (x : LiveCcb). not (eqb x.ccb.number.0 number)) (λ (x : LiveCcb). x.ccb.queue.0 < queue_count setup) before.transport.live kept.queues;
+      plain = λ none. All-filter (λ (x : LiveCcb). not (eqb x.ccb.number.0 number)) IsPlain before.transport.live (kept.plain none);
       a_queue = λ q. omega (arith, kept.a_queue q, count_leave ccb_key (is_of q) before.transport.live number);
       all = omega (arith, kept.all, length-filter (λ (x : LiveCcb). not (eqb x.ccb.number.0 number)) before.transport.live, count_by-le-length (λ (x : LiveCcb). not (eqb x.ccb.number.0 number)) before.transport.live);
       rising = rising_leave ccb_key 0 before.transport.live before.transport.greatest_ccb number kept.rising;
@@ -248,7 +252,7 @@ pub opening_keeps : (setup : Setup) → KeepsLists setup (opening setup)
 opening_keeps setup =
     record {
       freezes = record { places = λ agreed k d below. absurd (omega arith); a_place = λ q. omega arith; ledger = omega arith; numbered = omega arith; numbers = omega arith };
-      ccbs = record { queues = λ k d below. absurd (omega arith); a_queue = λ q. omega arith; all = omega arith; rising = omega arith; numbers = omega arith };
+      ccbs = record { queues = λ k d below. absurd (omega arith); plain = λ none k d below. absurd (omega arith); a_queue = λ q. omega arith; all = omega arith; rising = omega arith; numbers = omega arith };
       runs = record { queues = λ k d below. absurd (omega arith); controllers = λ k d below. absurd (omega arith); programs = λ k d below. absurd (omega arith); all = omega arith; rising = omega arith; numbers = omega arith };
     }
 

@@ -16,5 +16,8 @@ pub mod Headline
 pub mod Moved
 pub mod Accounts
 pub mod Starting
+pub mod Wider
 pub mod OneController
 pub mod Over
+pub mod Classes
+pub mod Advice

@@ -4,7 +4,7 @@ use Rattle.std.specs.Prelude.{not, ◌||◌, ◌&&◌, nat_le}
 use Rattle.std.specs.Option.{is_some, is_none, option_map, option_and_then}
 use Rattle.std.specs.List.{list_all}
 use Rattle.std.proofs.lemmas.Bool.{cond-true, eq-eqb, and_parts, or_parts, not-true}
-use Rattle.ccb.specs.declared.QueueId.{QueueId}
+use Rattle.ccb.specs.declared.cam_status.CamStatus.TheVariants.{RequestAborted}
 use Rattle.ccb.specs.declared.ccb.Ccb.{Ccb}
 use Rattle.ccb.specs.Completion.{Outcome}
 use Rattle.ccb.specs.Ccb.{completed}
@@ -17,21 +17,21 @@ use Rattle.freeze_ledger.specs.Freezes.{meets_limit, entry_of}
 use Rattle.bpf_semantics.specs.MachineState.{MachineState}
 use Rattle.bpf_semantics.specs.Step.{private_step, request_at, exit_at}
 use Rattle.world_calls.specs.declared.call.Call.{Call}
-use Rattle.world_calls.specs.declared.call.Call.TheVariants.{Submit, Dispatch, Complete, GuestFreeze, GuestRelease, Clock, Park, Resume}
+use Rattle.world_calls.specs.declared.call.Call.TheVariants.{Submit, Dispatch, Complete, Withdraw, GuestFreeze, GuestRelease, Clock, Park, Resume}
 use Rattle.world_calls.specs.declared.call_answer.CallAnswer.TheVariants as answers
 use Rattle.ccb.specs.declared.call_refusal.CallRefusal.{CallRefusal}
 use Rattle.ccb.specs.declared.call_refusal.CallRefusal.TheVariants.{Unknown, Limit, NotActive}
 use Rattle.world.specs.Capacities.{most_runs, last_number}
-use Rattle.world.specs.World.{Setup, LiveCcb, LiveRun, World}
+use Rattle.world.specs.World.{Setup, class_fits, has_classes, LiveCcb, LiveRun, World}
 use Rattle.world.specs.Lookups.{ccb_of, next_waiting, run_of}
 use Rattle.world.specs.Told.{Told}
 use Rattle.world.specs.Event.{Instruction, private, call, exit, Event, called, executes, Reply, replies, went_on, result, refused}
 use Rattle.world.specs.FreezeSteps.{froze, guest_releases}
-use Rattle.world.specs.CcbSteps.{starts, is_success, run_meets_limit, finishes as finishes_done, run_starts, recovers, completes, is_completion}
+use Rattle.world.specs.CcbSteps.{starts, withdraws, is_success, run_meets_limit, finishes as finishes_done, run_starts, recovers, completes, is_completion}
 use Rattle.world.specs.RunSteps.{goes_on, step_helper, ends, step_run, step_executes}
 use Rattle.world.specs.ParkSteps.{parks, resumes}
 use Rattle.world.specs.Refusals.{works, is_parked, refusals_of, unless_refused}
-use Rattle.world.specs.Step.{performs, step_call, step, WorldStep}
+use Rattle.world.specs.Step.{step_call, step, WorldStep}
 use Rattle.world.specs.WorldRun.{Leads}
 use Rattle.world.specs.Laws.Headline.{is_own_of}
 use Rattle.world.specs.Laws.Moved.{is_start_of, is_of_another, Moved}
@@ -76,9 +76,13 @@ module _ (r : ℕ) (c : LiveRun) (named : c.number ≡ r) (w : World) where
 
   -- The calls, one by one.
 
-  starts_next : (o : Option LiveCcb) → AlikeOr r c named w (option_map (starts w) o) (option_map (starts (changed c w)) o)
-  starts_next None = neither r c named w
-  starts_next (Some next) = an_event r c named w _ _ (stays r c named w _ _ refl)
+  starts_next : (setup : Setup) (o : Option LiveCcb) → AlikeOr r c named w (option_map (starts setup w) o) (option_map (starts setup (changed c w)) o)
+  starts_next setup None = neither r c named w
+  starts_next setup (Some next) = an_event r c named w _ _ (stays r c named w _ _ refl)
+
+  withdraws_alike : (o : Option LiveCcb) → AlikeOr r c named w (option_map (withdraws w) o) (option_map (withdraws (changed c w)) o)
+  withdraws_alike None = neither r c named w
+  withdraws_alike (Some live) = an_event r c named w _ _ (stays r c named w (replies answers.Ok) (finishes_done w live.ccb RequestAborted) refl)
 
   same_limit : run_meets_limit (changed c w) ≡ run_meets_limit w
   same_limit = ap (λ (n : ℕ). nat_le most_runs n || nat_le last_number w.runs.greatest) (put_length run_key c w.runs.list)
@@ -115,14 +119,16 @@ module _ (r : ℕ) (c : LiveRun) (named : c.number ≡ r) (w : World) where
   not_its number other same = let bad : true ≡ false = sym (eq-eqb number r same) ∙ other in cc
 
   call_alike : (setup : Setup) (its : Call) → is_own_of r (called its) ≡ false → AlikeOr r c named w (step_call setup w its) (step_call setup (changed c w) its)
-  call_alike setup (Submit queue priority retries) other =
-      unless_alike (refusals_of setup w (Submit queue priority retries)) _ refl _ _ (an_event r c named w _ _ (stays r c named w _ _ refl))
-  call_alike setup (Dispatch queue) other = unless_alike (refusals_of setup w (Dispatch queue)) _ refl _ _ (starts_next (next_waiting queue.0 w.transport.live))
+  call_alike setup (Submit queue priority retries class) other =
+      if_so r c named w (class_fits (has_classes setup) class) _ _
+      (unless_alike (refusals_of setup w (Submit queue priority retries class)) _ refl _ _ (an_event r c named w _ _ (stays r c named w _ _ refl)))
+  call_alike setup (Dispatch queue) other = unless_alike (refusals_of setup w (Dispatch queue)) _ refl _ _ (starts_next setup (next_waiting queue.0 w.transport.live))
   call_alike setup (Complete outcome) other =
       if_so r c named w (is_completion outcome) _ _
       (unless_alike (refusals_of setup w (Complete outcome)) _
       (ap (λ (full : Bool). (is_none (ccb_of outcome.ccb.0 w.transport.live), Unknown) ∷ (not (is_success outcome.status) && full, Limit) ∷ (not (works (ccb_of outcome.ccb.0 w.transport.live)), NotActive) ∷ []) same_limit) _ _
       (completes_alike setup outcome (ccb_of outcome.ccb.0 w.transport.live)))
+  call_alike setup (Withdraw ccb) other = unless_alike (refusals_of setup w (Withdraw ccb)) _ refl _ _ (withdraws_alike (ccb_of ccb.0 w.transport.live))
   call_alike setup (GuestFreeze place guest) other =
       unless_alike (refusals_of setup w (GuestFreeze place guest)) _ refl _ _ (an_event r c named w _ _ (stays r c named w _ _ refl))
   call_alike setup (GuestRelease freeze) other = released (entry_of freeze w.transport.freezes)

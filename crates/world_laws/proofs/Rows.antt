@@ -13,3 +13,5 @@ pub mod Handing
 pub mod Tables
 pub mod Parks
 pub mod Controllers
+pub mod Classes
+pub mod Advising

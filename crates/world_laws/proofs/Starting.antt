@@ -1,5 +1,5 @@
 -- A step makes no more CCBs of a queue active than the queue has openings.
-use Rattle.std.proofs.Common.{◌≡◌, ℕ, ◌+◌, ◌<◌, ◌≤◌, ◌⊎◌, Bool, true, false, cond, inl, inr, refl, ap, subst, arith, slice_index}
+use Rattle.std.proofs.Common.{◌≡◌, ℕ, ◌+◌, ◌<◌, ◌≤◌, ◌⊎◌, Bool, true, false, cond, eqb, inl, inr, refl, ap, subst, arith, slice_index}
 use Rattle.std.specs.Prelude.{◌&&◌}
 use Rattle.std.proofs.lemmas.Bool.{cases_eq, ne_eqb, and_left, and_right}
 use Rattle.std.proofs.lemmas.List.Sums.{sum_by_push}
@@ -33,24 +33,31 @@ not_counted b e = ap (λ (x : Bool). cond {A = ℕ} x 1 0) e
 
 move_starts : (setup : Setup) (before : World) (event : Event) (reply : Reply) (after : World) (queue : ℕ) → CcbLimits setup before → CcbMove setup before event reply after → Keeps queue before after
 move_starts setup before event reply after queue kept (ccbs_stay e g unended) = inl (rw e (omega arith))
-move_starts setup before event reply after queue kept (ccb_enters its priority retries known full e g unended) =
-    let c : LiveCcb = record { ccb = submitted (record { 0 = before.transport.greatest_ccb + 1 }) its priority retries; state = Waiting } in
+move_starts setup before event reply after queue kept (ccb_enters its priority retries class unclassed known full e g unended) =
+    let c : LiveCcb = record { ccb = submitted (record { 0 = before.transport.greatest_ccb + 1 }) its priority retries class; state = Waiting } in
     let none = not_counted (works queue c) (and_right (is_of queue c) false refl) in
     inl (rw e (omega (arith, sum_by_push (λ (x : LiveCcb). cond (works queue x) 1 0) before.transport.live c, none)))
-move_starts setup before event reply after queue kept (ccb_changes old new found queue_is active_or_not may e g unended) =
+move_starts setup before event reply after queue kept (ccb_changes old new plain found queue_is active_or_not may e g unended) =
     let moved = count_put ccb_key (works queue) 0 before.transport.live before.transport.greatest_ccb new old kept.rising found in
     elim active_or_not [
       | inl idle ↦
           let none = not_counted (works queue new) (and_right (is_of queue new) (is_active new.state) idle) in
           inl (rw e (omega (arith, moved, none)))
-      | inr free ↦
-          elim (cases_eq new.ccb.queue.0 queue) [
-            | inl same ↦
-                let here : active_count queue before.transport.live < slice_index before.transport.openings queue = subst (λ (q : ℕ). active_count q before.transport.live < slice_index before.transport.openings q) same free in
-                inr (rw e (omega (arith, moved, at_most_one (works queue new), here)))
-            | inr apart ↦
-                let none = not_counted (works queue new) (and_left (is_of queue new) (is_active new.state) (ne_eqb _ _ apart)) in
-                inl (rw e (omega (arith, moved, none)))
+      | inr other ↦
+          elim other [
+            | inl as_before ↦
+                let same : works queue new ≡ works queue old = λ i. eqb (queue_is i) queue && as_before i in
+                let counted : cond {A = ℕ} (works queue new) 1 0 ≡ cond (works queue old) 1 0 = ap (λ (b : Bool). cond {A = ℕ} b 1 0) same in
+                inl (rw e (omega (arith, moved, counted)))
+            | inr free ↦
+                elim (cases_eq new.ccb.queue.0 queue) [
+                  | inl same ↦
+                      let here : active_count queue before.transport.live < slice_index before.transport.openings queue = subst (λ (q : ℕ). active_count q before.transport.live < slice_index before.transport.openings q) same free in
+                      inr (rw e (omega (arith, moved, at_most_one (works queue new), here)))
+                  | inr apart ↦
+                      let none = not_counted (works queue new) (and_left (is_of queue new) (is_active new.state) (ne_eqb _ _ apart)) in
+                      inl (rw e (omega (arith, moved, none)))
+                ]
           ]
     ]
 move_starts setup before event reply after queue kept (ccb_leaves number code old found may e g one) = inl (rw e (count_leave ccb_key (works queue) before.transport.live number))

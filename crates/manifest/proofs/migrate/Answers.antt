@@ -19,16 +19,16 @@ returns-in_err-_manifest-clause-fault c =
     let plan = plan_seen c.in_ok-plan.plan in
     let writes : Writes c.args.text.now plan = writes_by c.args.text.now (table_view t) (view (TableCase t)) plan (view-Table t) c.in_ok-parse.ensures.parsed c.in_ok-plan.ensures.lawful c.in_ok-plan.ensures.says in
     let p = err_from_is_err_and c.from_residual-in_err-_manifest.result c.from_residual-in_err-_manifest.ensures.1 in
-    rw (p.1, p.2) (if_fault (HasProgramFault plan) (HasMigrationFault c.args.text.now) (λ fault bad. inl (inr (inr (plan, writes, bad))))
+    rw (p.1, p.2) (if_fault (HasProgramFault plan) (HasMigrationFault c.args.to c.args.text.now) (λ fault bad. inl (inr (inr (plan, writes, bad))))
     c.in_err-_manifest.field-0.0 c.in_err-_manifest.ensures.fault)
 
 pub print-requires-clause-lawful : goal.print-requires-clause-lawful
 print-requires-clause-lawful c = form_of (view (TableCase c.in_ok-parse.field-0)) c.in_ok-plan.ensures.lawful
 
-pub returns-in-None-clause-migrated : goal.returns-in-None-clause-migrated
-returns-in-None-clause-migrated c =
+pub returns-then-comes_after-clause-migrated : goal.returns-then-comes_after-clause-migrated
+returns-then-comes_after-clause-migrated c =
     let t = c.in_ok-parse.field-0 in
     let plan = plan_seen c.in_ok-plan.plan in
     let writes : Writes c.args.text.now plan = writes_by c.args.text.now (table_view t) (view (TableCase t)) plan (view-Table t) c.in_ok-parse.ensures.parsed c.in_ok-plan.ensures.lawful c.in_ok-plan.ensures.says in
-    migrated_is c.args.text.now _ (view (TableCase t)) plan c.in_ok-_manifest._manifest.config (map named_seen c.in_ok-_manifest._manifest.programs.items)
-    writes c.in_ok-plan.ensures.lawful c.in_ok-plan.ensures.says c.in_ok-_manifest.ensures.found c.in-None.is c.in_ok-print-in-None.ensures
+    migrated_is c.args.to c.args.text.now _ (view (TableCase t)) plan c.in_ok-_manifest._manifest.config (map named_seen c.in_ok-_manifest._manifest.programs.items)
+    writes c.in_ok-plan.ensures.lawful c.in_ok-plan.ensures.says c.in_ok-_manifest.ensures.found (sym c.comes_after.ensures ∙ c.if-comes_after.true) c.in_ok-print.ensures

@@ -21,7 +21,7 @@ use Rattle.bpf_insn.specs.Target.{target}
 use Rattle.call_shape.specs.StaticPath.{outermost}
 use Rattle.helpers.specs.declared.table.Helper.TheVariants as helpers
 use Rattle.helpers.specs.declared.limits.HelperSet.{HelperSet}
-use Rattle.helpers.specs.declared.limits.HelperSet.TheVariants.{Controllers, Queues}
+use Rattle.helpers.specs.declared.limits.HelperSet.TheVariants.{Classes, Controllers, Queues}
 use Rattle.helpers.specs.Table.{is_there, row_of}
 use Rattle.check_description.specs.declared.description.Description.{Description}
 use Rattle.check_private_insns.specs.declared.way.Way.{Way}
@@ -122,6 +122,7 @@ tests_freeze program place d is = record { all = refl; equal = refl; zero_consta
 are_there : (set : HelperSet) → (is_there set helpers.Release ≡ true) × (is_there set helpers.Requeue ≡ true)
 unfolding row_of
 are_there Queues = (refl, refl)
+are_there Classes = (refl, refl)
 are_there Controllers = (refl, refl)
 
 gives_back_freeze : (program : List Slot) (place : ℕ) (d : Description) → AtRelease program place d → EnoughToCall (pos 2) d

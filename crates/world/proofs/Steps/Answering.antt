@@ -3,9 +3,9 @@
 use Rattle.std.proofs.Common.{◌≡◌, ℕ, ◌<◌, ◌≤◌, ◌^◌, ◌⊎◌, List, [], ◌∷◌, map, length, get_or, leb, inl, inr, refl, sym, subst, ◌∙◌, arith, slice_index, slice_set, All}
 use Rattle.std.proofs.Math.Seq.{map-set_same}
 use Rattle.std.proofs.lemmas.Bool.{cases_Bool, leb-true, leb-false}
-use Rattle.std.proofs.lemmas.List.{length-set, length-map, length-replicate, get_or_past}
-use Rattle.std.proofs.lemmas.List.Elements.{All-nil, All-map, All-replicate, All-set}
-use Rattle.table_store.specs.Tables.{zero_table, table_at, word_at, with_word}
+use Rattle.std.proofs.lemmas.List.{length-set, length-map, get_or_past}
+use Rattle.std.proofs.lemmas.List.Elements.{All-nil, All-map, All-set}
+use Rattle.table_store.specs.Tables.{table_at, word_at, with_word}
 use Rattle.world.specs.Capacities.{most_openings, last_reading}
 use Rattle.world.specs.World.{Setup, queue_count, QueueSetup, World, opening}
 use Rattle.world.specs.Lawful.{IsLawful}
@@ -102,19 +102,12 @@ answers_kept setup before after move kept =
 
 -- And the opening world keeps them.
 
-zero_lengths : (lengths : List ℕ) → map (λ (table : List ℕ). length table) (map zero_table lengths) ≡ lengths
-zero_lengths [] = refl
-zero_lengths (n ∷ rest) = λ i. length-replicate {A = ℕ} n 0 i ∷ zero_lengths rest i
-
-zero_words : (lengths : List ℕ) → All (All IsWord) (map zero_table lengths)
-zero_words lengths = All-map (All IsWord) zero_table lengths (λ k d below. All-replicate IsWord (get_or lengths k d) 0 (omega arith))
-
 pub opening_answers : (setup : Setup) → IsLawful setup → AnswerLimits setup (opening setup)
 opening_answers setup lawful =
     record {
       queues = length-map setup.queues (λ (queue : QueueSetup). queue.openings);
       openings = All-map (λ (n : ℕ). (1 ≤ n) × (n ≤ most_openings)) (λ (queue : QueueSetup). queue.openings) setup.queues (λ k d below. (lawful.queues k d below).openings);
-      lengths = zero_lengths setup.limits.table_lengths;
-      words = zero_words setup.limits.table_lengths;
+      lengths = lawful.tables.lengths;
+      words = lawful.tables.words;
       clock = omega arith;
     }

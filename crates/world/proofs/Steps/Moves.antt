@@ -18,7 +18,7 @@ use Rattle.bpf_semantics.specs.MachineState.{entry}
 use Rattle.world_calls.specs.declared.call.Call.TheVariants.{Complete}
 use Rattle.world_calls.specs.declared.call_answer.CallAnswer.TheVariants as answers
 use Rattle.world.specs.declared.ccb_state.CcbState.TheVariants.{Waiting, InRecovery}
-use Rattle.world.specs.World.{Setup, queue_count, queue_setup, LiveCcb, LiveRun, World}
+use Rattle.world.specs.World.{Setup, has_classes, queue_count, queue_setup, LiveCcb, LiveRun, World}
 use Rattle.world.specs.Lookups.{is_active, is_waiting, is_of, active_count, ccb_of, with_ccb, next_waiting, run_of, with_run}
 use Rattle.world.specs.Event.{Instruction, Event, called, instruction_of, Reply, replies}
 use Rattle.world.specs.CcbSteps.{ccb_meets_limit, run_meets_limit, is_completion}
@@ -28,7 +28,7 @@ use Rattle.world.specs.RunSteps.{is_run}
 use Rattle.world.specs.Laws.TookGave.{taken_by}
 use Rattle.world.specs.Laws.CcbLaws.{finished_by}
 use Rattle.world.specs.Laws.Headline.{is_step_of, is_own_of}
-use Rattle.world.specs.Limits.{NamesNoOther, FreezeLimits, CcbLimits, RunLimits, KeepsLimits}
+use Rattle.world.specs.Limits.{IsPlain, NamesNoOther, FreezeLimits, CcbLimits, RunLimits, KeepsLimits}
 use Rattle.world.proofs.Lists.Found.{put, leave, found_key}
 use Rattle.world.proofs.Lists.Rising.{found_among}
 use Rattle.world.proofs.Lists.Entries.{freeze_key}
@@ -86,8 +86,8 @@ MayTouch before event old = (old.state ≡ InRecovery → ⊥) ⊎ DisposesOf be
 
 pub data CcbMove (setup : Setup) (before : World) (event : Event) (reply : Reply) (after : World) : Type 0 where
   ccbs_stay : after.transport.live ≡ before.transport.live → after.transport.greatest_ccb ≡ before.transport.greatest_ccb → finished_by before event reply ≡ [] → CcbMove setup before event reply after
-  ccb_enters : (queue : QueueId) (priority retries : ℕ) → queue.0 < queue_count setup → ccb_meets_limit queue.0 before ≡ false → after.transport.live ≡ before.transport.live ++ record { ccb = submitted (record { 0 = before.transport.greatest_ccb + 1 }) queue priority retries; state = Waiting } ∷ [] → after.transport.greatest_ccb ≡ before.transport.greatest_ccb + 1 → finished_by before event reply ≡ [] → CcbMove setup before event reply after
-  ccb_changes : (old new : LiveCcb) → ccb_of new.ccb.number.0 before.transport.live ≡ Some old → new.ccb.queue.0 ≡ old.ccb.queue.0 → (is_active new.state ≡ false) ⊎ (active_count new.ccb.queue.0 before.transport.live < slice_index before.transport.openings new.ccb.queue.0) → MayTouch before event old → after.transport.live ≡ with_ccb new before.transport.live → after.transport.greatest_ccb ≡ before.transport.greatest_ccb → finished_by before event reply ≡ [] → CcbMove setup before event reply after
+  ccb_enters : (queue : QueueId) (priority retries class : ℕ) → (has_classes setup ≡ false → class ≡ 0) → queue.0 < queue_count setup → ccb_meets_limit queue.0 before ≡ false → after.transport.live ≡ before.transport.live ++ record { ccb = submitted (record { 0 = before.transport.greatest_ccb + 1 }) queue priority retries class; state = Waiting } ∷ [] → after.transport.greatest_ccb ≡ before.transport.greatest_ccb + 1 → finished_by before event reply ≡ [] → CcbMove setup before event reply after
+  ccb_changes : (old new : LiveCcb) → (has_classes setup ≡ false → IsPlain old → IsPlain new) → ccb_of new.ccb.number.0 before.transport.live ≡ Some old → new.ccb.queue.0 ≡ old.ccb.queue.0 → (is_active new.state ≡ false) ⊎ ((is_active new.state ≡ is_active old.state) ⊎ (active_count new.ccb.queue.0 before.transport.live < slice_index before.transport.openings new.ccb.queue.0)) → MayTouch before event old → after.transport.live ≡ with_ccb new before.transport.live → after.transport.greatest_ccb ≡ before.transport.greatest_ccb → finished_by before event reply ≡ [] → CcbMove setup before event reply after
   ccb_leaves : (number code : ℕ) (old : LiveCcb) → ccb_of number before.transport.live ≡ Some old → MayTouch before event old → after.transport.live ≡ leave ccb_key number before.transport.live → after.transport.greatest_ccb ≡ before.transport.greatest_ccb → finished_by before event reply ≡ record { number = number; code = code } ∷ [] → CcbMove setup before event reply after
 
 -- the freezes

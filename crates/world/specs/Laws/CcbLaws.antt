@@ -2,7 +2,8 @@
 -- more start than there are openings.
 use Rattle.std.specs.Prelude.{◌≡◌, ℕ, ◌<◌, ◌≤◌, ◌==◌, List, [], ◌∷◌, ◌++◌, Option, Some, None, ◌⊎◌, count_by, slice_index}
 use Rattle.ccb.specs.Status.{code_of}
-use Rattle.world_calls.specs.declared.call.Call.TheVariants.{Complete}
+use Rattle.ccb.specs.declared.cam_status.CamStatus.TheVariants.{RequestAborted}
+use Rattle.world_calls.specs.declared.call.Call.TheVariants.{Complete, Withdraw}
 use Rattle.world_calls.specs.declared.call_answer.CallAnswer.TheVariants as answers
 use Rattle.world.specs.World.{Setup, LiveCcb, EndedCcb, LiveRun, World, beginning}
 use Rattle.world.specs.Lookups.{active_count, ccb_of, run_of}
@@ -38,10 +39,11 @@ abbrev pub finished_by_run : ℕ → Option LiveRun → List EndedCcb
 finished_by_run code None = []
 finished_by_run code (Some run) = record { number = run.ccb; code = code } ∷ []
 
--- the CCB that an event finishes in this world: that of a completion which is done, with the code of its status, and that
--- of a run whose call is told to finish it, with the code that is told
+-- the CCB that an event finishes in this world: that of a completion which is done, with the code of its status; that which is
+-- withdrawn, with the code of REQ_ABORTED; and that of a run whose call is told to finish it, with the code that is told
 abbrev pub finished_by : World → Event → Reply → List EndedCcb
 finished_by before (called (Complete outcome)) (replies answers.Done) = record { number = outcome.ccb.0; code = code_of outcome.status } ∷ []
+finished_by before (called (Withdraw ccb)) (replies answers.Ok) = record { number = ccb.0; code = code_of RequestAborted } ∷ []
 finished_by before (executes run (call (finishes helper code))) reply = finished_by_run code (run_of run before.runs.list)
 finished_by before event reply = []
 

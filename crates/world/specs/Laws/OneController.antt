@@ -22,7 +22,8 @@ pub record IsUnderOne (setup other : Setup) : Type 0 where
   pub controllers_too : other.limits.helpers ≡ Controllers
   pub one : other.controllers ≡ 1
   pub named : other.limits.queues ≡ setup.limits.queues
-  pub tables : other.limits.table_lengths ≡ setup.limits.table_lengths
+  pub lengths : other.limits.table_lengths ≡ setup.limits.table_lengths
+  pub tables : other.tables ≡ setup.tables
   pub queues : map unbudgeted other.queues ≡ map unbudgeted setup.queues
   pub carried : other.carried ≡ setup.carried
 

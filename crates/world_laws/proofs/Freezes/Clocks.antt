@@ -1,5 +1,5 @@
 -- The clock goes on, and a freeze that a timer holds goes by a clock reading and by nothing else.
-use Rattle.std.proofs.Common.{◌≡◌, ℕ, ◌≤◌, List, [], ◌∷◌, ◌++◌, ◌+◌, length, true, false, not, leb, Option, Some, None, inl, inr, ap, sym, subst, ◌∙◌, arith}
+use Rattle.std.proofs.Common.{◌≡◌, ℕ, ◌≤◌, List, [], ◌∷◌, ◌++◌, ◌+◌, length, true, false, not, leb, Option, Some, None, inl, inr, refl, ap, sym, subst, ◌∙◌, arith}
 use Rattle.std.specs.Prelude.{IfSome}
 use Rattle.std.proofs.lemmas.Bool.{cases_Bool, cond-true, cond-false, not_from_true, not_from_false}
 use Rattle.freeze_ledger.specs.declared.freeze.Holder.{Holder}
@@ -7,9 +7,13 @@ use Rattle.freeze_ledger.specs.declared.freeze.Holder.TheVariants.{Timer}
 use Rattle.freeze_ledger.specs.declared.freeze.Freeze.{Freeze}
 use Rattle.freeze_ledger.specs.Freezes.{entry_of, without, is_due, due_at, not_due_at}
 use Rattle.world.specs.Capacities.{last_reading}
-use Rattle.world.specs.World.{Setup, World, beginning, beginning_of}
+use Rattle.world.specs.World.{Setup, World, beginning, beginning_of, version_of}
 use Rattle.world.specs.Beginning.{IsBeginning}
 use Rattle.world_calls.specs.declared.call_answer.CallAnswer.TheVariants as answers
+use Rattle.world_calls.specs.declared.start.Start.{Start}
+use Rattle.world_calls.specs.declared.trace.Version.{Version}
+use Rattle.world_calls.specs.declared.trace.Version.TheVariants.{One, Three, Two}
+use Rattle.world_calls.specs.Answered.{started_answer}
 use Rattle.world.specs.Event.{Event, Reply, replies}
 use Rattle.world.specs.FreezeSteps.{is_guest}
 use Rattle.world.specs.RunSteps.{is_run}
@@ -20,7 +24,7 @@ use Rattle.world.proofs.Lists.Rising.{filtered_out}
 use Rattle.world.proofs.Lists.Entries.{freeze_key, handed_is_put}
 use Rattle.world_laws.proofs.Steps.Does.{FreezeDeed, leaves_freezes, takes_one, gives_one_back, hands_one_over}
 use Rattle.world_laws.proofs.Steps.Calls.{Asks}
-use Rattle.world_laws.proofs.Steps.Cases.{ReadsClock, Case, case_of, refuses, submits, dispatches, finishes_one, recovers_one, recovers_unfrozen, freezes_one, releases_one, reads_clock, turns_one, goes_on_one, asks_one, exits}
+use Rattle.world_laws.proofs.Steps.Cases.{ReadsClock, Case, case_of, refuses, submits, dispatches, finishes_one, withdraws_one, recovers_one, recovers_unfrozen, freezes_one, releases_one, reads_clock, turns_one, goes_on_one, asks_one, exits}
 use Rattle.world.proofs.Steps.Moves.{KeepsLists}
 use Rattle.world.proofs.Steps.Answering.{moved_on}
 use Rattle.world_laws.proofs.Steps.Effects.{effect_of}
@@ -117,11 +121,20 @@ by_a_call setup before event reply after kept it (hands_one_over effect) =
     (subst (λ (n : ℕ). entry_of n before.transport.freezes ≡ Some old) (sym (found_key freeze_key it.request.arguments.first before.transport.freezes old effect.entry)) effect.entry)
     (runs_no_timer it.it.run.number old.holder effect.its)
 
+-- a start lets nothing go
+start_lets_none_go : (due : ℕ) (version : Version) (start : Start) (event : Event) → lets_go due (replies (started_answer version start)) event ≡ false
+start_lets_none_go due One start event = refl
+start_lets_none_go due Two start event = refl
+start_lets_none_go due Three start event = refl
+
 case_keeps_time : (setup : Setup) (before : World) (event : Event) (reply : Reply) (after : World) → KeepsLists setup before → Case setup before event reply after → KeepsTime before event reply after
 case_keeps_time setup before event reply after kept (refuses it) = as_before before event reply after (λ due. ap (λ (r : Reply). lets_go due r event) it.reply_is) (ap (λ (w : World). w.transport.freezes) it.after_is)
 case_keeps_time setup before event reply after kept (submits it) = as_before before event reply after (λ due. ap (λ (r : Reply). lets_go due r event) it.reply_is) (ap (λ (w : World). w.transport.freezes) it.after_is)
-case_keeps_time setup before event reply after kept (dispatches it) = as_before before event reply after (λ due. ap (λ (r : Reply). lets_go due r event) it.reply_is) (ap (λ (w : World). w.transport.freezes) it.after_is)
+case_keeps_time setup before event reply after kept (dispatches it) =
+    as_before before event reply after
+    (λ due. ap (λ (r : Reply). lets_go due r event) it.reply_is ∙ start_lets_none_go due (version_of setup) (record { ccb = it.next.ccb.number; advice = it.next.ccb.advice }) event) (ap (λ (w : World). w.transport.freezes) it.after_is)
 case_keeps_time setup before event reply after kept (finishes_one it) = as_before before event reply after (λ due. ap (λ (r : Reply). lets_go due r event) it.reply_is) (ap (λ (w : World). w.transport.freezes) it.after_is)
+case_keeps_time setup before event reply after kept (withdraws_one it) = as_before before event reply after (λ due. ap (λ (r : Reply). lets_go due r event) it.reply_is) (ap (λ (w : World). w.transport.freezes) it.after_is)
 case_keeps_time setup before event reply after kept (recovers_one it) = one_more before event reply after _ (λ due. ap (λ (x : Reply × World). lets_go due x.0 event) it.starts_is) (ap (λ (x : Reply × World). x.1.transport.freezes) it.starts_is)
 case_keeps_time setup before event reply after kept (recovers_unfrozen it) = as_before before event reply after (λ due. ap (λ (x : Reply × World). lets_go due x.0 event) it.starts_is) (ap (λ (x : Reply × World). x.1.transport.freezes) it.starts_is)
 case_keeps_time setup before event reply after kept (freezes_one it) = one_more before event reply after _ (λ due. ap (λ (r : Reply). lets_go due r event) it.reply_is) (ap (λ (w : World). w.transport.freezes) it.after_is)

@@ -16,7 +16,7 @@ use Rattle.world.specs.Event.{call, Event, executes, Reply, replies, result}
 use Rattle.world.specs.Laws.FreezeLaws.{OneFewer, Calls, MovesCounts, CountsAreEntries}
 use Rattle.world.proofs.Lists.Entries.{frozen_push, frozen_without, frozen_handed_over, frozen_due}
 use Rattle.world_laws.proofs.Steps.Does.{FreezeDeed, leaves_freezes, takes_one, gives_one_back, hands_one_over, moves_by}
-use Rattle.world_laws.proofs.Steps.Cases.{Case, case_of, refuses, submits, dispatches, finishes_one, recovers_one, recovers_unfrozen, freezes_one, releases_one, reads_clock, turns_one, goes_on_one, asks_one, exits}
+use Rattle.world_laws.proofs.Steps.Cases.{Case, case_of, refuses, submits, dispatches, finishes_one, withdraws_one, recovers_one, recovers_unfrozen, freezes_one, releases_one, reads_clock, turns_one, goes_on_one, asks_one, exits}
 use Rattle.world.proofs.Steps.Moves.{KeepsLists}
 use Rattle.world_laws.proofs.Leads.{lists_are_kept}
 
@@ -56,6 +56,7 @@ case_moves setup before event reply after kept (refuses it) = rw (it.reply_is, i
 case_moves setup before event reply after kept (submits it) = rw it.event_is (ap (λ (w : World). w.transport.freezes) it.after_is)
 case_moves setup before event reply after kept (dispatches it) = rw it.event_is (ap (λ (w : World). w.transport.freezes) it.after_is)
 case_moves setup before event reply after kept (finishes_one it) = rw (it.event_is, it.reply_is) (ap (λ (w : World). w.transport.freezes) it.after_is)
+case_moves setup before event reply after kept (withdraws_one it) = rw it.event_is (ap (λ (w : World). w.transport.freezes) it.after_is)
 case_moves setup before event reply after kept (recovers_one it) =
     let reply_is : reply ≡ replies (answers.Started (before.runs.greatest + 1) (before.transport.greatest_freeze + 1)) = ap (λ (x : Reply × World). x.0) it.starts_is in
     let is = ap (λ (x : Reply × World). x.1.transport.freezes) it.starts_is in

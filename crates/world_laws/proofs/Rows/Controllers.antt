@@ -25,6 +25,7 @@ abbrev setup : Setup
 setup = record {
   limits = record (of_queues 2 []) { helpers = Controllers };
   controllers = 2;
+  tables = [];
   queues = queue_of 1 ∷ record (queue_of 2) { controller = 1 } ∷ [];
   carried = None;
 }

@@ -21,11 +21,13 @@ failed retries = record {
     queue = record { 0 = 0 };
     priority = 5;
     retries = retries;
+    class = 0;
     attempts = 2;
     status = CommandTimeout;
     scsi = 2;
     sense = 112 ∷ 0 ∷ 6 ∷ [];
     freeze_taken = true;
+    advice = 0;
   };
   state = InRecovery;
 }
@@ -38,11 +40,13 @@ waits retries = record {
     queue = record { 0 = 0 };
     priority = 5;
     retries = retries;
+    class = 0;
     attempts = 2;
     status = RequestInProgress;
     scsi = 0;
     sense = [];
     freeze_taken = false;
+    advice = 0;
   };
   state = Waiting;
 }

@@ -57,13 +57,13 @@ queue = record {
 }
 
 abbrev setup : Setup
-setup = record { limits = of_queues 2 []; controllers = 0; queues = queue ∷ queue ∷ []; carried = None }
+setup = record { limits = of_queues 2 []; controllers = 0; tables = []; queues = queue ∷ queue ∷ []; carried = None }
 
 -- the records that a transport makes of it
 abbrev records : List Record
 records =
     Called (answers.Removed 0) (Clock 1000)
-    ∷ Called (answers.Ccb (record { 0 = 1 })) (Submit (record { 0 = 0 }) 10 3)
+    ∷ Called (answers.Ccb (record { 0 = 1 })) (Submit (record { 0 = 0 }) 10 3 None)
     ∷ Called (answers.Ccb (record { 0 = 1 })) (Dispatch (record { 0 = 0 }))
     ∷ Called (answers.Started 1 1) (Complete (outcome_of 1 CommandTimeout))
     ∷ Advance 1 3 (AtHelper helpers.Freeze) 2

@@ -1,8 +1,9 @@
 -- The worked setup of one queue is lawful: its program is never stuck, and no run of it executes more than 7
 -- instructions. So the laws speak of the worked run.
-use Rattle.std.proofs.Common.{◌≡◌, ℕ, zero, suc, ◌≤◌, List, [], ◌∷◌, Bool, true, false, not, cond, eqb, Option, Some, None, inl, inr, refl, ap, sym, subst, ◌∙◌, arith}
-use Rattle.std.specs.Prelude.{◌&&◌, ◌||◌}
-use Rattle.std.proofs.lemmas.List.Elements.{All-nil, All-cons}
+use Rattle.std.proofs.Common.{◌≡◌, ℕ, zero, suc, ◌^◌, ◌<◌, ◌≤◌, List, [], ◌∷◌, length, map, Bool, true, false, not, cond, eqb, Option, Some, None, inl, inr, refl, ap, sym, subst, ◌∙◌, arith}
+use Rattle.std.specs.Prelude.{All, ◌&&◌, ◌||◌, get_or}
+use Rattle.std.proofs.lemmas.List.{length-replicate}
+use Rattle.std.proofs.lemmas.List.Elements.{All-nil, All-cons, All-map, All-replicate}
 use Rattle.std.proofs.lemmas.Bool.{cases_Bool, cond-false, eq-eqb, not_from_true}
 use Rattle.helpers.specs.declared.limits.HelperLimits.{HelperLimits}
 use Rattle.helpers.specs.declared.request.Request.{Request}
@@ -13,6 +14,7 @@ use Rattle.bpf_semantics.specs.MachineState.{MachineState, entry, unwritten_fram
 use Rattle.bpf_semantics.specs.Step.{private_step, request_at, Allowed}
 use Rattle.bpf_semantics.specs.Stuck.{is_stuck}
 use Rattle.bpf_semantics.specs.Reached.{Steps, Reached, Safe, Within}
+use Rattle.table_store.specs.Tables.{zero_table}
 use Rattle.world.specs.World.{QueueSetup}
 use Rattle.world.specs.Lawful.{IsLawfulQueue, IsLawful}
 use Rattle.world_laws.proofs.Rows.Worked.{of_helpers, program, queue_of, one_queue}
@@ -130,6 +132,17 @@ most n m (at_exit context rest few is) = few
 is_within : Within program 7
 is_within n m reached = let few = most n m (known n m reached) in (omega (arith, few), λ exits. omega (arith, few))
 
+-- tables of which all words are 0 are as long as they should be, and each word has 64 bits
+abbrev IsWord : ℕ → Type 0
+IsWord word = word < 2 ^ 64
+
+zero_lengths : (lengths : List ℕ) → map (λ (table : List ℕ). length table) (map zero_table lengths) ≡ lengths
+zero_lengths [] = refl
+zero_lengths (n ∷ rest) = λ i. length-replicate {A = ℕ} n 0 i ∷ zero_lengths rest i
+
+zero_words : (lengths : List ℕ) → All (All IsWord) (map zero_table lengths)
+zero_words lengths = All-map (All IsWord) zero_table lengths (λ k d below. All-replicate IsWord (get_or lengths k d) 0 (omega arith))
+
 -- a setup of one queue is lawful
 pub is_lawful : (limits : HelperLimits) → limits.queues ≡ 1 → IsLawful (one_queue limits)
 is_lawful limits one =
@@ -140,4 +153,5 @@ is_lawful limits one =
       queues = All-cons (IsLawfulQueue (of_helpers limits)) (queue_of 2) []
           (record { openings = (omega arith, omega arith); program = record { laid_out = refl; in_range = (omega arith, omega arith); spares = refl }; safe = is_safe limits; within = is_within; budget = omega arith })
           (All-nil (IsLawfulQueue (of_helpers limits)));
+      tables = record { lengths = zero_lengths limits.table_lengths; words = zero_words limits.table_lengths; zero = λ none. refl };
     }

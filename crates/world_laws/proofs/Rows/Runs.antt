@@ -62,11 +62,13 @@ at_end l = record {
         queue = record { 0 = 0 };
         priority = 10;
         retries = 2;
+        class = 0;
         attempts = 1;
         status = RequestInProgress;
         scsi = 0;
         sense = [];
         freeze_taken = false;
+        advice = 0;
       };
       state = Waiting;
     } ∷ [];
@@ -83,7 +85,7 @@ at_end l = record {
 -- the six records that a transport makes of it
 abbrev records : List Record
 records =
-    Called (answers.Ccb (record { 0 = 1 })) (Submit (record { 0 = 0 }) 10 3)
+    Called (answers.Ccb (record { 0 = 1 })) (Submit (record { 0 = 0 }) 10 3 None)
     ∷ Called (answers.Ccb (record { 0 = 1 })) (Dispatch (record { 0 = 0 }))
     ∷ Called (answers.Started 1 1) (Complete (outcome_of 1 CommandTimeout))
     ∷ Advance 1 3 (Helper helpers.Release) 0

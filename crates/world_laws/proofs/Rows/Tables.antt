@@ -1,20 +1,27 @@
 -- Worked rows of helpers 6, 7, 8, 11 and 12: words that runs share, the clock that is told, and openings that a run sets.
-use Rattle.std.proofs.Common.{◌≡◌, ℕ, pos, true, false, List, [], ◌∷◌, Some, None, refl}
+use Rattle.std.proofs.Common.{◌≡◌, ℕ, ◌^◌, ◌<◌, pos, true, false, List, [], ◌∷◌, Some, None, refl, ap, arith, slice_index, slice_index_or}
+use Rattle.std.specs.Prelude.{All}
+use Rattle.std.proofs.lemmas.List.Elements.{All-nil, All-cons}
 use Rattle.bpf_insn.specs.declared.insn.Insn.TheVariants.{Call}
 use Rattle.bpf_insn.specs.declared.insn.Callee.TheVariants.{Helper}
 use Rattle.bpf_insn.specs.declared.program.Slot.TheVariants.{First}
 use Rattle.bpf_semantics.specs.MachineState.{unwritten_frame}
+use Rattle.helpers.specs.declared.limits.HelperSet.TheVariants.{Classes, Controllers}
 use Rattle.helpers.specs.declared.table.Helper.{Helper as HelperName}
 use Rattle.helpers.specs.declared.table.Helper.TheVariants as helpers
 use Rattle.helpers.specs.Table.{of_queues, row_of}
 use Rattle.ccb.specs.declared.call_refusal.CallRefusal.TheVariants.{NoOpening, NothingWaits}
 use Rattle.world.specs.declared.ccb_state.CcbState.TheVariants.{Waiting, Active, InRecovery}
 use Rattle.world.specs.World.{Setup, LiveRun, World, opening}
+use Rattle.world.specs.Lawful.{AreFirst}
 use Rattle.world.specs.Told.{plain}
 use Rattle.world.specs.Event.{call, Event, executes, result, refused}
 use Rattle.world_laws.proofs.Rows.Words.{dispatch, clock_reads, ccb_given}
 use Rattle.world.specs.Step.{step}
 use Rattle.world_laws.proofs.Rows.Worked.{answer, ccb_in, next, running, transported, two_queues, with_freezes}
+
+abbrev IsWord : ℕ → Type 0
+IsWord word = word < 2 ^ 64
 
 -- two queues, a table of two words and one of three
 abbrev setup : Setup
@@ -23,6 +30,31 @@ setup = two_queues (of_queues 2 (2 ∷ 3 ∷ []))
 -- at the opening all words are 0
 all_zero : (opening setup).runs.tables ≡ (0 ∷ 0 ∷ []) ∷ (0 ∷ 0 ∷ 0 ∷ []) ∷ []
 all_zero = refl
+
+-- or as the setup says
+abbrev with_words : Setup
+with_words = record setup { limits = record (of_queues 2 (2 ∷ 3 ∷ [])) { helpers = Classes }; tables = (5 ∷ 6 ∷ []) ∷ (7 ∷ 8 ∷ 9 ∷ []) ∷ [] }
+
+first_words : (opening with_words).runs.tables ≡ (5 ∷ 6 ∷ []) ∷ (7 ∷ 8 ∷ 9 ∷ []) ∷ []
+first_words = refl
+
+-- which is lawful if CCBs have a class, and not else
+first_lawful : AreFirst with_words
+first_lawful = record {
+  lengths = refl;
+  words =
+      All-cons (All IsWord) (5 ∷ 6 ∷ []) ((7 ∷ 8 ∷ 9 ∷ []) ∷ [])
+      (All-cons IsWord 5 (6 ∷ []) (omega arith) (All-cons IsWord 6 [] (omega arith) (All-nil IsWord)))
+      (All-cons (All IsWord) (7 ∷ 8 ∷ 9 ∷ []) []
+      (All-cons IsWord 7 (8 ∷ 9 ∷ []) (omega arith) (All-cons IsWord 8 (9 ∷ []) (omega arith) (All-cons IsWord 9 [] (omega arith) (All-nil IsWord))))
+      (All-nil (All IsWord)));
+  zero = λ none. absurd (let bad : true ≡ false = none in cc);
+}
+
+first_unlawful : AreFirst (record with_words { limits = record (of_queues 2 (2 ∷ 3 ∷ [])) { helpers = Controllers } }) → ⊥
+first_unlawful first =
+    let bad : 5 ≡ 0 = ap (λ (tables : List (List ℕ)). slice_index (slice_index_or tables 0 []) 0) (first.zero refl) in
+    omega (arith, bad)
 
 -- the run of queue 0 stands at a call of this helper with these arguments
 abbrev run_at : ℕ → ℕ → ℕ → ℕ → ℕ → LiveRun
@@ -71,6 +103,14 @@ read_before = refl
 read_after : answer setup (next setup before_put (asks 1 helpers.TablePut)) (asks 2 helpers.TableGet) ≡ Some (result 77)
 unfolding row_of
 read_after = refl
+
+-- a word that nobody wrote is as at the opening
+abbrev as_opened : World
+as_opened = (running (λ r. record r { list = run_at 1 6 1 2 0 ∷ []; greatest = 1 }) (opening with_words))
+
+read_at_first : answer with_words as_opened (asks 1 helpers.TableGet) ≡ Some (result 9)
+unfolding row_of
+read_at_first = refl
 
 reading_leaves_it : (next setup before_put (asks 2 helpers.TableGet)).runs.tables ≡ before_put.runs.tables
 unfolding row_of

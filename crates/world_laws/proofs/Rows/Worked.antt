@@ -43,10 +43,10 @@ abbrev pub of_helpers : HelperLimits → HelperLimits
 of_helpers limits = record limits { helpers = Queues }
 
 abbrev pub one_queue : HelperLimits → Setup
-one_queue limits = record { limits = of_helpers limits; controllers = 0; queues = queue_of 2 ∷ []; carried = None }
+one_queue limits = record { limits = of_helpers limits; controllers = 0; tables = map zero_table limits.table_lengths; queues = queue_of 2 ∷ []; carried = None }
 
 abbrev pub two_queues : HelperLimits → Setup
-two_queues limits = record { limits = of_helpers limits; controllers = 0; queues = queue_of 1 ∷ queue_of 2 ∷ []; carried = None }
+two_queues limits = record { limits = of_helpers limits; controllers = 0; tables = map zero_table limits.table_lengths; queues = queue_of 1 ∷ queue_of 2 ∷ []; carried = None }
 
 -- with the tables as they are at the opening
 abbrev pub zero_tables : HelperLimits → World → World
@@ -73,7 +73,7 @@ freeze_of number guest = record { number = number; place = device 0; holder = Gu
 
 -- a CCB of queue 0, as it was submitted, in this state
 abbrev pub ccb_in : ℕ → ℕ → CcbState → LiveCcb
-ccb_in number priority state = record { ccb = submitted (record { 0 = number }) (record { 0 = 0 }) priority 0; state = state }
+ccb_in number priority state = record { ccb = submitted (record { 0 = number }) (record { 0 = 0 }) priority 0 0; state = state }
 
 -- a completion with this status, and neither SCSI status nor sense
 abbrev pub outcome_of : ℕ → CamStatus → Outcome

@@ -122,7 +122,7 @@ alive_step setup start number k j e before event reply after lawful sound effect
         (alive (machine_of now machine) is queue ccb (further now.program k now.machine machine reached steps) (same_disposal now machine j same disposed) none_yet)
 
     by_disposing : Disposing before after now instruction machine → Later setup start number k j e event after
-    by_disposing (leaves_its_ccb same live calm) = goes_calmly calm same
+    by_disposing (leaves_its_ccb same its calm) = goes_calmly calm same
     by_disposing (disposes_of_it fresh used disposal) =
         let again : one (is_disposal_of number event) ≡ 1 = again_is ∙ ap one disposal in
         let zero_yet = unspent now j disposed fresh in

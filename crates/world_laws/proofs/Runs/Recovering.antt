@@ -16,7 +16,7 @@ use Rattle.world.proofs.Lists.Found.{found_key, found_push, put_same, put_other,
 use Rattle.world_laws.proofs.Steps.Cases.{Case}
 use Rattle.world.proofs.Steps.Moves.{lists_of, ccb_key, ccb_found, MayTouch, CcbMove, ccbs_stay, ccb_enters, ccb_changes, ccb_leaves, Begins, Effect}
 use Rattle.world_laws.proofs.Steps.Effects.{effect_of}
-use Rattle.world_laws.proofs.Steps.Fates.{machine_of, turned, Disposing, leaves_its_ccb, disposes_of_it, Fate, stands, goes, leaves_world, fate_of, Newly}
+use Rattle.world_laws.proofs.Steps.Fates.{machine_of, turned, StaysInState, Disposing, leaves_its_ccb, disposes_of_it, Fate, stands, goes, leaves_world, fate_of, Newly}
 use Rattle.world_laws.proofs.Steps.Beginnings.{no_some, new_run}
 use Rattle.world_laws.proofs.Runs.Reaching.{same_found}
 
@@ -38,9 +38,11 @@ one_state number world it test recovery is_not found is =
     let bad : false ≡ true = sym is_not ∙ (ap test (sym recovery.state) ∙ (ap (λ (c : LiveCcb). test c.state) same ∙ is)) in
     cc
 
--- the CCBs are as they were
-same_live : (ccb : ℕ) (before after : World) → after.transport.live ≡ before.transport.live → IsInRecovery ccb before → IsInRecovery ccb after
-same_live ccb before after e recovery = record { live = recovery.live; found = ap (ccb_of ccb) e ∙ recovery.found; state = recovery.state }
+-- a run's CCB stays in its state
+stays_in_recovery : (run : LiveRun) (before after : World) → StaysInState before after run → IsInRecovery run.ccb before → IsInRecovery run.ccb after
+stays_in_recovery run before after its recovery =
+    let now = its.stays recovery.live recovery.found in
+    record { live = now.0; found = now.1; state = now.2 ∙ recovery.state }
 
 -- an active CCB is not the one that is in recovery
 not_active_one : (ccb number : ℕ) (before : World) (it : LiveCcb) → IsInRecovery ccb before → ccb_of number before.transport.live ≡ Some it → is_active it.state ≡ true → it.ccb.number.0 ≡ ccb → ⊥
@@ -63,10 +65,10 @@ untouched before event number run old recovering found fresh other there may =
 -- so that CCB stays as it is
 pub others_ccb : (setup : Setup) (before : World) (event : Event) (reply : Reply) (after : World) (number : ℕ) (run : LiveRun) → Recovering before → run_of number before.runs.list ≡ Some run → run.machine.disposed ≡ false → is_step_of number event ≡ false → CcbMove setup before event reply after → ccb_of run.ccb after.transport.live ≡ ccb_of run.ccb before.transport.live
 others_ccb setup before event reply after number run recovering found fresh other (ccbs_stay e g unended) = ap (ccb_of run.ccb) e
-others_ccb setup before event reply after number run recovering found fresh other (ccb_enters queue priority retries known full e g unended) =
+others_ccb setup before event reply after number run recovering found fresh other (ccb_enters queue priority retries class unclassed known full e g unended) =
     let recovery = recovering.ccbs number run found fresh in
     ap (ccb_of run.ccb) e ∙ (found_push ccb_key run.ccb before.transport.live _ recovery.live recovery.found ∙ sym recovery.found)
-others_ccb setup before event reply after number run recovering found fresh other (ccb_changes old new was queue_is active may e g unended) =
+others_ccb setup before event reply after number run recovering found fresh other (ccb_changes old new plain was queue_is active may e g unended) =
     ap (ccb_of run.ccb) e
     ∙ put_other ccb_key new run.ccb before.transport.live
     (λ same. untouched before event number run old recovering found fresh other (subst (λ (k : ℕ). ccb_of k before.transport.live ≡ Some old) same was) may)
@@ -89,7 +91,7 @@ pub record Continues (before : World) (number : ℕ) (now : LiveRun) : Type 0 wh
   pub fresh : now.machine.disposed ≡ false → run.machine.disposed ≡ false
 
 was_fresh : (before after : World) (run : LiveRun) (instruction : Instruction) (machine : MachineState) → Disposing before after run instruction machine → machine.disposed ≡ false → run.machine.disposed ≡ false
-was_fresh before after run instruction machine (leaves_its_ccb same live calm) e = sym same ∙ e
+was_fresh before after run instruction machine (leaves_its_ccb same its calm) e = sym same ∙ e
 was_fresh before after run instruction machine (disposes_of_it fresh spent disposal) e = fresh
 
 continues : (before : World) (event : Event) (reply : Reply) (after : World) (number : ℕ) (run now : LiveRun) → run_of number before.runs.list ≡ Some run → run_of number after.runs.list ≡ Some now → Fate before event reply after number run → Continues before number now
@@ -123,7 +125,7 @@ ccbs_recover setup before event reply after lawful kept held recovering it numbe
     effect = effect_of setup before event reply after (lists_of kept) it
 
     by_disposing : (run : LiveRun) (instruction : Instruction) (machine : MachineState) → run_of number before.runs.list ≡ Some run → machine.disposed ≡ false → Disposing before after run instruction machine → IsInRecovery run.ccb after
-    by_disposing run instruction machine found fresh (leaves_its_ccb same live calm) = same_live run.ccb before after live (recovering.ccbs number run found (sym same ∙ fresh))
+    by_disposing run instruction machine found fresh (leaves_its_ccb same its calm) = stays_in_recovery run before after its (recovering.ccbs number run found (sym same ∙ fresh))
     by_disposing run instruction machine found fresh (disposes_of_it was spent disposal) = absurd (let bad : true ≡ false = sym spent ∙ fresh in cc)
 
     by_fate : (run : LiveRun) → run_of number before.runs.list ≡ Some run → Fate before event reply after number run → IsInRecovery now.ccb after

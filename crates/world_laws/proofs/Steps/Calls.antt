@@ -18,6 +18,7 @@ pub record Asks (setup : Setup) (before : World) (event : Event) (reply : Reply)
   pub request : Request
   pub it : Executes before event (call (told_of request))
   pub call_is : request_at it.run.program it.run.machine ≡ Some request
+  pub rule : meets_rule setup.limits it.run.machine request ≡ true
   pub given : Answer
   pub between : World
   pub answer : (reply, after) ≡ answers between it.run request given
@@ -32,6 +33,7 @@ by_request setup before event reply after request it call_is rule e =
       request = request;
       it = it;
       call_is = call_is;
+      rule = rule;
       given = does.given;
       between = does.between;
       answer = does.answer;

@@ -3,7 +3,9 @@ use Rattle.std.proofs.Common.{◌≡◌, ℕ, ◌+◌, ◌<◌, ◌≤◌, [], �
 use Rattle.std.specs.Prelude.{◌&&◌, slice_index}
 use Rattle.std.proofs.lemmas.Bool.{cases_Bool, cond-true, cond-false, eq-eqb, leb-false, ltb-false, not-false}
 use Rattle.std.specs.Option.{option_map}
+use Rattle.ccb.specs.declared.CcbId.{CcbId}
 use Rattle.ccb.specs.declared.QueueId.{QueueId}
+use Rattle.ccb.specs.declared.cam_status.CamStatus.TheVariants.{RequestAborted}
 use Rattle.ccb.specs.Completion.{Outcome}
 use Rattle.ccb.specs.Ccb.{submitted, started, completed}
 use Rattle.freeze_ledger.specs.declared.freeze.Holder.TheVariants.{Run, Guest}
@@ -12,21 +14,22 @@ use Rattle.ccb.specs.declared.place.Place.{Place}
 use Rattle.ccb.specs.declared.place.Place.TheVariants.{Device}
 use Rattle.freeze_ledger.specs.Freezes.{frozen, meets_limit, entry_of, without, due_at}
 use Rattle.world_calls.specs.declared.call.Call.{Call}
-use Rattle.world_calls.specs.declared.call.Call.TheVariants.{Submit, Dispatch, Complete, GuestFreeze, GuestRelease, Clock, Park, Resume}
+use Rattle.world_calls.specs.declared.call.Call.TheVariants.{Submit, Dispatch, Complete, Withdraw, GuestFreeze, GuestRelease, Clock, Park, Resume}
 use Rattle.world_calls.specs.declared.call_answer.CallAnswer.TheVariants as answers
+use Rattle.world_calls.specs.Answered.{started_answer}
 use Rattle.ccb.specs.declared.call_refusal.CallRefusal.{CallRefusal}
 use Rattle.ccb.specs.declared.call_refusal.CallRefusal.TheVariants.{Unknown, Limit, NotActive, GoesBack, Frozen, NoOpening}
 use Rattle.world.specs.declared.ccb_state.CcbState.TheVariants.{Waiting, Active}
 use Rattle.world.specs.Capacities.{last_reading}
-use Rattle.world.specs.World.{Setup, queue_count, LiveCcb, LiveRun, World}
-use Rattle.world.specs.Lookups.{is_active, active_count, ccb_of, with_ccb, next_waiting, run_of}
+use Rattle.world.specs.World.{Setup, class_fits, class_in, has_classes, queue_count, version_of, LiveCcb, LiveRun, World}
+use Rattle.world.specs.Lookups.{is_active, is_waiting, active_count, ccb_of, with_ccb, next_waiting, run_of}
 use Rattle.world.specs.Event.{private, call, exit, Event, called, executes, instruction_of, Reply, replies, refused}
 use Rattle.world.specs.FreezeSteps.{frozen_with, is_guest, froze, thawed, guest_releases, clock_at}
-use Rattle.world.specs.CcbSteps.{ccb_meets_limit, starts, is_success, run_meets_limit, finishes, run_starts, completes, is_completion}
-use Rattle.world.specs.Refusals.{is_unknown, works, refusals_of}
+use Rattle.world.specs.CcbSteps.{ccb_meets_limit, starts, is_success, run_meets_limit, finishes, run_starts, completes, withdraws, is_completion}
+use Rattle.world.specs.Refusals.{is_unknown, waits, works, refusals_of}
 use Rattle.world.specs.RunSteps.{ends}
 use Rattle.world.specs.ParkSteps.{with_out, parks, resumes}
-use Rattle.world.specs.Step.{performs, WorldStep}
+use Rattle.world.specs.Step.{WorldStep}
 use Rattle.world.specs.Laws.FreezeLaws.{MovesCounts}
 use Rattle.world.specs.Laws.CcbLaws.{finished_by}
 use Rattle.world.specs.Laws.TookGave.{taken_by}
@@ -52,13 +55,15 @@ pub record Submits (setup : Setup) (before : World) (event : Event) (reply : Rep
   pub queue : QueueId
   pub priority : ℕ
   pub retries : ℕ
-  pub event_is : event ≡ called (Submit queue priority retries)
+  pub class : Option ℕ
+  pub fits : class_fits (has_classes setup) class ≡ true
+  pub event_is : event ≡ called (Submit queue priority retries class)
   pub known : queue.0 < queue_count setup
   pub room : ccb_meets_limit queue.0 before ≡ false
   pub reply_is : reply ≡ replies (answers.Ccb (record { 0 = before.transport.greatest_ccb + 1 }))
-  pub after_is : after ≡ record before { transport = record before.transport { live = before.transport.live ++ record { ccb = submitted (record { 0 = before.transport.greatest_ccb + 1 }) queue priority retries; state = Waiting } ∷ []; greatest_ccb = before.transport.greatest_ccb + 1 } }
+  pub after_is : after ≡ record before { transport = record before.transport { live = before.transport.live ++ record { ccb = submitted (record { 0 = before.transport.greatest_ccb + 1 }) queue priority retries (class_in class); state = Waiting } ∷ []; greatest_ccb = before.transport.greatest_ccb + 1 } }
 
--- a CCB that waits starts
+-- a CCB that waits starts, and what was advised for it is told, if CCBs have an advice
 pub record Dispatches (setup : Setup) (before : World) (event : Event) (reply : Reply) (after : World) : Type 0 where
   pub queue : QueueId
   pub event_is : event ≡ called (Dispatch queue)
@@ -67,7 +72,7 @@ pub record Dispatches (setup : Setup) (before : World) (event : Event) (reply : 
   pub opening : active_count queue.0 before.transport.live < slice_index before.transport.openings queue.0
   pub next : LiveCcb
   pub next_is : next_waiting queue.0 before.transport.live ≡ Some next
-  pub reply_is : reply ≡ replies (answers.Ccb next.ccb.number)
+  pub reply_is : reply ≡ replies (started_answer (version_of setup) (record { ccb = next.ccb.number; advice = next.ccb.advice }))
   pub after_is : after ≡ record before { transport = record before.transport { live = with_ccb (record { ccb = started next.ccb; state = Active }) before.transport.live } }
 
 -- an active CCB is finished
@@ -80,6 +85,17 @@ pub record Finishes (before : World) (event : Event) (reply : Reply) (after : Wo
   pub success : is_success outcome.status ≡ true
   pub reply_is : reply ≡ replies answers.Done
   pub after_is : after ≡ finishes before live.ccb outcome.status
+
+-- a CCB that waits is withdrawn
+pub record Withdraws (setup : Setup) (before : World) (event : Event) (reply : Reply) (after : World) : Type 0 where
+  pub ccb : CcbId
+  pub event_is : event ≡ called (Withdraw ccb)
+  pub classes : has_classes setup ≡ true
+  pub live : LiveCcb
+  pub found : ccb_of ccb.0 before.transport.live ≡ Some live
+  pub waits : is_waiting live.state ≡ true
+  pub reply_is : reply ≡ replies answers.Ok
+  pub after_is : after ≡ finishes before live.ccb RequestAborted
 
 -- an active CCB failed, and a run starts
 pub record Fails (before : World) (event : Event) : Type 0 where
@@ -153,6 +169,7 @@ pub data Case (setup : Setup) (before : World) (event : Event) (reply : Reply) (
   submits : Submits setup before event reply after → Case setup before event reply after
   dispatches : Dispatches setup before event reply after → Case setup before event reply after
   finishes_one : Finishes before event reply after → Case setup before event reply after
+  withdraws_one : Withdraws setup before event reply after → Case setup before event reply after
   recovers_one : Recovers setup before event reply after → Case setup before event reply after
   recovers_unfrozen : RecoversUnfrozen setup before event reply after → Case setup before event reply after
   freezes_one : Freezes setup before event reply after → Case setup before event reply after
@@ -168,7 +185,7 @@ refused_case setup before event reply after refusal idle moves ends taken e =
     refuses (record { refusal = refusal; idle = idle; moves = moves; ends = ends; taken = taken; reply_is = ap (λ (x : Reply × World). x.0) e; after_is = ap (λ (x : Reply × World). x.1) e })
 
 -- a CCB that waits
-starts_next : (setup : Setup) (before : World) (queue : QueueId) (reply : Reply) (after : World) (o : Option LiveCcb) → next_waiting queue.0 before.transport.live ≡ o → queue.0 < queue_count setup → frozen (Device queue) before.transport.freezes ≡ 0 → active_count queue.0 before.transport.live < slice_index before.transport.openings queue.0 → option_map (starts before) o ≡ Some (reply, after) → Case setup before (called (Dispatch queue)) reply after
+starts_next : (setup : Setup) (before : World) (queue : QueueId) (reply : Reply) (after : World) (o : Option LiveCcb) → next_waiting queue.0 before.transport.live ≡ o → queue.0 < queue_count setup → frozen (Device queue) before.transport.freezes ≡ 0 → active_count queue.0 before.transport.live < slice_index before.transport.openings queue.0 → option_map (starts setup before) o ≡ Some (reply, after) → Case setup before (called (Dispatch queue)) reply after
 starts_next setup before queue reply after None next_is known cold free e = absurd cc
 starts_next setup before queue reply after (Some next) next_is known cold free e =
     let last = some_is _ _ e in
@@ -221,6 +238,22 @@ completes_one setup before outcome reply after good (Some live) found room busy 
             | inr free ↦ recovers_one (record { fails = fails; free = free; starts_is = fourth ∙ cond-false (meets_limit (Device live.ccb.queue) before.transport.freezes before.transport.greatest_freeze) _ _ free })
           ]
     ]
+
+-- a CCB that the host wants no more
+withdraws_found : (setup : Setup) (before : World) (ccb : CcbId) (reply : Reply) (after : World) (o : Option LiveCcb) → ccb_of ccb.0 before.transport.live ≡ o → not (has_classes setup) ≡ false → not (waits o) ≡ false → option_map (withdraws before) o ≡ Some (reply, after) → Case setup before (called (Withdraw ccb)) reply after
+withdraws_found setup before ccb reply after None found has idle e = absurd cc
+withdraws_found setup before ccb reply after (Some live) found has idle e =
+    let last = some_is _ _ e in
+    withdraws_one (record {
+      ccb = ccb;
+      event_is = refl;
+      classes = not-false _ has;
+      live = live;
+      found = found;
+      waits = not-false _ idle;
+      reply_is = ap (λ (x : Reply × World). x.0) last;
+      after_is = ap (λ (x : Reply × World). x.1) last;
+    })
 
 guest_release_found : (before : World) (number : ℕ) (reply : Reply) (after : World) (o : Option Freeze) → entry_of number before.transport.freezes ≡ o → guest_releases before o ≡ Some (reply, after) → Releases before (called (GuestRelease number)) reply after
 guest_release_found before number reply after None entry e = absurd cc
@@ -288,22 +321,28 @@ resumes_one setup before number reply after (Some run) found e =
 
 -- A call is refused, or does what it does.
 call_case : (setup : Setup) (before : World) (its : Call) (reply : Reply) (after : World) → WorldStep setup before (called its) reply after → Case setup before (called its) reply after
-call_case setup before (Submit queue priority retries) reply after e =
-    elim (by_refusals (refusals_of setup before (Submit queue priority retries)) before _ reply after e) [
-      | inl it ↦ refused_case setup before (called (Submit queue priority retries)) reply after it.refusal (λ n. refl) refl refl (λ n. refl) it.is
-      | inr goes ↦
-          let tests = refusals_of setup before (Submit queue priority retries) in
-          let last = some_is _ _ goes.1 in
-          submits (record {
-            queue = queue;
-            priority = priority;
-            retries = retries;
-            event_is = refl;
-            known = leb-false _ _ (none_of Unknown tests goes.0);
-            room = none_of Limit tests goes.0;
-            reply_is = ap (λ (x : Reply × World). x.0) last;
-            after_is = ap (λ (x : Reply × World). x.1) last;
-          })
+call_case setup before (Submit queue priority retries class) reply after e =
+    elim (cases_Bool (class_fits (has_classes setup) class)) [
+      | inl fits ↦
+          elim (by_refusals (refusals_of setup before (Submit queue priority retries class)) before _ reply after (sym (cond-true (class_fits (has_classes setup) class) _ _ fits) ∙ e)) [
+            | inl it ↦ refused_case setup before (called (Submit queue priority retries class)) reply after it.refusal (λ n. refl) refl refl (λ n. refl) it.is
+            | inr goes ↦
+                let tests = refusals_of setup before (Submit queue priority retries class) in
+                let last = some_is _ _ goes.1 in
+                submits (record {
+                  queue = queue;
+                  priority = priority;
+                  retries = retries;
+                  class = class;
+                  fits = fits;
+                  event_is = refl;
+                  known = leb-false _ _ (none_of Unknown tests goes.0);
+                  room = none_of Limit tests goes.0;
+                  reply_is = ap (λ (x : Reply × World). x.0) last;
+                  after_is = ap (λ (x : Reply × World). x.1) last;
+                })
+          ]
+      | inr unfit ↦ let none = sym (cond-false (class_fits (has_classes setup) class) _ _ unfit) ∙ e in absurd cc
     ]
 call_case setup before (Dispatch queue) reply after e =
     elim (by_refusals (refusals_of setup before (Dispatch queue)) before _ reply after e) [
@@ -323,6 +362,13 @@ call_case setup before (Complete outcome) reply after e =
                 completes_one setup before outcome reply after good (ccb_of outcome.ccb.0 before.transport.live) refl (none_of Limit tests goes.0) (none_of NotActive tests goes.0) goes.1
           ]
       | inr bad ↦ let none = sym (cond-false (is_completion outcome) _ _ bad) ∙ e in absurd cc
+    ]
+call_case setup before (Withdraw ccb) reply after e =
+    elim (by_refusals (refusals_of setup before (Withdraw ccb)) before _ reply after e) [
+      | inl it ↦ refused_case setup before (called (Withdraw ccb)) reply after it.refusal (λ n. refl) refl refl (λ n. refl) it.is
+      | inr goes ↦
+          let tests = refusals_of setup before (Withdraw ccb) in
+          withdraws_found setup before ccb reply after (ccb_of ccb.0 before.transport.live) refl (none_of Unknown tests goes.0) (none_of NotActive tests goes.0) goes.1
     ]
 call_case setup before (GuestFreeze place guest) reply after e =
     elim (by_refusals (refusals_of setup before (GuestFreeze place guest)) before _ reply after e) [

@@ -1,10 +1,11 @@
 -- What the calls of helpers do: each to the freezes, to the CCBs, and to the openings and the tables, in one of a few ways.
 use Rattle.std.proofs.Common.{◌≡◌, ℕ, ◌+◌, ◌<◌, [], true, false, cond, eqb, Some, ap, sym, subst, ◌∙◌}
-use Rattle.ccb.specs.Ccb.{requeued}
+use Rattle.ccb.specs.Ccb.{advised, requeued}
 use Rattle.freeze_ledger.specs.declared.freeze.Holder.TheVariants.{Run}
 use Rattle.freeze_ledger.specs.declared.freeze.Freeze.{Freeze}
 use Rattle.freeze_ledger.specs.Freezes.{frozen, meets_limit, entry_of, without, handed_over}
 use Rattle.helpers.specs.declared.table.Helper.{Helper}
+use Rattle.helpers.specs.declared.table.Helper.TheVariants as helpers
 use Rattle.helpers.specs.declared.table.HelperEffect.{HelperEffect}
 use Rattle.helpers.specs.declared.table.HelperEffect.TheVariants as effects
 use Rattle.helpers.specs.declared.columns.Gives.{Gives}
@@ -139,10 +140,22 @@ pub record EndsOne (before : World) (run : LiveRun) (request : Request) (between
   pub ended_is : between.ended ≡ (ended_with before its.live.ccb request.arguments.first).ended
   pub greatest_is : between.transport.greatest_ccb ≡ before.transport.greatest_ccb
 
+-- it has this advice from now on, and is as it was but for that
+pub record AdvisesOne (before : World) (run : LiveRun) (request : Request) (given : Answer) (between : World) : Type 0 where
+  pub helper_is : request.helper ≡ helpers.Advise
+  pub told_is : told_of request ≡ plain request.helper
+  pub calm : is_disposing (told_of request) ≡ false
+  pub disposed : (answered request given run.machine).disposed ≡ run.machine.disposed
+  pub its : HasItsCcb before run
+  pub live_is : between.transport.live ≡ with_ccb (record its.live { ccb = advised its.live.ccb request.arguments.first }) before.transport.live
+  pub ended_is : between.ended ≡ before.ended
+  pub greatest_is : between.transport.greatest_ccb ≡ before.transport.greatest_ccb
+
 pub data CcbDeed (before : World) (run : LiveRun) (request : Request) (given : Answer) (between : World) : Type 0 where
   leaves_ccbs : LeavesCcbs before run request given between → CcbDeed before run request given between
   requeues_one : RequeuesOne before run request between → CcbDeed before run request given between
   ends_one : EndsOne before run request between → CcbDeed before run request given between
+  advises_one : AdvisesOne before run request given between → CcbDeed before run request given between
 
 -- What it does to the openings and the tables: one number is set, or none. No call touches the runs or the clock.
 pub record LeavesTheRest (before between : World) : Type 0 where

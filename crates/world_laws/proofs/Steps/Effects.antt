@@ -3,8 +3,9 @@ use Rattle.std.proofs.Common.{◌≡◌, ℕ, ◌+◌, ◌<◌, List, [], ◌∷
 use Rattle.std.specs.Prelude.{◌&&◌, ◌||◌}
 use Rattle.std.specs.Option.{is_some}
 use Rattle.std.proofs.lemmas.Bool.{cases_eq, cond-true, cond-false, eq-eqb, ne_eqb, eqb-true}
+use Rattle.ccb.specs.declared.cam_status.CamStatus.TheVariants.{RequestAborted}
 use Rattle.ccb.specs.Status.{code_of}
-use Rattle.ccb.specs.Ccb.{started, completed, requeued}
+use Rattle.ccb.specs.Ccb.{advised, started, completed, requeued}
 use Rattle.freeze_ledger.specs.declared.freeze.Holder.{Holder}
 use Rattle.freeze_ledger.specs.declared.freeze.Holder.TheVariants.{Run, Timer, Guest}
 use Rattle.freeze_ledger.specs.declared.freeze.Freeze.{Freeze}
@@ -13,16 +14,24 @@ use Rattle.ccb.specs.Places.{device}
 use Rattle.freeze_ledger.specs.Freezes.{entry_of, is_due}
 use Rattle.helpers.specs.declared.columns.Gives.{Gives}
 use Rattle.helpers.specs.declared.columns.Gives.TheVariants.{Number, NewFreeze}
-use Rattle.helpers.specs.Table.{row_of}
+use Rattle.helpers.specs.declared.limits.HelperSet.{HelperSet}
+use Rattle.helpers.specs.declared.limits.HelperSet.TheVariants.{Classes, Controllers, Queues}
+use Rattle.helpers.specs.declared.table.Helper.{Helper}
+use Rattle.helpers.specs.declared.table.Helper.TheVariants as helpers
+use Rattle.helpers.specs.Table.{are_classed, is_there, row_of}
 use Rattle.helpers.specs.declared.request.Answer.{Answer}
 use Rattle.bpf_semantics.specs.Step.{answered}
-use Rattle.world_calls.specs.declared.call.Call.TheVariants.{Complete}
+use Rattle.world_calls.specs.declared.call.Call.TheVariants.{Complete, Withdraw}
+use Rattle.world_calls.specs.declared.start.Start.{Start}
+use Rattle.world_calls.specs.declared.trace.Version.{Version}
+use Rattle.world_calls.specs.declared.trace.Version.TheVariants.{One, Three, Two}
+use Rattle.world_calls.specs.Answered.{started_answer}
 use Rattle.world.specs.declared.ccb_state.CcbState.{CcbState}
 use Rattle.world.specs.declared.ccb_state.CcbState.TheVariants.{Waiting, Active, InRecovery}
-use Rattle.world.specs.World.{Setup, queue_count, queue_setup, LiveCcb, EndedCcb, LiveRun, World}
+use Rattle.world.specs.World.{Setup, class_fits, class_in, has_classes, queue_count, queue_setup, version_of, LiveCcb, EndedCcb, LiveRun, World}
 use Rattle.world.specs.Lookups.{is_waiting, is_active, active_count, ccb_of, with_ccb, run_of, with_run}
 use Rattle.world.specs.Told.{Told, plain, finishes, told_of}
-use Rattle.world.specs.Event.{Instruction, call, Event, called, executes, instruction_of, Reply, result}
+use Rattle.world.specs.Event.{Instruction, call, Event, called, executes, instruction_of, Reply, replies, result}
 use Rattle.world.specs.FreezeSteps.{is_guest, is_timer}
 use Rattle.world.specs.RunSteps.{is_run}
 use Rattle.world.specs.Refusals.{is_unknown}
@@ -36,9 +45,10 @@ use Rattle.world.proofs.Lists.Each.{all_found}
 use Rattle.world.proofs.Lists.Entries.{freeze_key, handed_is_put}
 use Rattle.world.proofs.Steps.Answering.{OpeningsMove, openings_stay, TablesMove, tables_stay, AnswerMove, answers_stay}
 use Rattle.world_laws.proofs.Steps.Running.{Executes, pair_parts}
-use Rattle.world_laws.proofs.Steps.Does.{IsAmong, FreezeDeed, leaves_freezes, takes_one, gives_one_back, hands_one_over, HasItsCcb, CcbDeed, leaves_ccbs, requeues_one, ends_one, takes_by}
+use Rattle.world_laws.proofs.Steps.Rules.{rule_parts}
+use Rattle.world_laws.proofs.Steps.Does.{IsAmong, FreezeDeed, leaves_freezes, takes_one, gives_one_back, hands_one_over, HasItsCcb, CcbDeed, leaves_ccbs, requeues_one, ends_one, advises_one, takes_by}
 use Rattle.world_laws.proofs.Steps.Calls.{Asks}
-use Rattle.world_laws.proofs.Steps.Cases.{Recovers, RecoversUnfrozen, Case, refuses, submits, dispatches, finishes_one, recovers_one, recovers_unfrozen, freezes_one, releases_one, reads_clock, Turns, turns_one, goes_on_one, asks_one, exits}
+use Rattle.world_laws.proofs.Steps.Cases.{Recovers, RecoversUnfrozen, Case, refuses, submits, dispatches, finishes_one, withdraws_one, recovers_one, recovers_unfrozen, freezes_one, releases_one, reads_clock, Turns, turns_one, goes_on_one, asks_one, exits}
 use Rattle.world.proofs.Steps.Moves.{KeepsLists, ccb_key, run_key, ccb_found, run_found, next_found, MayTouch, CcbMove, ccbs_stay, ccb_enters, ccb_changes, ccb_leaves, Comes, FreezeMove, freezes_stay, freeze_enters, freezes_leave, freeze_changes, Begins, tells_start, runs_stay, run_enters, run_changes, run_leaves, Effect}
 
 -- a queue that exists is a place that does
@@ -199,6 +209,30 @@ one_ended number code = record { number = number; code = code } ∷ []
 given_to_other : (run number freeze : ℕ) → (number ≡ run → ⊥) → given_to run number freeze ≡ []
 given_to_other run number freeze apart = ap (λ (b : Bool). cond (b && not (eqb freeze 0)) (freeze ∷ []) []) (ne_eqb _ _ apart)
 
+-- Classes and advice.
+
+-- if CCBs have no class, a submission says none, so that its CCB has the class 0
+unclassed : (has : Bool) (class : Option ℕ) → class_fits has class ≡ true → has ≡ false → class_in class ≡ 0
+unclassed has None fits none = refl
+unclassed has (Some class) fits none = absurd (let bad : true ≡ false = sym fits ∙ none in cc)
+
+-- the helper that advises is there only if CCBs have a class and an advice
+advises_there : (set : HelperSet) → is_there set helpers.Advise ≡ true → are_classed set ≡ true
+advises_there Queues there = absurd (let bad : false ≡ true = there in cc)
+advises_there Controllers there = absurd (let bad : false ≡ true = there in cc)
+advises_there Classes there = refl
+
+-- so they have, if a call advises
+pub call_advises : (setup : Setup) (before : World) (event : Event) (reply : Reply) (after : World) → (it : Asks setup before event reply after) → it.request.helper ≡ helpers.Advise → has_classes setup ≡ true
+call_advises setup before event reply after it is =
+    advises_there setup.limits.helpers (subst (λ (h : Helper). is_there setup.limits.helpers h ≡ true) is (rule_parts setup.limits it.it.run.machine it.request it.rule).there)
+
+-- a start that is answered tells of no run
+start_tells_none : (version : Version) (start : Start) → tells_start (replies (started_answer version start)) ≡ false
+start_tells_none One start = refl
+start_tells_none Two start = refl
+start_tells_none Three start = refl
+
 -- Calls of helpers.
 
 -- the run that calls goes on with the answer, and the others stand
@@ -242,7 +276,7 @@ call_ccbs setup before event reply after it (requeues_one effect) =
     let greatest_is : after.transport.greatest_ccb ≡ before.transport.greatest_ccb = ap (λ (x : Reply × World). x.1.transport.greatest_ccb) it.answer ∙ effect.greatest_is in
     let ended_is : after.ended ≡ before.ended = ap (λ (x : Reply × World). x.1.ended) it.answer ∙ effect.ended_is in
     let none : finished_by before event reply ≡ [] = finished_by_call setup before event reply after (plain it.request.helper) it effect.told_is in (
-      ccb_changes effect.its.live new (ccb_found _ before.transport.live effect.its.live effect.its.found) refl (inl refl) (its_ccb before event _ it.it effect.its) live_is greatest_is none,
+      ccb_changes effect.its.live new (λ unclassed_one plain_one. plain_one) (ccb_found _ before.transport.live effect.its.live effect.its.found) refl (inl refl) (its_ccb before event _ it.it effect.its) live_is greatest_is none,
       none_ended before after event reply none ended_is,
     )
 call_ccbs setup before event reply after it (ends_one effect) =
@@ -255,6 +289,17 @@ call_ccbs setup before event reply after it (ends_one effect) =
     ∙ (ap (finished_by_run it.request.arguments.first) it.it.found ∙ ap (λ (n : ℕ). one_ended n it.request.arguments.first) (sym named)) in (
       ccb_leaves old.ccb.number.0 it.request.arguments.first old (ccb_found _ before.transport.live old effect.its.found) (its_ccb before event _ it.it effect.its) live_is greatest_is one,
       ap (λ (x : Reply × World). x.1.ended) it.answer ∙ (effect.ended_is ∙ sym (ap (λ (l : List EndedCcb). before.ended ++ l) one)),
+    )
+call_ccbs setup before event reply after it (advises_one effect) =
+    let old : LiveCcb = effect.its.live in
+    let new : LiveCcb = record old { ccb = advised old.ccb it.request.arguments.first } in
+    let live_is : after.transport.live ≡ with_ccb new before.transport.live = ap (λ (x : Reply × World). x.1.transport.live) it.answer ∙ effect.live_is in
+    let greatest_is : after.transport.greatest_ccb ≡ before.transport.greatest_ccb = ap (λ (x : Reply × World). x.1.transport.greatest_ccb) it.answer ∙ effect.greatest_is in
+    let ended_is : after.ended ≡ before.ended = ap (λ (x : Reply × World). x.1.ended) it.answer ∙ effect.ended_is in
+    let none : finished_by before event reply ≡ [] = finished_by_call setup before event reply after (plain it.request.helper) it effect.told_is in
+    let classed : has_classes setup ≡ true = call_advises setup before event reply after it effect.helper_is in (
+      ccb_changes old new (λ unclassed_one plain_one. absurd (let bad : true ≡ false = sym classed ∙ unclassed_one in cc)) (ccb_found _ before.transport.live old effect.its.found) refl (inr (inl refl)) (its_ccb before event _ it.it effect.its) live_is greatest_is none,
+      none_ended before after event reply none ended_is,
     )
 
 -- what the run holds goes or changes hands by its own step
@@ -338,7 +383,7 @@ effect_of setup before event reply after kept (refuses it) =
 effect_of setup before event reply after kept (submits it) =
     let none : finished_by before event reply ≡ [] = ap (λ (x : Event). finished_by before x reply) it.event_is in
     record {
-      ccbs = ccb_enters it.queue it.priority it.retries it.known it.room (ap (λ (w : World). w.transport.live) it.after_is) (ap (λ (w : World). w.transport.greatest_ccb) it.after_is) none;
+      ccbs = ccb_enters it.queue it.priority it.retries (class_in it.class) (unclassed (has_classes setup) it.class it.fits) it.known it.room (ap (λ (w : World). w.transport.live) it.after_is) (ap (λ (w : World). w.transport.greatest_ccb) it.after_is) none;
       ended = none_ended before after event reply none (ap (λ (w : World). w.ended) it.after_is);
       freezes = freezes_stay (ap (λ (w : World). w.transport.freezes) it.after_is) (ap (λ (w : World). w.transport.greatest_freeze) it.after_is);
       runs = runs_stay (ap (λ (w : World). w.runs.list) it.after_is) (ap (λ (w : World). w.runs.greatest) it.after_is) (ap tells_start it.reply_is);
@@ -350,12 +395,12 @@ effect_of setup before event reply after kept (dispatches it) =
     let none : finished_by before event reply ≡ [] = ap (λ (x : Event). finished_by before x reply) it.event_is in
     let next = next_found it.queue.0 before.transport.live before.transport.greatest_ccb it.next kept.ccbs.rising it.next_is in
     record {
-      ccbs = ccb_changes it.next (record { ccb = started it.next.ccb; state = Active }) next.found refl
-          (inr (subst (λ (q : ℕ). active_count q before.transport.live < slice_index before.transport.openings q) (sym next.queue_is) it.opening))
+      ccbs = ccb_changes it.next (record { ccb = started it.next.ccb; state = Active }) (λ unclassed_one plain_one. (plain_one.0, refl)) next.found refl
+          (inr (inr (subst (λ (q : ℕ). active_count q before.transport.live < slice_index before.transport.openings q) (sym next.queue_is) it.opening)))
           (inl (idle_waits it.next.state next.waits)) (ap (λ (w : World). w.transport.live) it.after_is) (ap (λ (w : World). w.transport.greatest_ccb) it.after_is) none;
       ended = none_ended before after event reply none (ap (λ (w : World). w.ended) it.after_is);
       freezes = freezes_stay (ap (λ (w : World). w.transport.freezes) it.after_is) (ap (λ (w : World). w.transport.greatest_freeze) it.after_is);
-      runs = runs_stay (ap (λ (w : World). w.runs.list) it.after_is) (ap (λ (w : World). w.runs.greatest) it.after_is) (ap tells_start it.reply_is);
+      runs = runs_stay (ap (λ (w : World). w.runs.list) it.after_is) (ap (λ (w : World). w.runs.greatest) it.after_is) (ap tells_start it.reply_is ∙ start_tells_none (version_of setup) (record { ccb = it.next.ccb.number; advice = it.next.ccb.advice }));
       answers = answers_stay before after (ap (λ (w : World). w.transport.openings) it.after_is) (ap (λ (w : World). w.runs.tables) it.after_is) (ap (λ (w : World). w.transport.clock) it.after_is);
       taken = λ run given idle. λ i. taken_by run (it.event_is i) (it.reply_is i);
       acts = idle_acts before event (λ run. ap (instruction_of run) it.event_is);
@@ -374,6 +419,20 @@ effect_of setup before event reply after kept (finishes_one it) =
       taken = λ run given idle. λ i. taken_by run (it.event_is i) (it.reply_is i);
       acts = idle_acts before event (λ run. ap (instruction_of run) it.event_is);
     }
+effect_of setup before event reply after kept (withdraws_one it) =
+    let named : it.live.ccb.number.0 ≡ it.ccb.0 = found_key ccb_key it.ccb.0 before.transport.live it.live it.found in
+    let by : finished_by before event reply ≡ one_ended it.ccb.0 (code_of RequestAborted) =
+    ap (λ (x : Event). finished_by before x reply) it.event_is ∙ ap (finished_by before (called (Withdraw it.ccb))) it.reply_is in
+    let one : finished_by before event reply ≡ one_ended it.live.ccb.number.0 (code_of RequestAborted) = by ∙ ap (λ (n : ℕ). one_ended n (code_of RequestAborted)) (sym named) in
+    record {
+      ccbs = ccb_leaves it.live.ccb.number.0 (code_of RequestAborted) it.live (ccb_found _ before.transport.live it.live it.found) (inl (idle_waits it.live.state it.waits)) (ap (λ (w : World). w.transport.live) it.after_is) (ap (λ (w : World). w.transport.greatest_ccb) it.after_is) one;
+      ended = ap (λ (w : World). w.ended) it.after_is ∙ sym (ap (λ (l : List EndedCcb). before.ended ++ l) one);
+      freezes = freezes_stay (ap (λ (w : World). w.transport.freezes) it.after_is) (ap (λ (w : World). w.transport.greatest_freeze) it.after_is);
+      runs = runs_stay (ap (λ (w : World). w.runs.list) it.after_is) (ap (λ (w : World). w.runs.greatest) it.after_is) (ap tells_start it.reply_is);
+      answers = answers_stay before after (ap (λ (w : World). w.transport.openings) it.after_is) (ap (λ (w : World). w.runs.tables) it.after_is) (ap (λ (w : World). w.transport.clock) it.after_is);
+      taken = λ run given idle. λ i. taken_by run (it.event_is i) (it.reply_is i);
+      acts = idle_acts before event (λ run. ap (instruction_of run) it.event_is);
+    }
 effect_of setup before event reply after kept (recovers_one it) =
     let parts = pair_parts _ _ it.starts_is in
     let begun = begins_frozen setup before event reply after it in
@@ -381,7 +440,7 @@ effect_of setup before event reply after kept (recovers_one it) =
     let none : finished_by before event reply ≡ [] =
     ap (λ (x : Event). finished_by before x reply) it.fails.event_is ∙ ap (finished_by before (called (Complete it.fails.outcome))) parts.0 in
     record {
-      ccbs = ccb_changes it.fails.live (record { ccb = completed it.fails.live.ccb it.fails.outcome true; state = InRecovery })
+      ccbs = ccb_changes it.fails.live (record { ccb = completed it.fails.live.ccb it.fails.outcome true; state = InRecovery }) (λ unclassed_one plain_one. plain_one)
           (ccb_found _ before.transport.live it.fails.live it.fails.found) refl (inl refl) (inl (idle_works it.fails.live.state it.fails.is_active))
           (ap (λ (w : World). w.transport.live) parts.1) (ap (λ (w : World). w.transport.greatest_ccb) parts.1) none;
       ended = none_ended before after event reply none (ap (λ (w : World). w.ended) parts.1);
@@ -398,7 +457,7 @@ effect_of setup before event reply after kept (recovers_unfrozen it) =
     let none : finished_by before event reply ≡ [] =
     ap (λ (x : Event). finished_by before x reply) it.fails.event_is ∙ ap (finished_by before (called (Complete it.fails.outcome))) parts.0 in
     record {
-      ccbs = ccb_changes it.fails.live (record { ccb = completed it.fails.live.ccb it.fails.outcome false; state = InRecovery })
+      ccbs = ccb_changes it.fails.live (record { ccb = completed it.fails.live.ccb it.fails.outcome false; state = InRecovery }) (λ unclassed_one plain_one. plain_one)
           (ccb_found _ before.transport.live it.fails.live it.fails.found) refl (inl refl) (inl (idle_works it.fails.live.state it.fails.is_active))
           (ap (λ (w : World). w.transport.live) parts.1) (ap (λ (w : World). w.transport.greatest_ccb) parts.1) none;
       ended = none_ended before after event reply none (ap (λ (w : World). w.ended) parts.1);

@@ -18,9 +18,10 @@ use Rattle.bpf_semantics.specs.Calls.{is_held}
 use Rattle.bpf_semantics.specs.Step.{request_at, exit_at, IsAnswer, held_without, answered, changed_by, after_call}
 use Rattle.bpf_semantics.specs.Reached.{Steps}
 use Rattle.world.specs.FreezeSteps.{frozen_with}
-use Rattle.ccb.specs.Places.{is_place, device}
-use Rattle.world.specs.World.{Setup, queue_count, LiveRun, World}
-use Rattle.world.specs.Lookups.{run_of, with_run}
+use Rattle.ccb.specs.Ccb.{advised}
+use Rattle.ccb.specs.Places.{is_place}
+use Rattle.world.specs.World.{Setup, queue_count, LiveCcb, LiveRun, World}
+use Rattle.world.specs.Lookups.{ccb_of, run_of, with_run}
 use Rattle.world.specs.Told.{told_of}
 use Rattle.world.specs.Event.{Instruction, private, call, exit, Event, instruction_of, Reply}
 use Rattle.world.specs.RunSteps.{is_run}
@@ -35,10 +36,10 @@ use Rattle.world.proofs.Lists.Entries.{freeze_key, frozen_without, entry_bounds,
 use Rattle.world.proofs.Lists.HeldBy.{entries_put, none_above}
 use Rattle.world_laws.proofs.Kept.{room_from}
 use Rattle.world_laws.proofs.Steps.Running.{Executes}
-use Rattle.world_laws.proofs.Steps.Does.{AnswersFrom, FreezeDeed, leaves_freezes, takes_one, gives_one_back, hands_one_over, CcbDeed, leaves_ccbs, requeues_one, ends_one, takes_by, disposes_by}
+use Rattle.world_laws.proofs.Steps.Does.{AnswersFrom, FreezeDeed, leaves_freezes, takes_one, gives_one_back, hands_one_over, CcbDeed, leaves_ccbs, requeues_one, ends_one, advises_one, takes_by, disposes_by}
 use Rattle.world_laws.proofs.Steps.Calls.{Asks}
-use Rattle.world_laws.proofs.Steps.Cases.{Case, refuses, submits, dispatches, finishes_one, recovers_one, recovers_unfrozen, freezes_one, releases_one, reads_clock, Turns, turns_one, goes_on_one, asks_one, exits}
-use Rattle.world.proofs.Steps.Moves.{run_key, Begins}
+use Rattle.world_laws.proofs.Steps.Cases.{Case, refuses, submits, dispatches, finishes_one, withdraws_one, recovers_one, recovers_unfrozen, freezes_one, releases_one, reads_clock, Turns, turns_one, goes_on_one, asks_one, exits}
+use Rattle.world.proofs.Steps.Moves.{ccb_key, ccb_found, run_key, Begins}
 use Rattle.world_laws.proofs.Steps.Effects.{its_instruction, not_others, call_runs, call_takes}
 use Rattle.world_laws.proofs.Steps.Private.{private_keeps}
 
@@ -57,9 +58,13 @@ pub data Holding (before : World) (event : Event) (reply : Reply) (after : World
   holds_one_more : (freeze : Freeze) → freeze.number ≡ before.transport.greatest_freeze + 1 → is_run number freeze.holder ≡ true → machine.held ≡ run.machine.held ++ freeze.number ∷ [] → after.transport.freezes ≡ before.transport.freezes ++ freeze ∷ [] → after.transport.greatest_freeze ≡ before.transport.greatest_freeze + 1 → given_up (Some instruction) (request_at run.program run.machine) ≡ [] → taken_by number event reply ≡ freeze.number ∷ [] → Holding before event reply after number run instruction machine
   holds_one_fewer : (wanted : ℕ) (freeze : Freeze) → entry_of wanted before.transport.freezes ≡ Some freeze → is_run number freeze.holder ≡ true → machine.held ≡ held_without run.machine.held wanted → entries_of number after.transport.freezes ≡ entries_of number (without wanted before.transport.freezes) → given_up (Some instruction) (request_at run.program run.machine) ≡ wanted ∷ [] → taken_by number event reply ≡ [] → Holding before event reply after number run instruction machine
 
--- And to its CCB: nothing, or the run disposes of it.
+-- its CCB is live as before, in the same state
+pub record StaysInState (before after : World) (run : LiveRun) : Type 0 where
+  pub stays : (live : LiveCcb) → ccb_of run.ccb before.transport.live ≡ Some live → (now : LiveCcb) × (ccb_of run.ccb after.transport.live ≡ Some now) × (now.state ≡ live.state)
+
+-- And to its CCB: it stays in its state, whatever is advised for it, or the run disposes of it.
 pub data Disposing (before after : World) (run : LiveRun) (instruction : Instruction) (machine : MachineState) : Type 0 where
-  leaves_its_ccb : machine.disposed ≡ run.machine.disposed → after.transport.live ≡ before.transport.live → is_disposal (Some instruction) ≡ false → Disposing before after run instruction machine
+  leaves_its_ccb : machine.disposed ≡ run.machine.disposed → StaysInState before after run → is_disposal (Some instruction) ≡ false → Disposing before after run instruction machine
   disposes_of_it : run.machine.disposed ≡ false → machine.disposed ≡ true → is_disposal (Some instruction) ≡ true → Disposing before after run instruction machine
 
 pub data Fate (before : World) (event : Event) (reply : Reply) (after : World) (number : ℕ) (run : LiveRun) : Type 0 where
@@ -196,20 +201,37 @@ call_holding setup before event reply after kept it = by_effect
         (takes (Number 0 0) it.given effect.gives_is refl)
 
 -- and what becomes of its CCB
+same_live : (before after : World) (run : LiveRun) → after.transport.live ≡ before.transport.live → StaysInState before after run
+same_live before after run live_is = record { stays = λ live found. (live, ap (ccb_of run.ccb) live_is ∙ found, refl) }
+
 disposed_by : (setup : Setup) (before : World) (event : Event) (reply : Reply) (after : World) → (it : Asks setup before event reply after) → (row_of it.request.helper).machine ≡ changes.Disposes → (answered it.request it.given it.it.run.machine).disposed ≡ true
 disposed_by setup before event reply after it is =
     ap (λ (c : Change). (changed_by c it.request.arguments it.given (after_call it.it.run.machine it.given.r0)).disposed) is
 
 call_disposing : (setup : Setup) (before : World) (event : Event) (reply : Reply) (after : World) → (it : Asks setup before event reply after) → CcbDeed before it.it.run it.request it.given it.between → Disposing before after it.it.run (call (told_of it.request)) (answered it.request it.given it.it.run.machine)
-call_disposing setup before event reply after it (leaves_ccbs effect) = leaves_its_ccb effect.disposed (ap (λ (x : Reply × World). x.1.transport.live) it.answer ∙ effect.live_is) effect.calm
+call_disposing setup before event reply after it (leaves_ccbs effect) = leaves_its_ccb effect.disposed (same_live before after it.it.run (ap (λ (x : Reply × World). x.1.transport.live) it.answer ∙ effect.live_is)) effect.calm
 call_disposing setup before event reply after it (requeues_one effect) = disposes_of_it effect.its.fresh (disposed_by setup before event reply after it effect.machine_is) (disposes_by changes.Disposes it.request effect.machine_is)
 call_disposing setup before event reply after it (ends_one effect) = disposes_of_it effect.its.fresh (disposed_by setup before event reply after it effect.machine_is) (disposes_by changes.Disposes it.request effect.machine_is)
+call_disposing setup before event reply after it (advises_one effect) =
+    let old : LiveCcb = effect.its.live in
+    let new : LiveCcb = record old { ccb = advised old.ccb it.request.arguments.first } in
+    let named : old.ccb.number.0 ≡ it.it.run.ccb = found_key ccb_key it.it.run.ccb before.transport.live old effect.its.found in
+    let there : ccb_of old.ccb.number.0 after.transport.live ≡ Some new =
+    ap (λ (x : Reply × World). ccb_of old.ccb.number.0 x.1.transport.live) it.answer
+    ∙ (ap (ccb_of old.ccb.number.0) effect.live_is ∙ put_same ccb_key new before.transport.live old (ccb_found it.it.run.ccb before.transport.live old effect.its.found)) in
+    leaves_its_ccb effect.disposed (record {
+      stays = λ live found.
+          let both : Some old ≡ Some live = sym effect.its.found ∙ found in
+          let same : old ≡ live = cc in
+          (new, subst (λ (n : ℕ). ccb_of n after.transport.live ≡ Some new) named there, ap (λ (c : LiveCcb). c.state) same);
+    }) effect.calm
 
 pub fate_of : (setup : Setup) (before : World) (event : Event) (reply : Reply) (after : World) (number : ℕ) (run : LiveRun) → IsLawful setup → KeepsLimits setup before → HoldsWhatEntriesSay before → run_of number before.runs.list ≡ Some run → Case setup before event reply after → Fate before event reply after number run
 fate_of setup before event reply after number run lawful kept held found (refuses it) = unchanged before event reply after number run found (it.idle number) (ap (λ (w : World). w.runs.list) it.after_is)
 fate_of setup before event reply after number run lawful kept held found (submits it) = unchanged before event reply after number run found (ap (instruction_of number) it.event_is) (ap (λ (w : World). w.runs.list) it.after_is)
 fate_of setup before event reply after number run lawful kept held found (dispatches it) = unchanged before event reply after number run found (ap (instruction_of number) it.event_is) (ap (λ (w : World). w.runs.list) it.after_is)
 fate_of setup before event reply after number run lawful kept held found (finishes_one it) = unchanged before event reply after number run found (ap (instruction_of number) it.event_is) (ap (λ (w : World). w.runs.list) it.after_is)
+fate_of setup before event reply after number run lawful kept held found (withdraws_one it) = unchanged before event reply after number run found (ap (instruction_of number) it.event_is) (ap (λ (w : World). w.runs.list) it.after_is)
 fate_of setup before event reply after number run lawful kept held found (recovers_one it) =
     stands run.out (ap (instruction_of number) it.fails.event_is) (ap (λ (x : Reply × World). run_of number x.1.runs.list) it.starts_is ∙ found_push run_key number before.runs.list _ run found)
 fate_of setup before event reply after number run lawful kept held found (recovers_unfrozen it) =
@@ -222,7 +244,7 @@ fate_of setup before event reply after number run lawful kept held found (goes_o
     let same = private_keeps it.it.run.program it.it.run.machine it.machine it.step in
     one_goes before event reply after private it.it it.machine (ap (λ (w : World). w.runs.list) it.after_is) refl (inl it.step)
     (holds_the_same same.held (ap (λ (w : World). w.transport.freezes) it.after_is) refl (λ i. taken_by it.it.number (it.it.event_is i) (it.reply_is i)))
-    (leaves_its_ccb same.disposed (ap (λ (w : World). w.transport.live) it.after_is) refl)
+    (leaves_its_ccb same.disposed (same_live before after it.it.run (ap (λ (w : World). w.transport.live) it.after_is)) refl)
     number run found
 fate_of setup before event reply after number run lawful kept held found (asks_one it) =
     let named : it.it.run.number ≡ it.it.number = found_key run_key it.it.number before.runs.list it.it.run it.it.found in

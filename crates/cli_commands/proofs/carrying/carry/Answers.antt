@@ -2,6 +2,7 @@ use Rattle.std.proofs.Common.{◌≡◌, ◌∙◌, ℕ, List, [], ◌∷◌, �
 use Rattle.std.specs.Prelude.{IsUtf8, codes, slice_get}
 use Rattle.std.specs.Global.{Global}
 use Rattle.world_calls.specs.declared.trace.Trace.{Trace}
+use Rattle.world_calls.specs.declared.trace.Version.{Version}
 use Rattle.cli_line.specs.Files.{input_paths}
 use Rattle.cli_line.specs.declared.plans.Plan.{Plan}
 use Rattle.manifest.specs.Migration.{IsMigrated}
@@ -88,17 +89,20 @@ returns-in-Replay-clause-output g c = λ is.
 pub returns-in-Migrate-clause-done : goal.returns-in-Migrate-clause-done
 returns-in-Migrate-clause-done g c = λ is.
     subst (λ (plan : Plan). (input : Vec ℕ Global) → slice_get c.args.inputs.now 0 ≡ Some input → IsAsAsked plan input.items) (sym c.in-Migrate.is)
-    (of_first (λ (bytes : List ℕ). IsMigratable bytes) c.args.inputs.now c.index-inputs-0-in-Migrate.is c.as_slice-in-Migrate.ensures.value (c.print_migrated.ensures.done is))
+    (subst (λ (version : Version). (input : Vec ℕ Global) → slice_get c.args.inputs.now 0 ≡ Some input → IsMigratable version input.items) c.version_named.ensures
+    (of_first (λ (bytes : List ℕ). IsMigratable c.version_named.result bytes) c.args.inputs.now c.index-inputs-0-in-Migrate.is c.as_slice-in-Migrate.ensures.value (c.print_migrated.ensures.done is)))
 
 pub returns-in-Migrate-clause-refused : goal.returns-in-Migrate-clause-refused
 returns-in-Migrate-clause-refused g c = λ is.
     subst (λ (plan : Plan). (input : Vec ℕ Global) → slice_get c.args.inputs.now 0 ≡ Some input → IsFaulty plan input.items) (sym c.in-Migrate.is)
-    (of_first (λ (bytes : List ℕ). IsFaultyMigration bytes) c.args.inputs.now c.index-inputs-0-in-Migrate.is c.as_slice-in-Migrate.ensures.value (c.print_migrated.ensures.refused is))
+    (subst (λ (version : Version). (input : Vec ℕ Global) → slice_get c.args.inputs.now 0 ≡ Some input → IsFaultyMigration version input.items) c.version_named.ensures
+    (of_first (λ (bytes : List ℕ). IsFaultyMigration c.version_named.result bytes) c.args.inputs.now c.index-inputs-0-in-Migrate.is c.as_slice-in-Migrate.ensures.value (c.print_migrated.ensures.refused is)))
 
 pub returns-in-Migrate-clause-output : goal.returns-in-Migrate-clause-output
 returns-in-Migrate-clause-output g c = λ is.
     subst (λ (plan : Plan). (input : Vec ℕ Global) → slice_get c.args.inputs.now 0 ≡ Some input → IsOutput plan input.items (g.W.Write.contents c.args.out.now) (g.W.Write.contents c.print_migrated.new.out)) (sym c.in-Migrate.is)
-    (of_first (λ (bytes : List ℕ). PutsOut (IsMigrated bytes) (g.W.Write.contents c.args.out.now) (g.W.Write.contents c.print_migrated.new.out)) c.args.inputs.now c.index-inputs-0-in-Migrate.is c.as_slice-in-Migrate.ensures.value (c.print_migrated.ensures.output is))
+    (subst (λ (version : Version). (input : Vec ℕ Global) → slice_get c.args.inputs.now 0 ≡ Some input → PutsOut (IsMigrated version input.items) (g.W.Write.contents c.args.out.now) (g.W.Write.contents c.print_migrated.new.out)) c.version_named.ensures
+    (of_first (λ (bytes : List ℕ). PutsOut (IsMigrated c.version_named.result bytes) (g.W.Write.contents c.args.out.now) (g.W.Write.contents c.print_migrated.new.out)) c.args.inputs.now c.index-inputs-0-in-Migrate.is c.as_slice-in-Migrate.ensures.value (c.print_migrated.ensures.output is)))
 
 pub returns-in-Run-clause-no_text : goal.returns-in-Run-clause-no_text
 returns-in-Run-clause-no_text g c = λ reads input there not_text.
@@ -111,7 +115,7 @@ returns-in-Run-clause-no_text g c = λ reads input there not_text.
 pub returns-in-Run-clause-accepted : goal.returns-in-Run-clause-accepted
 returns-in-Run-clause-accepted g c = λ is first second one other.
     subst (λ (plan : Plan). IsAccepted plan first.items second.items) (sym c.in-Run.is)
-    (of_both (λ (_ scenario : List ℕ). IsScenario scenario) c.args.inputs.now c.index-inputs-0-in-Run.is c.index-inputs-1.is c.as_slice-in-Run.ensures.value c.as_slice-in-Run-2.ensures.value
+    (of_both IsScenario c.args.inputs.now c.index-inputs-0-in-Run.is c.index-inputs-1.is c.as_slice-in-Run.ensures.value c.as_slice-in-Run-2.ensures.value
     (c.print_run.ensures.accepted is) first second one other)
 
 pub returns-in-Run-clause-out : goal.returns-in-Run-clause-out
@@ -169,7 +173,7 @@ returns-in-Strict-clause-no_text g c = λ reads input there not_text.
 pub returns-in-Strict-clause-accepted : goal.returns-in-Strict-clause-accepted
 returns-in-Strict-clause-accepted g c = λ is first second one other.
     subst (λ (plan : Plan). IsAccepted plan first.items second.items) (sym c.in-Strict.is)
-    (of_both (λ (_ scenario : List ℕ). IsScenario scenario) c.args.inputs.now c.index-inputs-0-in-Strict.is c.index-inputs-1-in-Strict.is c.as_slice-in-Strict.ensures.value c.as_slice-in-Strict-2.ensures.value
+    (of_both IsScenario c.args.inputs.now c.index-inputs-0-in-Strict.is c.index-inputs-1-in-Strict.is c.as_slice-in-Strict.ensures.value c.as_slice-in-Strict-2.ensures.value
     (c.print_strict.ensures.accepted is) first second one other)
 
 pub returns-in-Strict-clause-out : goal.returns-in-Strict-clause-out

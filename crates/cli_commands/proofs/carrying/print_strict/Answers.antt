@@ -9,7 +9,7 @@ returns-in-Ok-clause-failed g c = λ is.
     inr (c.in-Ok.trace, c.in-Ok.steps, c.in-Ok.ensures.trace, c.in-Ok.ensures.said, c.in-Ok.ensures.asked, c.print_counted.ensures.written (λ two. omega (arith, is, two)), c.print_counted.ensures.told is)
 
 pub returns-in-Ok-clause-accepted : goal.returns-in-Ok-clause-accepted
-returns-in-Ok-clause-accepted g c = λ is. (c.in-Ok.steps, c.in-Ok.ensures.said)
+returns-in-Ok-clause-accepted g c = λ is. c.in-Ok.ensures.accepted
 
 pub returns-in-Ok-clause-out : goal.returns-in-Ok-clause-out
 returns-in-Ok-clause-out g c = λ is.

@@ -17,6 +17,9 @@ returns-in_err-sense c = no_failure (rows_of (found_of c.args.decide.now)) c.fro
 pub returns-in_err-retries : goal.returns-in_err-retries
 returns-in_err-retries c = no_failure (rows_of (found_of c.args.decide.now)) c.from_residual-in_err-retries.result c.from_residual-in_err-retries.ensures (λ failure has. c.in_err-retries.ensures failure.retries has.retries)
 
+pub returns-in_err-class : goal.returns-in_err-class
+returns-in_err-class c = no_failure (rows_of (found_of c.args.decide.now)) c.from_residual-in_err-class.result c.from_residual-in_err-class.ensures (λ failure has. c.in_err-class.ensures failure.class has.class)
+
 pub returns-in_err-attempts : goal.returns-in_err-attempts
 returns-in_err-attempts c = no_failure (rows_of (found_of c.args.decide.now)) c.from_residual-in_err-attempts.result c.from_residual-in_err-attempts.ensures (λ failure has. c.in_err-attempts.ensures failure.attempts has.attempts)
 

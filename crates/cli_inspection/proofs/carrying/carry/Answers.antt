@@ -3,10 +3,12 @@ use Rattle.std.specs.Prelude.{Contains, IsUtf8}
 use Rattle.std.specs.Global.{Global}
 use Rattle.cli_commands.specs.Told.{IsFaultyManifest, IsManifest, IsManifestFault}
 use Rattle.cli_commands.proofs.Telling.{first_is}
-use Rattle.cli_inspect_line.specs.Files.{input_paths}
+use Rattle.cli_inspect_line.specs.Files.{input_paths, kept_path}
 use Rattle.cli_inspect_line.specs.declared.plans.Plan.{Plan}
-use Rattle.cli_inspection.specs.Shown.{AreReported, IsAccepted, IsAsAsked, IsDecided, IsFaulty, IsOutput, IsPlanDecided, IsRejected, IsReported, PutsFault, explains}
+use Rattle.cli_inspection.specs.Shown.{AreReported, IsAccepted, IsAsAsked, IsDecided, IsFaulty, IsOutput, IsPlanDecided, IsPlanTried, IsRejected, IsReported, PutsFault, explains, may_put}
+use Rattle.cli_inspection.specs.Trials.{IsTriedOut}
 use Rattle.cli_inspection.proofs.Explained.{is_faulty}
+use Rattle.cli_inspection.proofs.TriedOut.{is_manifest}
 use Rattle.cli_inspection.proofs.Inputs.{none_there, only_one}
 use Rattle.cli_inspection.proofs.carrying.carry.Goals as goal
 
@@ -98,17 +100,17 @@ returns-in-Draw-clause-rejected g c = λ is first second one other.
 
 pub returns-in-ExplainCode-clause-nothing : goal.returns-in-ExplainCode-clause-nothing
 returns-in-ExplainCode-clause-nothing g c = λ is other.
-    let bad : true ≡ false = sym (ap explains c.in-ExplainCode.is) ∙ other in
+    let bad : true ≡ false = sym (ap may_put c.in-ExplainCode.is) ∙ other in
     absurd cc
 
 pub returns-in-Explain-clause-nothing : goal.returns-in-Explain-clause-nothing
 returns-in-Explain-clause-nothing g c = λ is other.
-    let bad : true ≡ false = sym (ap explains c.in-Explain.is) ∙ other in
+    let bad : true ≡ false = sym (ap may_put c.in-Explain.is) ∙ other in
     absurd cc
 
 pub returns-in-ExplainFile-clause-nothing : goal.returns-in-ExplainFile-clause-nothing
 returns-in-ExplainFile-clause-nothing g c = λ is other.
-    let bad : true ≡ false = sym (ap explains c.in-ExplainFile.is) ∙ other in
+    let bad : true ≡ false = sym (ap may_put c.in-ExplainFile.is) ∙ other in
     absurd cc
 
 pub returns-in-Show-clause-explained : goal.returns-in-Show-clause-explained
@@ -158,3 +160,26 @@ returns-in-Decide-clause-decided g c = λ is input there.
     let same : c.as_slice-in-Decide.result.now ≡ input.items = c.as_slice-in-Decide.ensures.value ∙ ap (λ (bytes : Vec ℕ Global). bytes.items) read in
     subst (λ (plan : Plan). IsPlanDecided plan input.items old new) (sym c.in-Decide.is)
     (subst (λ (bytes : List ℕ). IsDecided c.in-Decide.extent c.in-Decide.question bytes old new) same (c.print_decided.ensures.decided is))
+
+pub returns-in-Try-clause-done : goal.returns-in-Try-clause-done
+returns-in-Try-clause-done g c = λ is input there.
+    subst (λ (plan : Plan). IsAsAsked plan input.items) (sym c.in-Try.is) (is_manifest _ input.items _ _ _ _ (c.print_tried.ensures.done is input there))
+
+pub returns-in-Try-clause-tried : goal.returns-in-Try-clause-tried
+returns-in-Try-clause-tried g c = λ is input there.
+    let old = g.W.Write.contents c.args.out.now in
+    let new = g.W.Write.contents c.print_tried.new.out in
+    let kept-old = g.K.Write.contents c.args.kept.now in
+    let kept-new = g.K.Write.contents c.print_tried.new.kept in
+    subst (λ (plan : Plan). IsPlanTried plan input.items old new kept-old kept-new) (sym c.in-Try.is)
+    (subst (λ (plan : Plan). IsTriedOut (kept_path plan) input.items old new kept-old kept-new) c.in-Try.is (c.print_tried.ensures.done is input there))
+
+pub returns-in-Try-clause-nothing : goal.returns-in-Try-clause-nothing
+returns-in-Try-clause-nothing g c = λ is other.
+    let bad : true ≡ false = sym (ap may_put c.in-Try.is) ∙ other in
+    absurd cc
+
+pub returns-in-Try-clause-explained : goal.returns-in-Try-clause-explained
+returns-in-Try-clause-explained g c = λ is other.
+    let bad : false ≡ true = sym (ap explains c.in-Try.is) ∙ other in
+    absurd cc

@@ -6,12 +6,16 @@ use Rattle.engine_carried.proofs.Adding.{parts_left}
 use Rattle.engine_carried.proofs.Free.{fits_both, left_begins}
 use Rattle.engine_carried.proofs.fitting.fits_numbered.Goals as goal
 
-pub are_others_free-requires : goal.are_others_free-requires
-are_others_free-requires c =
+pub leaves_what_fits-requires-clause-openings : goal.leaves_what_fits-requires-clause-openings
+leaves_what_fits-requires-clause-openings c =
     (parts_left (engine_of c.args.engine.now c.transport.ensures.run.0) c.config.result.now c.transport.result.now c.args.engine.now.runs c.transport.ensures.run.1 c.requires c.config.ensures c.transport.ensures.value refl).0.openings
+
+pub leaves_what_fits-requires-clause-ccbs : goal.leaves_what_fits-requires-clause-ccbs
+leaves_what_fits-requires-clause-ccbs c =
+    (parts_left (engine_of c.args.engine.now c.transport.ensures.run.0) c.config.result.now c.transport.result.now c.args.engine.now.runs c.transport.ensures.run.1 c.requires c.config.ensures c.transport.ensures.value refl).0.ccbs
 
 pub returns : goal.returns
 returns c =
     let both = fits_both c.args.engine.now.setup c.args.config.now (world_left c.args.engine.now.transport c.args.engine.now.runs) c.transport.result.now (queue_count c.args.config.now) (queue_count c.config.result.now) c.args.config.now.controllers c.config.result.now.controllers
     (left_begins (engine_of c.args.engine.now c.transport.ensures.run.0) c.transport.ensures.run.1 c.requires) c.transport.ensures.value refl (ap (λ (s : Setup). queue_count s) c.config.ensures) refl (ap (λ (s : Setup). s.controllers) c.config.ensures) in
-    (λ free. both.0 (c.are_others_free.ensures.0 free), λ fits. c.are_others_free.ensures.1 (both.1 fits))
+    (λ free. both.0 (c.leaves_what_fits.ensures.0 free), λ fits. c.leaves_what_fits.ensures.1 (both.1 fits))

@@ -7,10 +7,10 @@ use Rattle.host_decision.proofs.undecided.fault_of.Goals as goal
 
 pub returns-clause-possible : goal.returns-clause-possible
 returns-clause-possible c =
-    possible c.args.config.now c.args.question.now c.faulty_word.result (omega arith) (cc) (omega arith)
+    possible c.args.config.now c.args.question.now c.faulty_word.result (omega arith) (cc) (omega arith) (cc)
     (subst (λ (words : List TableWord). IfNone c.faulty_word.result (AreFaultless c.args.config.now words)) c.deref.ensures.value c.faulty_word.ensures.none)
 
 pub returns-clause-fault : goal.returns-clause-fault
 returns-clause-fault c =
-    first c.args.config.now c.args.question.now c.faulty_word.result (omega arith) (cc) (omega arith)
+    first c.args.config.now c.args.question.now c.faulty_word.result (omega arith) (cc) (omega arith) (cc)
     (subst (λ (words : List TableWord). IfSome c.faulty_word.result (IsFaultAmong c.args.config.now words)) c.deref.ensures.value c.faulty_word.ensures.fault)

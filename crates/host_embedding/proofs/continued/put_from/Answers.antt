@@ -32,7 +32,7 @@ returns-clause-lines c =
                 let none = c.put_rest.ensures.none told in
                 let some : 0 < length c.args.lines.now = (let within = none.2 in omega (arith, within, number)) in
                 absurd (w.finds_room.ensures.room w.if-not-finds_room.false some
-                (finds_moved carried_text c.args.lines.now started.next 0 started.written (length first) later c.args.place.now number count size none.3)),
+                (finds_moved (carried_text c.args.version) c.args.lines.now started.next 0 started.written (length first) later c.args.place.now number count size none.3)),
             search rules,
             search rules,
             (let begun : drop started.written before ≡ drop started.written c.args.place.now = search rules in
@@ -48,13 +48,13 @@ returns-clause-lines c =
             let count : started.written ≡ length (first_line c.args.first.now c.args.from) = search rules in
             let number : started.next ≡ c.args.from = search rules in
             let items : c.args.lines.now ≡ c.args.lines.now = search rules in
-            let moved = finds_moved carried_text c.args.lines.now started.next c.args.from started.written (length (first_line c.args.first.now c.args.from)) later later number count refl none.3 in (
+            let moved = finds_moved (carried_text c.args.version) c.args.lines.now started.next c.args.from started.written (length (first_line c.args.first.now c.args.from)) later later number count refl none.3 in (
               search (rules, none),
               search (rules, none, number),
               same ∙ w.place-is,
               inr (
                 (let within = none.2 in omega (arith, within, number, ap length items)),
-                subst (λ (its : List CarriedLine). FindsNoRoom carried_text its c.args.from later (length (first_line c.args.first.now c.args.from))) items moved,
+                subst (λ (its : List CarriedLine). FindsNoRoom (carried_text c.args.version) its c.args.from later (length (first_line c.args.first.now c.args.from))) items moved,
               ),
             ),
         search rules,

@@ -1,4 +1,4 @@
-use Rattle.std.proofs.Common.{◌∙◌, arith, length, sym}
+use Rattle.std.proofs.Common.{◌∙◌, arith, sym}
 use Rattle.host_embedding.proofs.Standing.{added, skipped, there}
 use Rattle.host_embedding.proofs.outstanding.are_out.Goals as goal
 use Rattle.host_embedding.proofs.outstanding.are_out.Goals.{then-is_out+else-not-is_next, else-is_out}

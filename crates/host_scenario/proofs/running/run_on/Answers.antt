@@ -1,5 +1,7 @@
 use Rattle.std.proofs.Common.{◌≡◌, ◌≢◌, None, length, subst, sym, ◌∙◌}
 use Rattle.world_calls.specs.declared.trace.Trace.{Trace}
+use Rattle.world_calls.specs.declared.trace.Version.{Version}
+use Rattle.world.specs.World.{version_of}
 use Rattle.workers.specs.Recorded.{completions_of}
 use Rattle.host_scenario.specs.Faults.{line_of}
 use Rattle.host_scenario.specs.Served.{completes_of}
@@ -21,13 +23,14 @@ returns-in-Ok-clause-asked g c =
     let told = c.in-Ok.ended.trace.records.items in
     let left = c.in-Ok.ended.left.items in
     when_ok _ _ c.judged.result (λ (trace : Trace) so.
-    subst (λ (t : Trace). IsOfScenario c.args.scenario.now t.records.items) (sym so.0.0.0)
-    (of_scenario c.args.scenario.now host.caller told (length host.seats.items) host.put.account.put left c.in-Ok.ensures.made
+    subst (λ (t : Trace). IsOfScenario t.version c.args.scenario.now t.records.items) (sym so.0.0.0)
+    (subst (λ (version : Version). IsOfScenario version c.args.scenario.now told) (sym c.in-Ok.ensures.trace.version_is)
+    (of_scenario (version_of g.B.Origin.setup) c.args.scenario.now host.caller told (length host.seats.items) host.put.account.put left c.in-Ok.ensures.made
     (on_success _ outcome so.0.0.1 c.carry_out_all-carried_out.ensures.asked)
     (so.0.1.0 ∙ of_success _ _ (counts.calls ≡ length host.caller.mine) outcome so.0.0.1 (λ done same. same) c.carry_out_all-carried_out.ensures.calls)
     (c.in-Ok.ensures.taken (on_success _ outcome so.0.0.1 c.carry_out_all-carried_out.ensures.kept))
     (so.0.1.1 ∙ of_success _ _ (counts.completions ≡ length host.put.account.put) outcome so.0.0.1 (λ done same. same) c.carry_out_all-carried_out.ensures.completions)
-    (on_success _ outcome so.0.0.1 c.carry_out_all-carried_out.ensures.put) so.0.0.2 so.1))
+    (on_success _ outcome so.0.0.1 c.carry_out_all-carried_out.ensures.put) so.0.0.2 so.1)))
     (both_ok _ _ c.judged.result (both_ok _ _ c.judged.result c.judged.ensures.whole c.judged.ensures.counted) c.judged.ensures.turns)
 
 pub returns-in-Ok-clause-in_order : goal.returns-in-Ok-clause-in_order

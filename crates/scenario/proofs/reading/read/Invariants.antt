@@ -7,7 +7,7 @@ use Rattle.scenario.proofs.reading.read.Given as goal
 
 abbrev pub invariant-loop-line : goal.invariant-loop-line
 invariant-loop-line l = record {
-  so_far : AreSaidSoFar l.fn.text l.calls.items l.rest l.number;
+  so_far : AreSaidSoFar l.fn.version l.fn.text l.calls.items l.rest l.number;
   fits : l.number + length l.rest ≤ length l.fn.text + 1;
   text : shadow (Utf8 l.rest);
 }

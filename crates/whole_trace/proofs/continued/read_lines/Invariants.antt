@@ -10,7 +10,7 @@ use Rattle.whole_trace.proofs.continued.read_lines.Given as goal
 abbrev pub invariant-loop-line : goal.invariant-loop-line
 invariant-loop-line l = record {
   taken : HasTaken l.lines.items l.order;
-  front : option_append (carried_texts l.lines.items) (Some l.rest) ≡ Some l.text;
+  front : option_append (carried_texts l.fn.version l.lines.items) (Some l.rest) ≡ Some l.text;
   place : l.number ≡ length l.lines.items + 2;
   fits : length l.lines.items + length l.rest ≤ length l.text;
   text : shadow (Utf8 l.rest);

@@ -20,4 +20,4 @@ returns-clause-front c =
     subst (λ (lines : List CarriedLine). front_text c.args.version lines ≡ Some c.loop-line.bytes.items) (take_all c.loop-line.line-index c.args.lines.now (omega (arith, c.loop-line-test.false))) c.loop-line.invariant
 
 pub returns-in-Err-clause-refused : goal.returns-in-Err-clause-refused
-returns-in-Err-clause-refused c = untold_among c.args.lines.now c.loop-line.line-index _ c.in-Err.fault c.loop-line-test.true (take_more c.args.lines.now c.loop-line.line-index _ c.loop-line-test.true) c.in-Err.ensures.refused
+returns-in-Err-clause-refused c = untold_among c.args.version c.args.lines.now c.loop-line.line-index _ c.in-Err.fault c.loop-line-test.true (take_more c.args.lines.now c.loop-line.line-index _ c.loop-line-test.true) c.in-Err.ensures.refused

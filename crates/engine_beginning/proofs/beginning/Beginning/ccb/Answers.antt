@@ -1,4 +1,4 @@
-use Rattle.std.proofs.Common.{subst, sym, arith}
+use Rattle.std.proofs.Common.{subst, sym, ◌∙◌, arith}
 use Rattle.world.specs.World.{Transport}
 use Rattle.engine_beginning.specs.Begun.{KeepsBegun, begun_as}
 use Rattle.engine_beginning.proofs.Keeping.{ccb_kept}
@@ -11,4 +11,5 @@ invariant_of-self-in-Ok c =
       (omega (arith, c.if-self-queues.false, c.queues.ensures.value), omega (arith, c.if-self-gt-CCB.false)),
       (omega (arith, c.if-ccb-greatest_ccb.false, c.greatest_ccb.ensures), c.if-ccb-self.false),
       sym c.in-Ok.ensures.fault,
+      sym c.has_fit_words.ensures ∙ c.if-not-has_fit_words.false,
     ))

@@ -6,6 +6,6 @@ use Rattle.engine_config.specs.Configured.{alone_of, queue_of}
 use Rattle.engine_config.proofs.Setups.{alone}
 use Rattle.engine_config.proofs.config.Config.new.Goals as goal
 
-pub made-requires : goal.made-requires
-made-requires c =
+pub made-requires-clause-under : goal.made-requires-clause-under
+made-requires-clause-under c =
     subst (λ (helpers : HelperSet). AreUnder helpers 0 (map queue_of (map alone_of c.args.queues.items))) (sym c.in-Queues.is) (alone c.args.queues.items)

@@ -22,8 +22,8 @@ returns-then-not-are_under-clause-lawful c = (
       sym c.if-not-are_under.true ∙ c.are_under.ensures.1 lent,
 )
 
-pub made-requires : goal.made-requires
-made-requires c =
+pub made-requires-clause-under : goal.made-requires-clause-under
+made-requires-clause-under c =
     let lent = c.are_under.ensures.0 c.if-not-are_under.false in
     let there = under c.args.controllers c.deref.result.now lent.0 lent.1 in
     subst (λ (helpers : HelperSet). AreUnder helpers c.args.controllers (map queue_of (map under_of c.args.queues.items))) (sym c.in-Controllers.is)

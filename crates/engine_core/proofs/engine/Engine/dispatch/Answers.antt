@@ -1,8 +1,9 @@
 use Rattle.std.proofs.Common.{refl, sym, ◌∙◌}
 use Rattle.world_calls.specs.declared.call.Call.TheVariants as calls
-use Rattle.world_calls.specs.Answered.{ccb_answer}
+use Rattle.world_calls.specs.Answered.{start_answer}
+use Rattle.world.specs.World.{version_of}
 use Rattle.engine_core.specs.declared.event.Event.TheVariants as events
-use Rattle.engine_core.specs.Replies.{ccb_reply}
+use Rattle.engine_core.specs.Replies.{start_reply}
 use Rattle.engine_core.specs.Settings.{setup_over}
 use Rattle.engine_core.proofs.Answering.{Appended, appended, gives, on_ok, refuses, seen}
 use Rattle.engine_core.proofs.engine.Engine.dispatch.Goals as goal
@@ -10,7 +11,7 @@ use Rattle.engine_core.proofs.engine.Engine.dispatch.Goals as goal
 -- one record more
 made : (c : goal.After-given) → Appended (setup_over c.self.inside.config c.self.inside.over.world) c.self.inside.history c.push_reserved.new.self c.self.inside.parts.transport c.self.inside.parts.runs c.dispatch-answer.new.transport c.self.inside.parts.runs c.dispatch-answer.result.1
 made c =
-    appended (setup_over c.self.inside.config c.self.inside.over.world) c.self.inside.history c.reserve.new.self c.push_reserved.new.self (events.Dispatch c.args.queue) c.self.inside.parts.transport c.self.inside.parts.runs c.dispatch-answer.new.transport c.self.inside.parts.runs (ccb_reply c.dispatch-answer.result.0) c.dispatch-answer.result.1
+    appended (setup_over c.self.inside.config c.self.inside.over.world) c.self.inside.history c.reserve.new.self c.push_reserved.new.self (events.Dispatch c.args.queue) c.self.inside.parts.transport c.self.inside.parts.runs c.dispatch-answer.new.transport c.self.inside.parts.runs (start_reply (version_of (setup_over c.self.inside.config c.self.inside.over.world)) c.dispatch-answer.result.0) c.dispatch-answer.result.1
     c.self.invariant.0 c.reserve.ensures.records c.reserve.ensures.taken c.push_reserved.ensures.records c.push_reserved.ensures.taken (on_ok c.reserve.result _ (sym c.is_err.ensures.value ∙ c.if-is_err.false) c.reserve.ensures.room) c.push_reserved.ensures.capacity (c.dispatch-answer.ensures.performs c.self.inside.parts.runs)
 
 pub invariant_of-self-2 : goal.invariant_of-self-2
@@ -18,11 +19,11 @@ invariant_of-self-2 c = let it = made c in (it.kept, it.room)
 
 pub returns-clause-answered : goal.returns-clause-answered
 returns-clause-answered c = rw (c.given.ensures, ← c.self.view_is) (
-    gives c.dispatch-answer.result.0 ccb_answer (seen (setup_over c.self.inside.config c.self.inside.over.world) c.self.inside.history c.self.inside.parts.transport c.self.inside.parts.runs) (seen (setup_over c.self.inside.config c.self.inside.over.world) c.push_reserved.new.self c.dispatch-answer.new.transport c.self.inside.parts.runs) (calls.Dispatch c.args.queue) c.dispatch-answer.result.1 c.dispatch-answer.ensures.told (made c).records)
+    gives c.dispatch-answer.result.0 (start_answer (version_of (setup_over c.self.inside.config c.self.inside.over.world))) (seen (setup_over c.self.inside.config c.self.inside.over.world) c.self.inside.history c.self.inside.parts.transport c.self.inside.parts.runs) (seen (setup_over c.self.inside.config c.self.inside.over.world) c.push_reserved.new.self c.dispatch-answer.new.transport c.self.inside.parts.runs) (calls.Dispatch c.args.queue) c.dispatch-answer.result.1 c.dispatch-answer.ensures.told (made c).records)
 
 pub returns-clause-fault : goal.returns-clause-fault
 returns-clause-fault c = rw (c.given.ensures, ← c.self.view_is) (
-    refuses c.dispatch-answer.result.0 ccb_answer (seen (setup_over c.self.inside.config c.self.inside.over.world) c.self.inside.history c.self.inside.parts.transport c.self.inside.parts.runs) (seen (setup_over c.self.inside.config c.self.inside.over.world) c.push_reserved.new.self c.dispatch-answer.new.transport c.self.inside.parts.runs) (calls.Dispatch c.args.queue) c.dispatch-answer.result.1 (λ refusal. refl) c.dispatch-answer.ensures.told (made c).records)
+    refuses c.dispatch-answer.result.0 (start_answer (version_of (setup_over c.self.inside.config c.self.inside.over.world))) (seen (setup_over c.self.inside.config c.self.inside.over.world) c.self.inside.history c.self.inside.parts.transport c.self.inside.parts.runs) (seen (setup_over c.self.inside.config c.self.inside.over.world) c.push_reserved.new.self c.dispatch-answer.new.transport c.self.inside.parts.runs) (calls.Dispatch c.args.queue) c.dispatch-answer.result.1 (λ refusal. refl) c.dispatch-answer.ensures.told (made c).records)
 
 pub returns-clause-run : goal.returns-clause-run
 returns-clause-run c = (made c).kept.run

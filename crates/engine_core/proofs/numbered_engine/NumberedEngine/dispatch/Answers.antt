@@ -1,7 +1,8 @@
 use Rattle.std.proofs.Common.{subst}
 use Rattle.world_calls.specs.declared.call.Call.TheVariants as calls
 use Rattle.world_calls.specs.declared.record.Record.{Record}
-use Rattle.world_calls.specs.Answered.{ccb_answer}
+use Rattle.world_calls.specs.Answered.{start_answer}
+use Rattle.world.specs.World.{version_of}
 use Rattle.engine_core.specs.ByNumber.{RecordFollows}
 use Rattle.engine_core.specs.Settings.{setup_over}
 use Rattle.engine_core.proofs.Numbered.{called_by, follows, keeps_tokens, moved, others_by, state_of}
@@ -10,10 +11,10 @@ use Rattle.engine_core.proofs.numbered_engine.NumberedEngine.dispatch.Goals as g
 pub invariant_of-self : goal.invariant_of-self
 invariant_of-self c =
     keeps_tokens (setup_over c.self.inside.config.now c.self.inside.over.world) c.self.inside.parts.transport c.self.inside.parts.runs c.dispatch-told.new.transport c.self.inside.parts.runs c.dispatch-told.result.1 c.self.inside.tokens.items c.self.invariant (moved _ _ _ _ _ _ _ _ (c.dispatch-told.ensures.performs c.self.inside.parts.runs))
-    (others_by c.dispatch-told.result.1 (ccb_answer c.dispatch-told.result.0) (calls.Dispatch c.args.queue) c.dispatch-told.ensures.told tt)
+    (others_by c.dispatch-told.result.1 (start_answer (version_of (setup_over c.self.inside.config.now c.self.inside.over.world)) c.dispatch-told.result.0) (calls.Dispatch c.args.queue) c.dispatch-told.ensures.told tt)
 
 pub returns-clause-answered : goal.returns-clause-answered
 returns-clause-answered c = rw (← c.self.view_is) (
     subst (λ (r : Record). RecordFollows (state_of (setup_over c.self.inside.config.now c.self.inside.over.world) c.self.inside.parts.transport c.self.inside.parts.runs) r (state_of (setup_over c.self.inside.config.now c.self.inside.over.world) c.dispatch-told.new.transport c.self.inside.parts.runs))
-    (called_by c.dispatch-told.result.1 (ccb_answer c.dispatch-told.result.0) c.answer_in.result (calls.Dispatch c.args.queue) c.dispatch-told.ensures.told c.answer_in.ensures)
+    (called_by c.dispatch-told.result.1 (start_answer (version_of (setup_over c.self.inside.config.now c.self.inside.over.world)) c.dispatch-told.result.0) c.answer_in.result (calls.Dispatch c.args.queue) c.dispatch-told.ensures.told c.answer_in.ensures)
     (follows (setup_over c.self.inside.config.now c.self.inside.over.world) c.self.inside.parts.transport c.self.inside.parts.runs c.dispatch-told.new.transport c.self.inside.parts.runs c.dispatch-told.result.1 c.self.inside.tokens.items c.self.invariant (moved _ _ _ _ _ _ _ _ (c.dispatch-told.ensures.performs c.self.inside.parts.runs))))

@@ -2,6 +2,7 @@ use Rattle.std.proofs.Common.{subst}
 use Rattle.world_calls.specs.declared.call.Call.TheVariants as calls
 use Rattle.world_calls.specs.declared.record.Record.{Record}
 use Rattle.world_calls.specs.Answered.{ccb_answer}
+use Rattle.world.specs.World.{class_kept}
 use Rattle.engine_core.specs.ByNumber.{RecordFollows}
 use Rattle.engine_core.specs.Settings.{setup_over}
 use Rattle.engine_core.proofs.Numbered.{called_by, follows, keeps_tokens, moved, others_by, state_of}
@@ -9,11 +10,11 @@ use Rattle.engine_core.proofs.numbered_engine.NumberedEngine.submit.Goals as goa
 
 pub invariant_of-self : goal.invariant_of-self
 invariant_of-self c =
-    keeps_tokens (setup_over c.self.inside.config.now c.self.inside.over.world) c.self.inside.parts.transport c.self.inside.parts.runs c.submit-told.new.transport c.self.inside.parts.runs c.submit-told.result.1 c.self.inside.tokens.items c.self.invariant (moved _ _ _ _ _ _ _ _ (c.submit-told.ensures.performs (setup_over c.self.inside.config.now c.self.inside.over.world) c.self.inside.parts.runs))
-    (others_by c.submit-told.result.1 (ccb_answer c.submit-told.result.0) (calls.Submit c.args.queue c.args.priority c.args.retries) c.submit-told.ensures.told tt)
+    keeps_tokens (setup_over c.self.inside.config.now c.self.inside.over.world) c.self.inside.parts.transport c.self.inside.parts.runs c.submit-told.new.transport c.self.inside.parts.runs c.submit-told.result.1 c.self.inside.tokens.items c.self.invariant (moved _ _ _ _ _ _ _ _ (c.submit-told.ensures.performs c.self.inside.parts.runs))
+    (others_by c.submit-told.result.1 (ccb_answer c.submit-told.result.0) (calls.Submit c.args.queue c.args.priority c.args.retries (class_kept (setup_over c.self.inside.config.now c.self.inside.over.world) c.args.class)) c.submit-told.ensures.told tt)
 
 pub returns-clause-answered : goal.returns-clause-answered
 returns-clause-answered c = rw (← c.self.view_is) (
     subst (λ (r : Record). RecordFollows (state_of (setup_over c.self.inside.config.now c.self.inside.over.world) c.self.inside.parts.transport c.self.inside.parts.runs) r (state_of (setup_over c.self.inside.config.now c.self.inside.over.world) c.submit-told.new.transport c.self.inside.parts.runs))
-    (called_by c.submit-told.result.1 (ccb_answer c.submit-told.result.0) c.answer_in.result (calls.Submit c.args.queue c.args.priority c.args.retries) c.submit-told.ensures.told c.answer_in.ensures)
-    (follows (setup_over c.self.inside.config.now c.self.inside.over.world) c.self.inside.parts.transport c.self.inside.parts.runs c.submit-told.new.transport c.self.inside.parts.runs c.submit-told.result.1 c.self.inside.tokens.items c.self.invariant (moved _ _ _ _ _ _ _ _ (c.submit-told.ensures.performs (setup_over c.self.inside.config.now c.self.inside.over.world) c.self.inside.parts.runs))))
+    (called_by c.submit-told.result.1 (ccb_answer c.submit-told.result.0) c.answer_in.result (calls.Submit c.args.queue c.args.priority c.args.retries (class_kept (setup_over c.self.inside.config.now c.self.inside.over.world) c.args.class)) c.submit-told.ensures.told c.answer_in.ensures)
+    (follows (setup_over c.self.inside.config.now c.self.inside.over.world) c.self.inside.parts.transport c.self.inside.parts.runs c.submit-told.new.transport c.self.inside.parts.runs c.submit-told.result.1 c.self.inside.tokens.items c.self.invariant (moved _ _ _ _ _ _ _ _ (c.submit-told.ensures.performs c.self.inside.parts.runs))))

@@ -57,7 +57,7 @@ returns-then-is_recorded-clause-section g c =
     (section_of g.B.Origin.setup g.B.Origin.begun c.self.inside.book.total c.self.inside.engine it.new.self c.self.inside.keeper.history c.args.event it.result _ _
     c.self.invariant.0 c.self.invariant.4 it.ensures.recorded it.ensures.fits it.ensures.fit it.ensures.gives
     (tells_made c.self.inside.keeper.history c.self.inside.engine it.new.self c.args.event it.result it.ensures.fits
-    (sym c.is_recorded.ensures ∙ c.if-is_recorded.true) it.ensures.recorded c.self.invariant.4 g.B.Origin.setup c.self.inside.keeper.history _ _ c.publish_beyond.ensures.caller))
+    (sym c.is_recorded.ensures ∙ c.if-is_recorded.true) it.ensures.recorded c.self.invariant.4 g.B.Origin.setup c.self.invariant.0.setup_is c.self.inside.keeper.history _ _ c.publish_beyond.ensures.caller))
 
 pub returns-then-is_unfit-clause-section : goal.returns-then-is_unfit-clause-section
 returns-then-is_unfit-clause-section g c =
@@ -80,7 +80,7 @@ returns-then-is_recorded-clause-tells g c =
     subst (λ (h : List Pair). Tells g.B.Origin.setup h c.args.event it.result c.args.caller.now c.publish_beyond.new.part) (ap (λ (l : LockedState). l.history) c.self.view_is)
     (subst (λ (before : CallerState). Tells g.B.Origin.setup c.self.inside.keeper.history c.args.event it.result before c.publish_beyond.new.part) c.caller.view_is
     (tells_made c.self.inside.keeper.history c.self.inside.engine it.new.self c.args.event it.result it.ensures.fits
-    (sym c.is_recorded.ensures ∙ c.if-is_recorded.true) it.ensures.recorded c.self.invariant.4 g.B.Origin.setup c.self.inside.keeper.history _ _ c.publish_beyond.ensures.caller))
+    (sym c.is_recorded.ensures ∙ c.if-is_recorded.true) it.ensures.recorded c.self.invariant.4 g.B.Origin.setup c.self.invariant.0.setup_is c.self.inside.keeper.history _ _ c.publish_beyond.ensures.caller))
 
 pub returns-then-is_unfit-clause-tells : goal.returns-then-is_unfit-clause-tells
 returns-then-is_unfit-clause-tells g c =

@@ -1,4 +1,4 @@
-use Rattle.std.proofs.Common.{◌≡◌, ℕ, cond, Bool, ap, subst, sym, ◌∙◌, arith}
+use Rattle.std.proofs.Common.{ℕ, cond, Bool, ap, subst, sym, arith}
 use Rattle.engine_transport.specs.Listed.{ListState, IsPlaceOf}
 use Rattle.engine_transport.proofs.Listed.{listed_put, set_is, listed_as}
 use Rattle.engine_transport.proofs.ccb_list.CcbList.change.Goals as goal

@@ -1,4 +1,4 @@
-use Rattle.std.proofs.Common.{◌≤◌, List, map, sym, subst}
+use Rattle.std.proofs.Common.{◌≤◌, map, sym, subst}
 use Rattle.world.specs.World.{LiveCcb}
 use Rattle.engine_transport.specs.Listed.{ListState}
 use Rattle.engine_transport.proofs.Listed.{rises_up}

@@ -1,9 +1,9 @@
-use Rattle.std.proofs.Common.{◌≡◌, ◌<◌, ◌≤◌, ◌+◌, ◌-◌, [], ◌∷◌, ◌++◌, length, Some, None, refl, ap, sym, subst, ◌∙◌, arith}
+use Rattle.std.proofs.Common.{◌≡◌, ◌<◌, ◌-◌, [], ◌∷◌, ◌++◌, length, Some, None, refl, ap, sym, subst, ◌∙◌, arith}
 use Rattle.std.specs.Result.{result_err}
 use Rattle.ccb.specs.declared.call_refusal.CallRefusal.TheVariants.{Limit}
-use Rattle.world.specs.World.{LiveCcb, Transport}
+use Rattle.world.specs.World.{Transport}
 use Rattle.engine_transport.specs.Carrying.{carried_of, carry_refusal, with_carried_ccb}
-use Rattle.engine_transport.specs.Invariant.{KeepsTable, seen}
+use Rattle.engine_transport.specs.Invariant.{seen}
 use Rattle.engine_transport.specs.Listed.{ListState}
 use Rattle.engine_transport.proofs.Carrying.{carried_one, crowded, kept_passed, taken, too_many}
 use Rattle.engine_transport.proofs.Kept.{waits_not_yet}

@@ -7,10 +7,10 @@ use Rattle.ccb.specs.Ccb.{started}
 use Rattle.dev_queue.specs.State.{QueueState}
 use Rattle.dev_queue.specs.Faults.{start_fault}
 use Rattle.world.specs.declared.ccb_state.CcbState.{CcbState}
-use Rattle.world.specs.World.{queue_count, LiveCcb}
-use Rattle.world.specs.Lookups.{ccb_of, with_ccb}
+use Rattle.world.specs.World.{queue_count, version_of, LiveCcb}
+use Rattle.world.specs.Lookups.{with_ccb}
 use Rattle.world_calls.specs.declared.call.Call.TheVariants.{Dispatch}
-use Rattle.world_calls.specs.declared.call_answer.CallAnswer.TheVariants as answers
+use Rattle.world_calls.specs.Answered.{started_answer}
 use Rattle.world.specs.Event.{replies, refused}
 use Rattle.world.specs.Step.{step_call}
 use Rattle.world.specs.World.{Transport}
@@ -55,8 +55,8 @@ returns-in-Some c = record {
       dispatched_after c.self.inside.ledger c.self.inside.clock c.self.inside.ccbs c.change.new.self c.self.inside.queues c.start.new.self c.args.queue.0 c.in-Ok.number c.at.result.now c.start-in-Ok.new.self.ccb c.self.invariant.table d ccb_is
       (c.change.ensures ∙ ap (λ (l : LiveCcb). listed_as c.self.inside.ccbs.greatest (with_ccb l c.self.inside.ccbs.live)) (ap (λ (s : CcbState). record { ccb = c.start-in-Ok.new.self.ccb; state = s }) (ap (λ (l : LiveCcb). l.state) c.start-in-Ok.ensures))) c.in-Ok.ensures.started in
       let fault : start_fault c.count.result c.count-2.result (queue_at c.self.inside.queues c.args.queue.0) ≡ None = sym c.start.ensures.fault ∙ ap result_err c.in-Ok.is in
-      subst (λ (s : Transport). step_call setup (record world { transport = s }) (Dispatch c.args.queue) ≡ Some (replies (answers.Ccb c.in-Ok.number), record world { transport = (seen c.change.new.self c.start.new.self c.self.inside.ledger c.self.inside.clock) })) c.self.view_is
-      (dispatch_reply c.self.inside.ledger c.self.inside.clock setup world c.self.inside.ccbs c.change.new.self c.self.inside.queues c.start.new.self c.args.queue.0 c.count.result c.count-2.result c.in-Ok.number c.at.result.now c.start-in-Ok.new.self.ccb c.self.invariant.table known
+      subst (λ (s : Transport). step_call setup (record world { transport = s }) (Dispatch c.args.queue) ≡ Some (replies (started_answer (version_of setup) (record { ccb = c.in-Ok.number; advice = c.as_ccb.result.now.advice })), record world { transport = (seen c.change.new.self c.start.new.self c.self.inside.ledger c.self.inside.clock) })) c.self.view_is
+      (dispatch_reply c.self.inside.ledger c.self.inside.clock setup world c.self.inside.ccbs c.change.new.self c.self.inside.queues c.start.new.self c.args.queue.0 c.count.result c.count-2.result c.in-Ok.number c.as_ccb.result.now.advice c.at.result.now c.start-in-Ok.new.self.ccb (ap (λ (b : Ccb). b.advice) c.as_ccb.ensures) c.self.invariant.table known
       (subst (λ (s : Transport). queue_count setup ≡ length s.openings) (sym c.self.view_is) count)
       c.count.ensures.entries (rw under c.count-2.ensures.entries) fault d after.seen_is);
   unknown = λ beyond.

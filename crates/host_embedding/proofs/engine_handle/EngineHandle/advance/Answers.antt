@@ -1,46 +1,69 @@
-use Rattle.std.proofs.Common.{◌∙◌, ap, sym}
-use Rattle.host_embedding.specs.declared.run_handle.RunHandle.{RunHandle}
-use Rattle.host_embedding.proofs.Beginning.{recorded, same as knows_same}
-use Rattle.host_embedding.proofs.Going.{goes_none, goes_one}
-use Rattle.host_embedding.proofs.Guests.{same, stay_advanced}
-use Rattle.host_embedding.proofs.Taking.{advanced_so, has_ended, is_back, went_on}
+use Rattle.std.proofs.Common.{◌+◌, ◌≤◌, ◌∙◌, List, ap, arith, subst, sym, vec_len}
+use Rattle.std.specs.Prelude.{vec_capacity}
+use Rattle.engine_core.proofs.Answering.{on_ok}
+use Rattle.host_embedding.specs.Fates.{KeepsFates, fate_of}
+use Rattle.host_embedding.specs.Held.{out_of}
+use Rattle.host_embedding.specs.declared.fates.Fate.TheVariants.{Kept}
+use Rattle.host_embedding.specs.declared.fates.RunFate.{RunFate}
+use Rattle.host_embedding.proofs.Beginning.{more}
+use Rattle.host_embedding.proofs.Noting.{are_kept, goes_advanced, keeps_advanced, spent_advanced, tells_advanced, tells_unasked}
+use Rattle.host_embedding.proofs.Taking.{taken_guests, taken_records}
 use Rattle.host_embedding.proofs.engine_handle.EngineHandle.advance.Goals as goal
-use Rattle.host_embedding.proofs.engine_handle.EngineHandle.advance.Goals.{in-Ok-Goes, in-Ok-Ended, in-Err}
+
+-- ---- where there is no room
 
 pub invariant_of-self : goal.invariant_of-self
-invariant_of-self c = elim c.match-go_on.branch [
-  | in-Ok-Goes w ↦ (
-    stay_advanced c.self.inside.engine c.go_on.new.self _ _ _ _ c.self.inside.tokens.items c.self.invariant.0 w.in-Ok-Goes.ensures.answered c.go_on.ensures.run,
-    recorded c.self.inside.engine c.go_on.new.self _ c.self.inside.is_continued c.self.inside.lines.items c.self.invariant.1 w.in-Ok-Goes.ensures.answered,
-  )
-  | in-Ok-Ended w ↦ (
-    stay_advanced c.self.inside.engine c.go_on.new.self _ _ _ _ c.self.inside.tokens.items c.self.invariant.0 w.in-Ok-Ended.ensures.answered c.go_on.ensures.run,
-    recorded c.self.inside.engine c.go_on.new.self _ c.self.inside.is_continued c.self.inside.lines.items c.self.invariant.1 w.in-Ok-Ended.ensures.answered,
-  )
-  | in-Err w ↦ (
-    same c.self.inside.engine c.go_on.new.self c.self.inside.tokens.items c.self.invariant.0 w.in-Err.ensures.back.1,
-    knows_same c.self.inside.engine c.go_on.new.self c.self.inside.is_continued c.self.inside.lines.items c.self.invariant.1 w.in-Err.ensures.back.1,
-  )
-]
+invariant_of-self c = (
+  c.self.invariant.0,
+  c.self.invariant.1,
+  subst (λ (its : List RunFate). KeepsFates its c.self.inside.engine.history) (sym c.reserve.ensures.items) c.self.invariant.2,
+)
 
-pub returns-after-go_on-clause-goes : goal.returns-after-go_on-clause-goes
-returns-after-go_on-clause-goes c = rw (← c.self.view_is) (elim c.match-go_on.branch [
-  | in-Ok-Goes w ↦ goes_one c.self.inside.engine c.go_on.new.self _ w.in-Ok-Goes.ensures.answered
-  | in-Ok-Ended w ↦ goes_one c.self.inside.engine c.go_on.new.self _ w.in-Ok-Ended.ensures.answered
-  | in-Err w ↦ goes_none c.self.inside.engine c.go_on.new.self w.in-Err.ensures.back.1
-])
+pub returns-then-is_err-clause-recorded : goal.returns-then-is_err-clause-recorded
+returns-then-is_err-clause-recorded c = rw (← c.self.view_is) (c.not_advanced-result.ensures.recorded c.args.r0.now c.args.ended.now)
 
-pub returns-after-go_on-clause-recorded : goal.returns-after-go_on-clause-recorded
-returns-after-go_on-clause-recorded c =
-    let stopped = c.in-Stopped.stopped in
-    let old = c.self.inside.engine in
-    let new = c.go_on.new.self in
-    let was = sym c.take.ensures.taken ∙ c.in-Stopped.is in
-    rw (← c.self.view_is) (elim c.match-go_on.branch [
-      | in-Ok-Goes w ↦ advanced_so stopped old new was w.result-is (ap (λ (r : RunHandle). r.held) w.run-is ∙ w.put.ensures) w.r0-is w.ended-is
-          (went_on stopped old new w.in-Ok-Goes.field-0 w.in-Ok-Goes.again w.in-Ok-Goes.value w.in-Ok-Goes.field-0-is w.in-Ok-Goes.ensures.answered w.in-Ok-Goes.ensures.admitted w.in-Ok-Goes.ensures.goes)
-      | in-Ok-Ended w ↦ advanced_so stopped old new was w.result-is (ap (λ (r : RunHandle). r.held) w.run-is ∙ c.take.ensures.spent) w.r0-is w.ended-is
-          (has_ended stopped old new w.in-Ok-Ended.field-0 w.in-Ok-Ended.value w.in-Ok-Ended.field-0-is w.in-Ok-Ended.ensures.answered w.in-Ok-Ended.ensures.admitted w.in-Ok-Ended.ensures.goes)
-      | in-Err w ↦ advanced_so stopped old new was w.result-is (ap (λ (r : RunHandle). r.held) w.run-is ∙ w.put-in-Err.ensures) w.r0-is w.ended-is
-          (is_back w.in-Err.fault w.advanced.result stopped w.in-Err.back old new _ _ w.advanced.ensures w.in-Err.ensures.back.0 w.in-Err.ensures.back.1 w.in-Err.ensures.admitted)
-    ])
+pub returns-then-is_err-clause-fate : goal.returns-then-is_err-clause-fate
+returns-then-is_err-clause-fate c =
+    tells_unasked c.not_advanced-result.result (out_of c.args.run.now.held) c.self.inside.engine c.out_number-number.result c.reserve.new.self.items Kept c.fate_of.result c.reported.result
+    (spent_advanced c.not_advanced-result.result c.args.run.now.held c.not_advanced-result.new.run.held c.self.inside.engine c.self.inside.engine c.args.r0.now c.args.ended.now (c.not_advanced-result.ensures.recorded c.args.r0.now c.args.ended.now)) c.out_number-number.ensures c.not_advanced-result.ensures.undone
+    (subst (λ (its : List RunFate). KeepsFates its c.self.inside.engine.history) (sym c.reserve.ensures.items) c.self.invariant.2)
+    (c.fate_of.ensures ∙ ap (fate_of c.out_number-number.result) c.as_slice.ensures.value) c.reported.ensures
+
+-- ---- where the engine is asked
+
+pub note-told-requires-clause-kept : goal.note-told-requires-clause-kept
+note-told-requires-clause-kept c = (
+    are_kept c.advance-result.result c.self.inside.engine c.advance-result.new.engine c.out_number-number.result c.recorded-was.result
+    (goes_advanced c.advance-result.result c.args.run.now.held c.advance-result.new.run.held c.self.inside.engine c.advance-result.new.engine c.advance-result.new.r0 c.advance-result.new.ended c.out_number-number.result c.out_number-number.ensures c.advance-result.ensures.recorded)
+    c.recorded-was.ensures c.taken.ensures.within).0
+
+pub note-told-requires-clause-within : goal.note-told-requires-clause-within
+note-told-requires-clause-within c = (
+    are_kept c.advance-result.result c.self.inside.engine c.advance-result.new.engine c.out_number-number.result c.recorded-was.result
+    (goes_advanced c.advance-result.result c.args.run.now.held c.advance-result.new.run.held c.self.inside.engine c.advance-result.new.engine c.advance-result.new.r0 c.advance-result.new.ended c.out_number-number.result c.out_number-number.ensures c.advance-result.ensures.recorded)
+    c.recorded-was.ensures c.taken.ensures.within).1
+
+pub note-told-requires-clause-room : goal.note-told-requires-clause-room
+note-told-requires-clause-room c =
+    let room : vec_len c.reserve.new.self + 1 ≤ vec_capacity c.reserve.new.self = on_ok c.reserve.result _ (sym c.is_err.ensures.value ∙ c.if-is_err.false) c.reserve.ensures.ok in
+    omega (arith, room, c.reserve.new.self.ok.0)
+
+pub invariant_of-self-2 : goal.invariant_of-self-2
+invariant_of-self-2 c = (
+  taken_guests c.advance-result.result c.args.run.now.held c.advance-result.new.run.held c.self.inside.engine c.advance-result.new.engine c.advance-result.new.r0 c.advance-result.new.ended c.self.inside.tokens.items c.self.invariant.0 c.advance-result.ensures.recorded,
+  more c.self.inside.engine c.advance-result.new.engine c.self.inside.is_continued c.self.inside.lines.items c.self.invariant.1
+      (taken_records c.advance-result.result c.args.run.now.held c.advance-result.new.run.held c.self.inside.engine c.advance-result.new.engine c.advance-result.new.r0 c.advance-result.new.ended c.advance-result.ensures.recorded),
+  keeps_advanced c.advance-result.result c.args.run.now.held c.advance-result.new.run.held c.self.inside.engine c.advance-result.new.engine c.advance-result.new.r0 c.advance-result.new.ended c.out_number-number.result c.recorded-was.result c.reserve.new.self.items c.note-told.new.fates.items c.note-told.result
+      c.out_number-number.ensures c.advance-result.ensures.recorded c.recorded-was.ensures
+      (subst (λ (its : List RunFate). KeepsFates its c.self.inside.engine.history) (sym c.reserve.ensures.items) c.self.invariant.2) c.note-told.ensures,
+)
+
+pub returns-clause-recorded : goal.returns-clause-recorded
+returns-clause-recorded c = rw (← c.self.view_is) c.advance-result.ensures.recorded
+
+pub returns-clause-fate : goal.returns-clause-fate
+returns-clause-fate c =
+    tells_advanced c.advance-result.result c.args.run.now.held c.advance-result.new.run.held c.self.inside.engine c.advance-result.new.engine c.advance-result.new.r0 c.advance-result.new.ended c.out_number-number.result c.recorded-was.result c.reserve.new.self.items c.note-told.new.fates.items c.note-told.result
+    c.fate_of-2.result c.reported-2.result c.out_number-number.ensures c.advance-result.ensures.recorded c.recorded-was.ensures
+    (subst (λ (its : List RunFate). KeepsFates its c.self.inside.engine.history) (sym c.reserve.ensures.items) c.self.invariant.2) c.note-told.ensures
+    (c.fate_of-2.ensures ∙ ap (fate_of c.out_number-number.result) c.as_slice-2.ensures.value) c.reported-2.ensures

@@ -1,4 +1,5 @@
 use Rattle.host_embedding.proofs.Beginning.{faulted, recorded}
+use Rattle.host_embedding.proofs.Courses.{called as keeps_called, faulted as keeps_faulted}
 use Rattle.host_embedding.proofs.Guests.{stay, stay_faulted}
 use Rattle.host_embedding.proofs.engine_handle.EngineHandle.complete.Goals as goal
 use Rattle.host_embedding.proofs.engine_handle.EngineHandle.complete.Goals.{in-Ok-Done, in-Ok-Started, in-Err}
@@ -8,13 +9,16 @@ invariant_of-self c = elim c.match-complete.branch [
   | in-Ok-Done w ↦ (
     stay c.self.inside.engine c.complete.new.self _ _ c.self.inside.tokens.items c.self.invariant.0 tt w.in-Ok-Done.ensures.answered c.complete.ensures.run,
     recorded c.self.inside.engine c.complete.new.self _ c.self.inside.is_continued c.self.inside.lines.items c.self.invariant.1 w.in-Ok-Done.ensures.answered,
+    keeps_called c.self.inside.engine c.complete.new.self _ _ c.self.inside.fates.items c.self.invariant.2 w.in-Ok-Done.ensures.answered,
   )
   | in-Ok-Started w ↦ (
     stay c.self.inside.engine c.complete.new.self _ _ c.self.inside.tokens.items c.self.invariant.0 tt w.in-Ok-Started.ensures.answered c.complete.ensures.run,
     recorded c.self.inside.engine c.complete.new.self _ c.self.inside.is_continued c.self.inside.lines.items c.self.invariant.1 w.in-Ok-Started.ensures.answered,
+    keeps_called c.self.inside.engine c.complete.new.self _ _ c.self.inside.fates.items c.self.invariant.2 w.in-Ok-Started.ensures.answered,
   )
   | in-Err w ↦ (
     stay_faulted c.self.inside.engine c.complete.new.self _ _ c.self.inside.tokens.items c.self.invariant.0 tt w.in-Err.ensures.fault c.complete.ensures.run,
     faulted c.self.inside.engine c.complete.new.self _ _ c.self.inside.is_continued c.self.inside.lines.items c.self.invariant.1 w.in-Err.ensures.fault,
+    keeps_faulted c.self.inside.engine c.complete.new.self _ _ c.self.inside.fates.items c.self.invariant.2 w.in-Err.ensures.fault,
   )
 ]

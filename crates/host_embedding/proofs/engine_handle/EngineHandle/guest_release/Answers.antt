@@ -4,6 +4,7 @@ use Rattle.world_calls.specs.declared.call_answer.CallAnswer.TheVariants as answ
 use Rattle.world_calls.specs.declared.record.Record.TheVariants.{Called}
 use Rattle.engine_core.specs.EngineState.{Records}
 use Rattle.host_embedding.proofs.Beginning.{recorded}
+use Rattle.host_embedding.proofs.Courses.{called as keeps_called}
 use Rattle.host_embedding.proofs.Guests.{not_released, released, rise}
 use Rattle.host_embedding.proofs.engine_handle.EngineHandle.guest_release.Goals as goal
 
@@ -17,6 +18,7 @@ invariant_of-self-in-Ok c =
       released c.self.inside.engine c.guest_release.new.self c.self.inside.tokens.items c.take_token.new.tokens.items c.in-Ok.count c.args.freeze c.self.invariant.0 told
           c.guest_release.ensures.run c.in-Some.ensures.taken.2,
       recorded c.self.inside.engine c.guest_release.new.self _ c.self.inside.is_continued c.self.inside.lines.items c.self.invariant.1 told,
+      keeps_called c.self.inside.engine c.guest_release.new.self _ _ c.self.inside.fates.items c.self.invariant.2 told,
     )
 
 pub returns-in-Err : goal.returns-in-Err

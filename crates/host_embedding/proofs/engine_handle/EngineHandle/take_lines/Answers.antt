@@ -1,8 +1,8 @@
-use Rattle.std.proofs.Common.{◌≡◌, ◌<◌, ◌≤◌, ◌+◌, ◌-◌, ◌∙◌, ap, arith, length, sym, subst}
+use Rattle.std.proofs.Common.{◌≡◌, ◌<◌, ◌+◌, ◌-◌, ◌∙◌, ap, arith, length, subst}
 use Rattle.trace.specs.TraceText.{line_of}
 use Rattle.engine_core.specs.EngineState.{EngineState}
 use Rattle.host_embedding.specs.Lines.{PutsLines, front_of}
-use Rattle.host_embedding.proofs.Handing.{few_front, finds_room, goes_within}
+use Rattle.host_embedding.proofs.Handing.{goes_within}
 use Rattle.host_embedding.proofs.engine_handle.EngineHandle.take_lines.Goals as goal
 
 pub hand_on-requires : goal.hand_on-requires
@@ -25,6 +25,4 @@ returns-clause-lines c =
     }
 
 pub returns-clause-some : goal.returns-clause-some
-returns-clause-some c = λ much told.
-    let none = c.put_lines-result.ensures.lines.1 told in
-    finds_room (front_of c.args.self.now.setup) (few_front c.args.self.now.setup) c.args.self.now.history c.taken-from.result c.put_lines-result.new.place (subst (λ p. 720 ≤ length p) (sym none.2) much) none.3
+returns-clause-some c = c.put_lines-result.ensures.some

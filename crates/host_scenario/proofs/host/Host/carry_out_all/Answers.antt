@@ -1,4 +1,5 @@
 use Rattle.std.proofs.Common.{◌≡◌, ◌∷◌, ◌++◌, ◌+◌, List, [], arith, ap, length, length-append, refl, rules, subst, sym, ◌∙◌}
+use Rattle.world.specs.World.{version_of}
 use Rattle.scenario.specs.Left.{steps_left}
 use Rattle.scenario.specs.Steps.{command_seen, step_seen}
 use Rattle.host_scenario.specs.Asked.{call_of}
@@ -17,7 +18,7 @@ returns-in-Err-clause-fault g c =
     let passed = c.loop-step.yielded in
     let next : steps_left c.loop-step.step-iterator ≡ step_seen step ∷ steps_left c.next.new.self = search rules in
     let walks = c.loop-step.invariant.walks in
-    stopped_at all (length passed) (step_seen step) c.loop-step.self.caller.mine c.carry_out.new.self.caller.mine c.loop-step.self.held.tokens c.loop-step.self.put.account.put c.carry_out.new.self.put.account.put c.in-Err.fault c.loop-step.carried c.loop-step.invariant.carried c.loop-step.invariant.done
+    stopped_at (version_of g.B.Origin.setup) all (length passed) (step_seen step) c.loop-step.self.caller.mine c.carry_out.new.self.caller.mine c.loop-step.self.held.tokens c.loop-step.self.put.account.put c.carry_out.new.self.put.account.put c.in-Err.fault c.loop-step.carried c.loop-step.invariant.carried c.loop-step.invariant.done
     (is_within all passed step _ _ walks next) (is_here all passed step _ _ walks next) c.in-Err.ensures.fault
     (λ named. ap (λ pass. pass.account.put) (c.in-Err.ensures.stays named).1)
 
@@ -36,13 +37,13 @@ loop-step-preserved g c =
     let more : length (passed ++ step ∷ []) ≡ length passed + 1 = length-append passed (step ∷ []) in
     record {
       walks = walks_on all passed step _ _ walks next;
-      done = subst (λ n. Done all n c.carry_out.new.self.caller.mine c.carry_out.new.self.held.tokens c.carry_out.new.self.put.account.put) (sym more)
-          (one_more all (length passed) (step_seen step) c.loop-step.self.caller.mine c.carry_out.new.self.caller.mine c.loop-step.self.held.tokens c.carry_out.new.self.held.tokens c.loop-step.self.put.account.put c.carry_out.new.self.put.account.put c.loop-step.invariant.done
+      done = subst (λ n. Done (version_of g.B.Origin.setup) all n c.carry_out.new.self.caller.mine c.carry_out.new.self.held.tokens c.carry_out.new.self.put.account.put) (sym more)
+          (one_more (version_of g.B.Origin.setup) all (length passed) (step_seen step) c.loop-step.self.caller.mine c.carry_out.new.self.caller.mine c.loop-step.self.held.tokens c.carry_out.new.self.held.tokens c.loop-step.self.put.account.put c.carry_out.new.self.put.account.put c.loop-step.invariant.done
           (is_within all passed step _ _ walks next) (is_here all passed step _ _ walks next) c.in_default.ensures.asked c.in_default.ensures.holds c.in_default.ensures.put);
       kept = c.in_default.ensures.kept c.loop-step.invariant.kept;
       all = c.carry_out.ensures.all ∙ c.loop-step.invariant.all;
       carried = omega (arith, c.loop-step.invariant.carried, more);
-      calls = omega (arith, c.loop-step.invariant.calls, c.calls_in-calls.ensures.calls, asks_one (call_of (command_seen step.call)) c.loop-step.self.caller.mine c.carry_out.new.self.caller.mine c.in_default.ensures.asked);
+      calls = omega (arith, c.loop-step.invariant.calls, c.calls_in-calls.ensures.calls (version_of g.B.Origin.setup), asks_one (call_of (version_of g.B.Origin.setup) (command_seen step.call)) c.loop-step.self.caller.mine c.carry_out.new.self.caller.mine c.in_default.ensures.asked);
       completions = omega (arith, c.loop-step.invariant.completions, c.completions_for-completions.ensures.many, ap length c.in_default.ensures.put, length-append c.loop-step.self.put.account.put (completion_for (command_seen step.call)));
       few_calls = omega (arith, c.loop-step.invariant.few_calls, c.calls_in-calls.ensures.few, more);
       few_completions = omega (arith, c.loop-step.invariant.few_completions, c.completions_for-completions.ensures.few, more);

@@ -1,0 +1,3 @@
+pub mod Behind
+pub mod Counted
+pub mod Submitted

@@ -1,0 +1,5 @@
+pub mod Recording
+pub mod Tried
+pub mod Resting
+pub mod Submitted
+pub mod Misplaced

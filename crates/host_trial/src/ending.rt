@@ -1,0 +1,70 @@
+// How a trial ended. It relies on `engine_core` for what an engine has.
+
+ghost use Rattle.std.specs.Prelude.{◌≡◌, true, IsTrue, length};
+ghost use Rattle.host_trial.specs.Tried.{EndsIn};
+ghost use Rattle.host_trial.specs.Resting.{IsAtRest};
+ghost use Rattle.host_trial.specs.declared.ending.Ending.TheVariants.{Finished};
+
+use engine_core::NumberedEngine;
+use engine_core::laws::headline;
+
+/// How a trial ended.
+#[derive(Clone, Copy, Debug, PartialEq, Eq)]
+pub enum Ending {
+    /// Each request is finished.
+    Finished,
+    /// So many CCBs wait for ever: none is active, no run is live, and no timer is due.
+    Waiting(usize),
+    /// It was stopped, when so many CCBs were not finished.
+    Stopped(usize),
+}
+
+/// How it ended in this engine. Nothing can be started any more, or something might; all requests were submitted, or not.
+pub(crate) fn ending_of(engine: &NumberedEngine<'_>, is_over: bool, is_submitted: bool) -> Ending
+    ensures ends { EndsIn result engine.now.transport engine.now.runs }
+    ensures submitted { result ≡ Finished → is_submitted ≡ true }
+{
+    let live = live(engine);
+    if !is_at_rest(engine) {
+        return Ending::Stopped(live);
+    }
+    if live == 0 && is_submitted {
+        return Ending::Finished;
+    }
+    if is_over {
+        Ending::Waiting(live)
+    } else {
+        Ending::Stopped(live)
+    }
+}
+
+/// The most CCBs that are live.
+const MOST: usize = 4096;
+
+// Whether nothing happens by itself: no CCB is active, no run is live, and no timer is due.
+fn is_at_rest(engine: &NumberedEngine<'_>) -> bool
+    ensures { IsTrue result → IsAtRest engine.now }
+{
+    let totals = engine.totals(0);
+    if totals.active == 0 && totals.runs == 0 {
+        engine.next_due().is_none()
+    } else {
+        false
+    }
+}
+
+// How many CCBs are live.
+fn live(engine: &NumberedEngine<'_>) -> usize
+    ensures { result ≡ length engine.now.transport.live }
+{
+    // These are called for what they say of all engines.
+    headline();
+    let _ = engine.transport();
+    for place in 0..MOST {
+        match engine.ccb_at(place) {
+            Some(_) => {}
+            None => return place,
+        }
+    }
+    MOST
+}

@@ -1,8 +1,0 @@
--- the entries so far
-use Rattle.std.proofs.Common.{◌≡◌, map, take}
-use Rattle.toml.specs.View.{view}
-use Rattle.manifest_form.specs.Migration.{entry_under_one}
-use Rattle.manifest_form.proofs.migration.entries_under_one.Given as goal
-
-abbrev pub invariant-loop-entry : goal.invariant-loop-entry
-invariant-loop-entry l = map view l.all.items ≡ map (entry_under_one l.kind) (map view (take l.entry-index l.entries))

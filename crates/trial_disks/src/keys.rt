@@ -1,0 +1,153 @@
+// The numbers under keys, each with its range. It relies on `manifest_form` for what stands under a key.
+
+use crate::data::Span;
+use crate::fault::{KeyFault, Wrong, fault_of};
+use manifest_form::document::{elements, has, has_keys, integer};
+use toml::Value;
+
+/// Which numbers may stand under a key.
+#[derive(Clone, Copy)]
+pub(crate) struct Bounds {
+    pub(crate) least: u64,
+    pub(crate) most: u64,
+}
+
+/// The number under a key, if one is there.
+pub(crate) fn given(
+    value: &Value,
+    key: &'static str,
+    bounds: Bounds,
+) -> Result<Option<u64>, KeyFault<'static>> {
+    if !has(value, key) {
+        return Ok(None);
+    }
+    let Some(number) = integer(value, key) else {
+        return Err(fault_of(Wrong::Form, key));
+    };
+    match within(number, bounds) {
+        Some(number) => Ok(Some(number)),
+        None => Err(fault_of(Wrong::Range, key)),
+    }
+}
+
+/// The number under a key; if none is there, that one.
+pub(crate) fn number_or(
+    value: &Value,
+    key: &'static str,
+    bounds: Bounds,
+    other: u64,
+) -> Result<u64, KeyFault<'static>> {
+    let number = given(value, key, bounds)?;
+    Ok(number.unwrap_or(other))
+}
+
+/// The number of at most 32 bits under a key; if none is there, that one.
+pub(crate) fn short_number_or(
+    value: &Value,
+    key: &'static str,
+    other: u32,
+) -> Result<u32, KeyFault<'static>> {
+    if !has(value, key) {
+        return Ok(other);
+    }
+    let Some(number) = integer(value, key) else {
+        return Err(fault_of(Wrong::Form, key));
+    };
+    match u32::try_from(number) {
+        Ok(number) => Ok(number),
+        Err(_) => Err(fault_of(Wrong::Range, key)),
+    }
+}
+
+/// The number under a key, where one has to be.
+pub(crate) fn number(
+    value: &Value,
+    key: &'static str,
+    bounds: Bounds,
+) -> Result<u64, KeyFault<'static>> {
+    match given(value, key, bounds)? {
+        Some(number) => Ok(number),
+        None => Err(fault_of(Wrong::Key, key)),
+    }
+}
+
+// The number, if it is within the bounds.
+fn within(number: i64, bounds: Bounds) -> Option<u64> {
+    match u64::try_from(number) {
+        Ok(number) if bounds.least <= number && number <= bounds.most => Some(number),
+        _ => None,
+    }
+}
+
+/// The times that may be asked for.
+const TIMES: Bounds = Bounds {
+    least: 0,
+    most: 4_294_967_295,
+};
+
+/// How long something takes, if that is said: a number, or the least and the greatest.
+pub(crate) fn span(value: &Value, key: &'static str) -> Result<Option<Span>, KeyFault<'static>> {
+    if !has(value, key) {
+        return Ok(None);
+    }
+    let (least, most) = match ends(value, key) {
+        Some(ends) => ends,
+        None => return Err(fault_of(Wrong::Form, key)),
+    };
+    match (within(least, TIMES), within(most, TIMES)) {
+        (Some(least), Some(most)) if least <= most => Ok(Some(Span { least, most })),
+        _ => Err(fault_of(Wrong::Range, key)),
+    }
+}
+
+// The two ends, which are one number or two.
+fn ends(value: &Value, key: &str) -> Option<(i64, i64)> {
+    match integer(value, key) {
+        Some(number) => Some((number, number)),
+        None => both(elements(value, key)),
+    }
+}
+
+fn both(elements: &[Value]) -> Option<(i64, i64)> {
+    match elements {
+        [least, most] => Some((least.as_integer()?, most.as_integer()?)),
+        _ => None,
+    }
+}
+
+/// Whether a table has these keys, and no other but those that may be; of what is no table, that it is none.
+pub(crate) fn check_keys<'a>(
+    value: &'a Value,
+    required: &[&'static str],
+    optional: &[&'static str],
+) -> Result<(), KeyFault<'a>> {
+    let Value::Table(_) = value else {
+        return Err(fault_of(Wrong::Form, ""));
+    };
+    if has_keys(value, required, optional) {
+        return Ok(());
+    }
+    for key in required {
+        if !has(value, key) {
+            return Err(fault_of(Wrong::Key, key));
+        }
+    }
+    Err(fault_of(Wrong::Key, unknown(value, required, optional)))
+}
+
+// The first key of a table that is none of these.
+fn unknown<'a>(value: &'a Value, required: &[&'static str], optional: &[&'static str]) -> &'a str {
+    let Value::Table(table) = value else {
+        return "";
+    };
+    for key in table.keys() {
+        if !is_among(required, key.as_str()) && !is_among(optional, key.as_str()) {
+            return key.as_str();
+        }
+    }
+    ""
+}
+
+fn is_among(names: &[&'static str], name: &str) -> bool {
+    names.iter().any(|other| *other == name)
+}

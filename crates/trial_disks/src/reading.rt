@@ -1,0 +1,81 @@
+// A whole file of devices. It relies on `devices` for each of them, and on `toml` for the text.
+
+use crate::data::{Device, Disks, LAST_TIME};
+use crate::devices::device;
+use crate::failures::ANY;
+use crate::fault::{DisksError, KeyFault, Wrong, fault_of};
+use crate::keys::{Bounds, check_keys, number, number_or};
+use base::OrMemory;
+use manifest_form::document::array;
+use std::alloc::{AllocError, Global};
+use toml::Value;
+
+const VERSIONS: Bounds = Bounds { least: 1, most: 1 };
+
+const REQUESTS: Bounds = Bounds {
+    least: 1,
+    most: 10_000_000,
+};
+
+const SEEDS: Bounds = Bounds {
+    least: 0,
+    most: 9_223_372_036_854_775_807,
+};
+
+const LIMITS: Bounds = Bounds {
+    least: 1,
+    most: LAST_TIME,
+};
+
+/// What devices a text says, or its first fault.
+pub fn read(alloc: Global, text: &str) -> Result<Disks, DisksError> {
+    match toml::table_from_str(alloc, text) {
+        Ok(table) => read_document(alloc, &Value::Table(table)),
+        Err(error) if error.is_memory() => Err(OrMemory::OutOfMemory),
+        Err(_) => Err(fault_of(Wrong::Text, "").at(alloc, 0, 0)),
+    }
+}
+
+fn read_document(alloc: Global, value: &Value) -> Result<Disks, DisksError> {
+    let mut disks = match alone(alloc, value) {
+        Ok(disks) => disks,
+        Err(fault) => return Err(fault.at(alloc, 0, 0)),
+    };
+    let Some(devices) = array(value, "device") else {
+        return Err(fault_of(Wrong::Form, "device").at(alloc, 0, 0));
+    };
+    add_all(alloc, &mut disks.devices, devices.as_slice())?;
+    Ok(disks)
+}
+
+// What the document says beside its devices.
+fn alone<'a>(alloc: Global, value: &'a Value) -> Result<Disks, KeyFault<'a>> {
+    check_keys(
+        value,
+        &["version", "seed", "requests", "device"],
+        &["until", "limit"],
+    )?;
+    let _ = number(value, "version", VERSIONS)?;
+    Ok(Disks {
+        seed: number(value, "seed", SEEDS)?,
+        requests: number(value, "requests", REQUESTS)?,
+        until: number_or(value, "until", ANY, LAST_TIME)?,
+        limit: number_or(value, "limit", LIMITS, 0)?,
+        devices: Vec::new(alloc),
+    })
+}
+
+// Adds the devices of these tables.
+fn add_all(alloc: Global, devices: &mut Vec<Device>, values: &[Value]) -> Result<(), DisksError> {
+    for place in 0..values.len() {
+        let device = device(alloc, &values[place], place + 1)?;
+        add(devices, device)?;
+    }
+    Ok(())
+}
+
+// Adds a device.
+fn add(devices: &mut Vec<Device>, device: Device) -> Result<(), AllocError> {
+    devices.push(device)?;
+    Ok(())
+}

@@ -102,7 +102,7 @@ module _ {T : Type 0} (blank : T) (most : ℕ) where
           ∙ take_more places less last (omega (arith, at, is.within, is.whole))
           ∙ ap (λ (l : List T). l ++ get_or places less last ∷ []) (sym (take-set places less blank))
 
-  -- places that were copied up to one which no place in use is behind
+  -- places that were copied up to one which no place in use is after
   module _ (places others : List T) (len len' : ℕ) (is : IsPadded blank most places len) (others_is : IsPadded blank most others len') where
     pub copied_is : (now : List T) (k : ℕ) → length now ≡ most → len ≤ k → len' ≤ k → ((j : ℕ) → j < k → get_or now j blank ≡ get_or others j blank) → ((j : ℕ) → k ≤ j → get_or now j blank ≡ get_or places j blank) → now ≡ others
     copied_is now k whole past past' copied left = ext_get_or blank now others (whole ∙ sym others_is.whole) (λ j less. elim (cases_lt j k) [

@@ -86,7 +86,7 @@ impl<T: Blank, const N: usize> PaddedList<T, N> {
         &self.places[..self.len]
     }
 
-    /// The values, and behind them blank ones up to `N`.
+    /// The values, and after them blank ones up to `N`.
     #[inline(always)]
     pub fn padded(&self) -> &[T; N]
         ensures { result.now ≡ padded T.blank N self.now }

@@ -1,4 +1,4 @@
--- Chunks of values, one behind the other: how many there are, where each stands, and what is left of them.
+-- Chunks of values, one after the other: how many there are, where each stands, and what is left of them.
 use Rattle.std.proofs.Common.{◌≡◌, ◌↔◌, ℕ, ◌+◌, ◌-◌, ◌*◌, ◌/◌, ◌%◌, ◌<◌, ◌≤◌, List, [], ◌∷◌, ◌++◌, length, drop, get_or, take, Option, None, Some, IfSome, vec_capacity, refl, sym, ap, subst, ◌∙◌, arith}
 use Rattle.std.specs.declared.vec.Vec.{Vec}
 use Rattle.std.specs.declared.alloc.Global.{Global}
@@ -55,11 +55,11 @@ module _ {T : Type 0} where
       ∙ ap (λ n. get_or last n value) (omega (arith, short, behind, within))
       ∙ sym (get_or-append_right (items_of chunks) last (length chunks * 1024) place value (count_items chunks full) (omega (arith, behind)))
 
-  -- the chunks behind the first one
+  -- the chunks after the first one
   pub others_not_empty : (chunks others : List (Vec T Global)) (chunk : Vec T Global) → AreNotEmpty chunks → chunks ≡ chunk ∷ others → AreNotEmpty others
   others_not_empty chunks others chunk h are = All-tail (λ (c : Vec T Global). 0 < length c.items) chunk others (subst AreNotEmpty are h)
 
-  -- there is room for so many values more exactly where there is behind the full chunks
+  -- there is room for so many values more exactly where there is after the full chunks
   pub room_is : (gone : ℕ) (full : Vec (Vec T Global) Global) (last : Vec T Global) (spare : Option (Vec T Global)) (more : ℕ) → KeepsFrom gone full last spare
       → (length last.items + more ≤ 1024 + spare_room spare) ↔ (length (seen_from gone full.items last.items spare).items + more ≤ (seen_from gone full.items last.items spare).capacity)
   room_is gone full last spare more h =

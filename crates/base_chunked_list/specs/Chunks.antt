@@ -1,4 +1,4 @@
--- Chunks of values, one behind the other.
+-- Chunks of values, one after the other.
 use Rattle.std.specs.Prelude.{◌<◌, List, All, length}
 use Rattle.std.specs.List.{flat_map}
 use Rattle.std.specs.declared.vec.Vec.{Vec}

@@ -10,7 +10,7 @@ module _ {T : Type 0} where
   abbrev pub AreFull : List (Vec T Global) → Type 0
   AreFull chunks = All (λ chunk. length chunk.items ≡ CHUNK) chunks
 
-  -- a chunk without values, behind these
+  -- a chunk without values, after these
   pub record IsSpare (full : Vec (Vec T Global) Global) (chunk : Vec T Global) : Type 0 where
     pub empty : chunk.items ≡ []
     pub room : CHUNK ≤ vec_capacity chunk

@@ -89,7 +89,7 @@ fn drop_chunks<T: Drop>(full: &mut Vec<Vec<T>>, mut gone: usize) -> usize
     gone
 }
 
-// Whether there is room behind the full chunks for so many values more.
+// Whether there is room after the full chunks for so many values more.
 fn has_room<T>(last: &Vec<T>, spare: &Option<Vec<T>>, more: usize) -> bool
     requires last { length last.now.items ≤ CHUNK }
     requires more { more ≤ CHUNK }

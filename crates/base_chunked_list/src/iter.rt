@@ -13,7 +13,7 @@ use std::marker::Model;
 pub struct Iter<'a, T> {
     // what is left of the chunk where it stands
     here: &'a [T],
-    // the chunks behind that one
+    // the chunks after that one
     behind: &'a [Vec<T>],
     // and the last chunk
     last: &'a [T],

@@ -48,7 +48,7 @@ unfolding is_gap
 is_feed_gap true b more feed = rw feed refl
 is_feed_gap false b more feed = rw (feed_is_no_hash b feed, feed, or_true (is_blank b)) refl
 
--- what stands behind a line is covered, whether the line ends in a comment or not
+-- what follows a line is covered, whether the line ends in a comment or not
 abbrev Behind : ℕ → List ℕ → List Token → List (List ℕ) → Type 0
 Behind place bytes tokens words = (comment : Bool) → TokensCover comment place bytes tokens words
 
@@ -65,7 +65,7 @@ rest_of_comment place (b ∷ line) behind tokens words clean h =
 abbrev span : ℕ → ℕ → Token
 span start end = record { start = start; end = end }
 
--- a line's first lexeme at its place, and what is behind it
+-- a line's first lexeme at its place, and what is after it
 word_covers : (place len : ℕ) (line behind : List ℕ) (tokens : List Token) (words : List (List ℕ)) → len ≤ length line → TokensCover false (place + len) (drop len line ++ behind) tokens words → TokensCover false place (line ++ behind) (span place (place + len) ∷ tokens) (take len line ∷ words)
 unfolding is_gap
 word_covers place len line behind tokens words within h =

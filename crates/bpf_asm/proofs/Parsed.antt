@@ -103,7 +103,7 @@ reads_constant n words h = rw (no_minus (word_text n) words (constant_word n), c
 
 -- ---- instructions
 
--- what stands behind the name of an instruction
+-- what follows the name of an instruction
 abbrev pub words_of : Insn → List (List ℕ)
 words_of (Alu width op dst src) = (register_text dst ∷ []) ++ ((44 ∷ []) ∷ operand_words src)
 words_of (InPlace op dst) = register_text dst ∷ []
@@ -136,7 +136,7 @@ module _ (labels : List ℕ → Option Label) (next : ℕ) where
   parsed (Call (Local distance)) h spares = rw (← append-nil (signed_words distance), reads_target labels next distance [] h, imm_fits distance h) refl
   parsed Exit h spares = refl
 
--- no colon stands behind the name, so the line is no label line
+-- no colon stands after the name, so the line is no label line
 no_colon_first : (word : List ℕ) (words : List (List ℕ)) → IsWord word → mark_in 58 (word ∷ words) ≡ None
 no_colon_first word words w = rw (no_mark 58 word not_word_colon w) refl
 

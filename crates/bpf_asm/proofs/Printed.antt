@@ -61,7 +61,7 @@ begins_apart : (text rest : List ℕ) → begins_word text ≡ false → begins_
 begins_apart [] rest h apart = apart
 begins_apart (b ∷ bytes) rest h apart = h
 
--- one text behind the other
+-- one text after the other
 pub prints_both : (a b : List ℕ) (ws vs : List (List ℕ)) → Prints a ws → Prints b vs → begins_word b ≡ false → Prints (a ++ b) (ws ++ vs)
 prints_both a b ws vs p q h = record {
   lexed = λ rest apart.
@@ -165,7 +165,7 @@ prints_pair a b ws vs p q =
     let whole = prints_blank (a ++ (44 ∷ 32 ∷ b)) (ws ++ ((44 ∷ []) ∷ vs)) (prints_both a (44 ∷ 32 ∷ b) ws ((44 ∷ []) ∷ vs) p second comma.no_word) in
     subst (λ (text : List ℕ). Prints text (ws ++ ((44 ∷ []) ∷ vs))) (sym (append_assoc (32 ∷ a) (44 ∷ 32 ∷ []) b)) whole
 
--- behind that, one part more
+-- after that, one part more
 pub prints_third : (a b : List ℕ) (ws vs : List (List ℕ)) → Prints a ws → Prints b vs → Prints (a ++ codes ", " ++ b) (ws ++ ((44 ∷ []) ∷ vs))
 prints_third a b ws vs p q =
     let second = prints_mark 44 (32 ∷ b) vs comma (prints_blank b vs q) in

@@ -129,7 +129,7 @@ abbrev begins_blank : List ℕ → Bool
 begins_blank [] = false
 begins_blank (b ∷ bytes) = is_blank b
 
--- what stands behind the blanks begins with none
+-- what follows the blanks begins with none
 pub no_blank_behind : (line : List ℕ) → begins_blank (behind_blanks line) ≡ false
 no_blank_behind [] = refl
 no_blank_behind (b ∷ bytes) =

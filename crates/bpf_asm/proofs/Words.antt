@@ -189,7 +189,7 @@ bytes_are_hexadecimal : (bytes : List ℕ) → AreBytes bytes → list_all is_he
 bytes_are_hexadecimal [] h = refl
 bytes_are_hexadecimal (b ∷ bytes) h = rw (digit_is_hexadecimal (b / 16) (high_digit b h.0), digit_is_hexadecimal (b % 16) (low_digit b)) (bytes_are_hexadecimal bytes h.1)
 
--- the number whose bytes these are behind those of the number so far
+-- the number whose bytes these are after those of the number so far
 abbrev bytes_after : ℕ → List ℕ → ℕ
 bytes_after value [] = value
 bytes_after value (b ∷ bytes) = bytes_after (value * 256 + b) bytes

@@ -49,7 +49,7 @@ abbrev pub is_before : ℕ → Option Label → Bool
 is_before line None = false
 is_before line (Some label) = nat_lt label.line line
 
--- what an instruction line says, by what stands behind its mnemonic, by its mnemonic, and by its first lexeme
+-- what an instruction line says, by what follows its mnemonic, by its mnemonic, and by its first lexeme
 abbrev pub of_form : Option (Result Insn LineFault) → Result (Option Insn) LineFault
 of_form None = Err WrongForm
 of_form (Some insn) = unless_faulty insn (λ i. Ok (Some i))
@@ -76,7 +76,7 @@ abbrev pub at_line : {A : Type 0} → ℕ → Result A LineFault → Result A As
 at_line line (Ok x) = Ok x
 at_line line (Err fault) = Err (At line fault)
 
--- what lines say one behind the other, or the fault of the first faulty one
+-- what lines say one after the other, or the fault of the first faulty one
 unfoldable pub said_in : (List ℕ → Option Label) → ℕ → ℕ → List (List ℕ) → Result (List Insn) AsmFault
 said_in labels line slot [] = Ok []
 said_in labels line slot (text ∷ texts) =

@@ -25,7 +25,7 @@ is_blank byte = (byte == 32) || (byte == 9)
 unfoldable pub is_mark : ℕ → Bool
 is_mark byte = (byte == 44) || (byte == 58) || (byte == 91) || (byte == 93) || (byte == 43) || (byte == 45)
 
--- `#`, behind which the rest of a line is a comment
+-- `#`, after which the rest of a line is a comment
 abbrev pub is_hash : ℕ → Bool
 is_hash byte = byte == 35
 

@@ -47,7 +47,7 @@ address_text base offset = codes "[" ++ register_text base ++ signed_text offset
 abbrev pub comma_text : List ℕ
 comma_text = codes ", "
 
--- what stands behind the name of an instruction
+-- what follows the name of an instruction
 abbrev pub operands_text : Insn → List ℕ
 operands_text (Alu width op dst src) = codes " " ++ register_text dst ++ comma_text ++ operand_text src
 operands_text (InPlace op dst) = codes " " ++ register_text dst

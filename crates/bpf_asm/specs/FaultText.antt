@@ -1,4 +1,4 @@
--- How a fault is printed: its number, and behind the faults of a line the line's number in decimal.
+-- How a fault is printed: its number, and after the faults of a line the line's number in decimal.
 use Rattle.std.specs.Prelude.{ℕ, List, ◌++◌, codes, decimal}
 use Rattle.bpf_asm.specs.declared.fault.LineFault.{LineFault}
 use Rattle.bpf_asm.specs.declared.fault.LineFault.TheVariants.{NoToken, NoMnemonic, WrongForm, OutOfRange, LabelDefinedBefore, MissingLabel}

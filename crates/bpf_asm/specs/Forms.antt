@@ -1,5 +1,5 @@
--- What stands behind each mnemonic, and the instruction that it makes: None where it is of another form, else the instruction or the
--- fault of a number or label in it. labels says where a label is, and next is the slot behind the instruction's.
+-- What follows each mnemonic, and the instruction that it makes: None where it is of another form, else the instruction or the
+-- fault of a number or label in it. labels says where a label is, and next is the slot after the instruction's.
 use Rattle.std.specs.Prelude.{ℕ, List, Option, Some, Result, Ok, bytes_eq, codes, if◌then◌else◌}
 use Rattle.bpf_insn.specs.declared.insn.Insn.{Insn}
 use Rattle.bpf_insn.specs.declared.insn.Insn.TheVariants.{Alu, InPlace, SignExtend, JumpIf, Jump, LoadImmediate, Load, Store, Call, Exit}

@@ -18,7 +18,7 @@ abbrev pub begins_word : List ℕ → Bool
 begins_word [] = false
 begins_word (byte ∷ bytes) = is_word byte
 
--- The lexemes of a line, from its end: a byte of a word continues the run behind it, or begins one.
+-- The lexemes of a line, from its end: a byte of a word continues the run after it, or begins one.
 unfoldable pub lexemes : List ℕ → List (List ℕ)
 lexemes [] = []
 lexemes (byte ∷ bytes) =

@@ -1,4 +1,4 @@
--- The names of the instructions. Where a name says a width, 32 is class ALU, 64 class ALU64; a jump's name has 32 behind it for class JMP32,
+-- The names of the instructions. Where a name says a width, 32 is class ALU, 64 class ALU64; a jump's name has 32 after it for class JMP32,
 -- and nothing for JMP (RFC 9669, sections 4 and 5).
 use Rattle.std.specs.Prelude.{ℕ, List, ◌++◌, Option, codes, bytes_eq, find}
 use Rattle.std.specs.Option.{option_or, option_map}

@@ -21,7 +21,7 @@ is_hexadecimal word = bytes_eq (take 2 word) (codes "0x") && nat_lt 0 (length (d
 unfoldable pub digit_of : ℕ → ℕ
 digit_of byte = if is_between 48 57 byte then byte - 48 else (if is_between 97 102 byte then byte - 87 else 0)
 
--- the number that digits write behind those of the number so far
+-- the number that digits write after those of the number so far
 abbrev pub value_after : ℕ → ℕ → List ℕ → ℕ
 value_after radix value [] = value
 value_after radix value (byte ∷ bytes) = value_after radix (value * radix + digit_of byte) bytes

@@ -1,4 +1,4 @@
--- Reading lexemes from the front: a reader answers what it read and the lexemes behind, or None where they are not of its form. A
+-- Reading lexemes from the front: a reader answers what it read and the lexemes after, or None where they are not of its form. A
 -- number or label that is read may still be at fault, by its range or as missing; that is told only of a line that is of its form.
 use Rattle.std.specs.Prelude.{◌^◌, ℕ, ℤ, pos, negsuc, neg_ℤ, ◌-ℤ◌, Bool, true, false, ◌&&◌, nat_lt, int_le, int_lt, List, [], ◌∷◌, Option, Some, None, Result, Ok, Err, bytes_eq, codes, if◌then◌else◌}
 use Rattle.bpf_insn.specs.Program.{is_frame_pointer}
@@ -29,7 +29,7 @@ first_in (word ∷ words) = Some (word, words)
 abbrev pub mark_in : ℕ → List (List ℕ) → Option (List (List ℕ))
 mark_in mark words = first_in words >>= λ word. if is_the_mark mark word.0 then Some word.1 else None
 
--- nothing stands behind
+-- nothing stands after
 abbrev pub ended : {A : Type 0} → A → List (List ℕ) → Option A
 ended x [] = Some x
 ended x (word ∷ words) = None
@@ -61,7 +61,7 @@ number_in words = first_in words >>= λ word. number_of word.0 >>= λ value. Som
 abbrev pub name_in : List (List ℕ) → Option (List ℕ × List (List ℕ))
 name_in words = first_in words >>= λ word. if is_name word.0 then Some word else None
 
--- whether a `-` stands in front, and what stands behind it
+-- whether a `-` stands in front, and what follows it
 abbrev pub behind_minus : Option (List (List ℕ)) → List (List ℕ) → Bool × List (List ℕ)
 behind_minus None words = (false, words)
 behind_minus (Some behind) words = (true, behind)
@@ -134,7 +134,7 @@ address_in words =
     mark_in 91 words >>= λ words. register_in words >>= λ reg. signed_in reg.1 >>= λ number. mark_in 93 number.1 >>= λ words.
     Some ((reg.0, offset number.0), words)
 
--- how far the slot of a label is behind that of the next instruction
+-- how far the slot of a label is after that of the next instruction
 abbrev pub distance_to : ℕ → Option Label → Result ℤ LineFault
 distance_to next None = Err MissingLabel
 distance_to next (Some label) = Ok (pos label.slot -ℤ pos next)

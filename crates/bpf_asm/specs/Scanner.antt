@@ -15,7 +15,7 @@ blanks_len line = prefix_len is_blank line
 abbrev pub word_len : List ℕ → ℕ
 word_len bytes = prefix_len is_word bytes
 
--- what stands behind the blanks in front
+-- what follows the blanks in front
 abbrev pub behind_blanks : List ℕ → List ℕ
 behind_blanks line = drop (blanks_len line) line
 
@@ -24,7 +24,7 @@ unfoldable pub lexeme_len : List ℕ → ℕ
 lexeme_len [] = 0
 lexeme_len (byte ∷ bytes) = if is_hash byte then 0 else (if is_word byte then word_len (byte ∷ bytes) else 1)
 
--- The first lexeme of a line is this one, and this stands behind it: so where it ends is told by the lengths.
+-- The first lexeme of a line is this one, and this stands after it: so where it ends is told by the lengths.
 pub record IsFirstSpan (line word rest : List ℕ) : Type 0 where
   pub not_empty : 0 < length word
   pub shorter : length word + length rest ≤ length line

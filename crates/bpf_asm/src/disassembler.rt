@@ -91,7 +91,7 @@ fn put_dst_comma(text: &mut String, dst: Reg) -> Result<(), AllocError>
     text.push_str(", ")
 }
 
-// What stands behind the name.
+// What follows the name.
 fn put_operands(text: &mut String, insn: Insn) -> Result<(), AllocError>
     ensures printed { OnOk result (string_bytes text.new ≡ string_bytes text.old ++ operands_text insn) }
     ensures numbers { HasNumbers insn }

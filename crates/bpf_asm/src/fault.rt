@@ -10,7 +10,7 @@ pub enum LineFault {
     NoToken,
     /// A2: the line is no label line, and does not begin with a mnemonic.
     NoMnemonic,
-    /// A3: what stands behind the mnemonic is not of its form, or names the frame pointer R10 as the register to write.
+    /// A3: what follows the mnemonic is not of its form, or names the frame pointer R10 as the register to write.
     WrongForm,
     /// A4: a number is out of its range, or a label is too far away.
     OutOfRange,

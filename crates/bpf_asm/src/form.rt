@@ -1,4 +1,4 @@
-// ReadsAs what stands behind each mnemonic, and makes the instruction. None is a line of another form; an error is the fault of a number or
+// Reads what follows each mnemonic, and makes the instruction. None is a line of another form; an error is the fault of a number or
 // a label in a line of this form.
 
 ghost use Rattle.std.specs.Prelude.{◌≡◌, Ok};
@@ -151,7 +151,7 @@ fn helper(line: &[u8]) -> Option<Made>
     Some(number.map(|number| Insn::Call(Callee::Helper(number))))
 }
 
-// `T`, as an imm, behind `local`.
+// `T`, as an imm, after `local`.
 #[tactic(auto, unfolding(crate::specs::Forms::local_in))]
 fn local(labels: &Labels, next: usize, line: &[u8]) -> Option<Made>
     ensures made { result ≡ local_in (label_at labels.now) next (lexemes line.now) }
@@ -253,7 +253,7 @@ fn load_immediate(line: &[u8]) -> Option<Made>
     Some(value.map(|value| Insn::LoadImmediate { dst, value }))
 }
 
-/// What stands behind a mnemonic, as the instruction that it makes. `next` is the slot behind it.
+/// What follows a mnemonic, as the instruction that it makes. `next` is the slot after it.
 pub fn read_insn(labels: &Labels, next: usize, mnemonic: Mnemonic, line: &[u8]) -> Option<Made>
     ensures made { result ≡ insn_in (label_at labels.now) next mnemonic (lexemes line.now) }
     ensures spares { Spares result }

@@ -47,7 +47,7 @@ fn word_len(bytes: &[u8]) -> usize
     len
 }
 
-/// The first line of a text that is not empty, and what stands behind its line feed.
+/// The first line of a text that is not empty, and what follows its line feed.
 pub fn first_line(text: &[u8]) -> (&[u8], &[u8])
     requires { 0 < length text.now }
     ensures lines { lines text.now ≡ result.0.now ∷ lines result.1.now }
@@ -62,7 +62,7 @@ pub fn first_line(text: &[u8]) -> (&[u8], &[u8])
     }
 }
 
-// What stands behind the blanks in front.
+// What follows the blanks in front.
 fn behind_blanks(line: &[u8]) -> &[u8]
     ensures { result.now ≡ behind_blanks line.now }
 {
@@ -82,7 +82,7 @@ fn lexeme_len(bytes: &[u8]) -> usize
     }
 }
 
-/// The first lexeme of a line, and what stands behind it.
+/// The first lexeme of a line, and what follows it.
 pub fn first_lexeme(line: &[u8]) -> Option<(&[u8], &[u8])>
     ensures lexeme { ReadsAs (λ x. (x.0.now, lexemes x.1.now)) result (first_in (lexemes line.now)) }
     ensures none { IfNone result ((place : ℕ) → spans place line.now ≡ []) }

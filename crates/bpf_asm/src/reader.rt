@@ -1,4 +1,4 @@
-// ReadsAs parts of an instruction from the front of a line. A reader answers what it read and what stands behind it, and None where the
+// Reads parts of an instruction from the front of a line. A reader answers what it read and what stands after it, and None where the
 // line is not of its form. A number or a label that is read may still be at fault, which is told only of a line that is of its form.
 
 ghost use Rattle.std.specs.Prelude.{◌≡◌, false, Ok, IfSome};
@@ -80,7 +80,7 @@ pub fn read_name(line: &[u8]) -> Option<(&[u8], &[u8])>
     }
 }
 
-/// Whether a `-` stands in front, and what stands behind it.
+/// Whether a `-` stands in front, and what follows it.
 #[tactic(auto, unfolding(crate::specs::Reading::minus_in))]
 fn read_minus(line: &[u8]) -> (bool, &[u8])
     ensures { (result.0, lexemes result.1.now) ≡ minus_in (lexemes line.now) }
@@ -210,7 +210,7 @@ pub fn read_address(line: &[u8]) -> Option<((Reg, Result<i16, LineFault>), &[u8]
     Some(((base, offset(value)), rest))
 }
 
-// How far a label is behind the next instruction.
+// How far a label is after the next instruction.
 fn distance_to(next: usize, label: Option<Label>) -> Result<i128, LineFault>
     ensures { result ≡ distance_to next label }
 {

@@ -1,4 +1,4 @@
--- Bytes that are written behind others: the slots of one instruction more, and of a program's instructions in their order.
+-- Bytes that are written after others: the slots of one instruction more, and of a program's instructions in their order.
 use Rattle.std.proofs.Common.{◌≡◌, ◌≤◌, ℕ, zero, suc, ◌+◌, ◌*◌, List, [], ◌∷◌, ◌++◌, length, take, drop, Some, None, refl, sym, subst, ap, ◌∙◌, arith}
 use Rattle.std.proofs.Math.Seq.{drop-append_seam}
 use Rattle.std.proofs.lemmas.List.{length-append, drop-append-le, drop_all}
@@ -30,7 +30,7 @@ BeginsWith-append a t (first ∷ slots) h = (
   subst (λ (b : List ℕ). BeginsWith b slots) (sym (drop-append-le 8 a t h.0)) (BeginsWith-append (drop 8 a) t slots h.2),
 )
 
--- what stands behind a text is its rest
+-- what follows a text is its rest
 SpellsThen-append : (a t : List ℕ) (insns : List Insn) → SpellsThen a insns [] → SpellsThen (a ++ t) insns t
 SpellsThen-append a t [] h = ap (λ (b : List ℕ). b ++ t) h
 SpellsThen-append a t (i ∷ is) h = (
@@ -38,7 +38,7 @@ SpellsThen-append a t (i ∷ is) h = (
   subst (λ (b : List ℕ). SpellsThen b is t) (sym (drop-append-le (8 * length (slots_of i)) a t (length-spelled a i h.0))) (SpellsThen-append (behind_insn a i) t is h.1),
 )
 
--- the slots of one instruction behind those of others
+-- the slots of one instruction after those of others
 behind : (a t : List ℕ) (insns : List Insn) (insn : Insn) → SpellsThen a insns [] → SpellsInsn t insn → length t ≡ 8 * length (slots_of insn)
     → SpellsThen (a ++ t) (insns ++ insn ∷ []) []
 behind a t insns insn h spelled whole =

@@ -1,4 +1,4 @@
--- Bytes that spell instructions one behind the other.
+-- Bytes that spell instructions one after the other.
 use Rattle.std.proofs.Common.{◌≡◌, ◌≤◌, ℕ, ◌+◌, ◌*◌, List, [], ◌∷◌, ◌++◌, length, drop, Bool, true, false, le-ltb, nat_lt, Option, Some, None, if◌then◌else◌, refl, sym, subst, ap, ap₂, ◌∙◌, arith}
 use Rattle.std.proofs.lemmas.List.{append-nil, length-append, length-drop}
 use Rattle.std.proofs.lemmas.Grind.{flat_map-append}
@@ -33,7 +33,7 @@ one_insn bytes i j h k = sym (is_insn_from bytes i h) ∙ is_insn_from bytes j k
 there_is : (b : Bool) (behind : Fields) → b ≡ false → (if b then None else Some behind) ≡ Some behind
 there_is b behind h = rw h refl
 
--- rows behind the first slot are those of the slot behind it
+-- rows after the first slot are those of the slot after it
 are_behind : (bytes : List ℕ) (slots : List Fields) → 8 ≤ length bytes → BeginsWith (drop 8 bytes) slots → AreBehind (fields_behind bytes) slots
 are_behind bytes [] long h = tt
 are_behind bytes (second ∷ slots) long h =
@@ -46,7 +46,7 @@ no_fault_of_insn bytes i h spares =
     ap (λ (f : Fields). fault_of f (fields_behind bytes)) h.0.1
     ∙ no_fault_of_row i (fields_behind bytes) (are_behind bytes (further_rows i) h.0.0 h.0.2) spares
 
--- a slot behind is that of the rows behind
+-- a slot after is that of the rows after
 begins_behind : (bytes : List ℕ) (second : Fields) → nat_lt (length bytes) 16 ≡ false → fields_behind bytes ≡ Some second
     → (8 ≤ length (drop 8 bytes)) × (fields_of (drop 8 bytes) ≡ second)
 begins_behind bytes second long is =
@@ -127,7 +127,7 @@ none_is_not f found h k = cc
 not_both : (bytes : List ℕ) (i : Insn) (f : InsnFault) → SpellsInsn bytes i → writes_frame_pointer i ≡ false → fault_at bytes ≡ Some f → ⊥
 not_both bytes i f h spares fault = none_is_not f (fault_at bytes) fault (no_fault_of_insn bytes i h spares)
 
--- a fault behind instructions is not spelled
+-- a fault after instructions is not spelled
 pub no_fault_within : (bytes : List ℕ) (front : List Insn) (rest : List ℕ) (all : List Insn) (f : InsnFault)
     → SpellsThen bytes front rest → 8 ≤ length rest → fault_at rest ≡ Some f → SpellsThen bytes all [] → SparesFramePointer all → ⊥
 no_fault_within bytes [] rest [] f h long fault k spares = too_short rest (sym h ∙ k) long
@@ -138,7 +138,7 @@ no_fault_within bytes (i ∷ is) rest (j ∷ js) f h long fault k spares =
     let behind = subst (λ (x : Insn). SpellsThen (behind_insn bytes x) js []) (sym same) k.1 in
     no_fault_within (behind_insn bytes i) is rest js f h.1 long fault behind (or_parts _ _ spares).1
 
--- the first fault behind instructions is one
+-- the first fault after instructions is one
 pub one_first_fault : (bytes : List ℕ) (front : List Insn) (rest : List ℕ) (f : InsnFault) (front' : List Insn) (rest' : List ℕ) (g : InsnFault)
     → SpellsThen bytes front rest → SparesFramePointer front → fault_at rest ≡ Some f
     → SpellsThen bytes front' rest' → SparesFramePointer front' → fault_at rest' ≡ Some g

@@ -182,7 +182,7 @@ st = refl
 stx : known_of 3 ≡ 0x63 ∷ 0x6b ∷ 0x73 ∷ 0x7b ∷ []
 stx = refl
 
--- the fault of fields with no slot behind
+-- the fault of fields with no slot after
 abbrev fault_of_last : Fields → Option InsnFault
 fault_of_last f = fault_of f None
 
@@ -329,7 +329,7 @@ no_fault : map fault_of_last (
     []) ≡ replicate 23 None
 no_fault = refl
 
--- a 64-bit immediate with a slot behind
+-- a 64-bit immediate with a slot after
 with_slot_behind : map (fault_of (fields 0x18 3 0 (pos 0) (pos 5))) (
     Some (fields 0 0 0 (pos 0) (pos 7)) ∷  -- r3 = 0x700000005 ll
     Some (fields 1 0 0 (pos 0) (pos 7)) ∷  -- its first byte
@@ -354,7 +354,7 @@ has_fault_in_second_slot : HasFault (two_slots 0x01) (At 0 UnusedField)
 has_fault_in_second_slot =
     ((omega arith, refl, omega arith), record { insns = []; rest = two_slots 0x01; before = refl; spares = refl; slots = refl; here = omega arith; has = refl })
 
--- its first slot alone, behind exit
+-- its first slot alone, after exit
 has_no_second_slot : HasFault (0x95 ∷ replicate 7 0 ++ 0x18 ∷ 0x03 ∷ replicate 6 0) (At 1 CutShort)
 has_no_second_slot = (
   (omega arith, refl, omega arith),

@@ -1,4 +1,4 @@
--- How a fault is printed: its number, and behind the faults of an instruction the slot in decimal.
+-- How a fault is printed: its number, and after the faults of an instruction the slot in decimal.
 use Rattle.std.specs.Prelude.{ℕ, List, ◌++◌, codes, decimal}
 use Rattle.bpf_decode.specs.declared.fault.InsnFault.{InsnFault}
 use Rattle.bpf_decode.specs.declared.fault.InsnFault.TheVariants.{UnknownOpcode, OutsideProfile, NoSuchRegister, UnusedField, NoSuchForm, CutShort, FramePointer}

@@ -1,4 +1,4 @@
--- The faults of one instruction, by the fields of its first slot and of the slot behind it, each a test of its own, in the
+-- The faults of one instruction, by the fields of its first slot and of the slot after it, each a test of its own, in the
 -- classes, codes, modes and sizes of RFC 9669, sections 3.3, 4 and 5. They do not rely on `Spells`.
 use Rattle.std.specs.Prelude.{ℕ, ℤ, pos, ◌%◌, ◌/◌, Bool, true, false, not, ◌&&◌, ◌||◌, ◌==◌, nat_lt, nat_le, List, [], ◌∷◌, Option, Some, None, is_none, if◌then◌else◌}
 use Rattle.std.specs.List.{list_any}

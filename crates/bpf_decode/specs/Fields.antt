@@ -15,6 +15,6 @@ fields_of bytes = record {
   imm = cast_signed w32 (little_from 4 4 bytes);
 }
 
--- the fields of the slot behind that one, where there is one
+-- the fields of the slot after that one, where there is one
 abbrev pub fields_behind : List ℕ → Option Fields
 fields_behind bytes = if nat_lt (length bytes) 16 then None else Some (fields_of (drop 8 bytes))

@@ -68,12 +68,12 @@ callee_in f = if f.src == 1 then Local f.imm else Helper f.imm
 abbrev pub word_of : ℤ → ℤ → ℕ
 word_of low high = cast_unsigned w32 high * 2 ^ 32 + cast_unsigned w32 low
 
--- the slots behind the first have these fields
+-- the slots after the first have these fields
 abbrev pub AreBehind : Option Fields → List Fields → Type 0
 AreBehind behind [] = Unit {0}
 AreBehind behind (second ∷ further) = behind ≡ Some second
 
--- the fields of the first slot, and of the one behind it, are the rows of this instruction
+-- the fields of the first slot, and of the one after it, are the rows of this instruction
 abbrev pub IsSpelled : Fields → Option Fields → Insn → Type 0
 IsSpelled f behind insn = (f ≡ row insn) × AreBehind behind (further_rows insn) × HasWord insn
 

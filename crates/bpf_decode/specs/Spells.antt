@@ -153,7 +153,7 @@ row (Call (Helper number)) = record { opcode = opcode_of 0x8 0 5; dst = 0; src =
 row (Call (Local distance)) = record { opcode = opcode_of 0x8 0 5; dst = 0; src = 1; offset = pos 0; imm = distance }
 row Exit = record { opcode = opcode_of 0x9 0 5; dst = 0; src = 0; offset = pos 0; imm = pos 0 }
 
--- The rows of the slots behind the first: a 64-bit constant has one, whose imm is its high half (section 5.4).
+-- The rows of the slots after the first: a 64-bit constant has one, whose imm is its high half (section 5.4).
 abbrev pub further_rows : Insn → List Fields
 further_rows (LoadImmediate dst value) = record { opcode = 0; dst = 0; src = 0; offset = pos 0; imm = high_half value } ∷ []
 further_rows (Alu width op dst src) = []
@@ -192,11 +192,11 @@ BeginsWith bytes (fields ∷ behind) = (8 ≤ length bytes) × (fields_of bytes 
 abbrev pub SpellsInsn : List ℕ → Insn → Type 0
 SpellsInsn bytes insn = BeginsWith bytes (rows insn) × HasWord insn
 
--- what is left of bytes behind the slots of this instruction, 8 bytes each
+-- what is left of bytes after the slots of this instruction, 8 bytes each
 abbrev pub behind_insn : List ℕ → Insn → List ℕ
 behind_insn bytes insn = drop (8 * length (slots_of insn)) bytes
 
--- The bytes begin with the slots of these instructions, one behind the other, and the rest is left.
+-- The bytes begin with the slots of these instructions, one after the other, and the rest is left.
 abbrev pub SpellsThen : List ℕ → List Insn → List ℕ → Type 0
 SpellsThen bytes [] rest = bytes ≡ rest
 SpellsThen bytes (insn ∷ insns) rest = SpellsInsn bytes insn × SpellsThen (behind_insn bytes insn) insns rest

@@ -9,7 +9,7 @@ use crate::row::{row, second_row};
 use bpf_insn::{Insn, Program};
 use std::alloc::{AllocError, Global};
 
-/// Writes the slots of an instruction behind those of others.
+/// Writes the slots of an instruction after those of others.
 fn push(bytes: &mut Vec<u8>, insn: Insn) -> Result<(), AllocError>
     ensures spelled { OnOk result ((insns : List Insn) → SpellsThen bytes.old.items insns [] →
         SpellsThen bytes.new.items (insns ++ insn ∷ []) []) }

@@ -117,7 +117,7 @@ impl Fields {
         }
     }
 
-    /// The fields of the slot behind that one, if there is one.
+    /// The fields of the slot after that one, if there is one.
     pub fn behind(bytes: &[u8]) -> Option<Self>
         ensures { result ≡ fields_behind bytes.now }
     {

@@ -65,7 +65,7 @@ words_in kind Exit = packed kind 0 R0 0 0 ∷ 0 ∷ []
 abbrev pub words_of : Insn → List ℕ
 words_of i = words_in (tag_of insn.the_type i) i
 
--- the words of instructions, one behind the other
+-- the words of instructions, one after the other
 abbrev pub words_of_all : List Insn → List ℕ
 words_of_all insns = flat_map words_of insns
 

@@ -197,7 +197,7 @@ pub enum Insn {
         dst: Reg,
         src: Reg,
     },
-    /// Where the condition holds of `dst` and `src`, goes on `offset` slots behind the next
+    /// Where the condition holds of `dst` and `src`, goes on `offset` slots after the next
     /// instruction, and else at the next instruction.
     JumpIf {
         width: Width,
@@ -206,7 +206,7 @@ pub enum Insn {
         src: Operand,
         offset: i16,
     },
-    /// Goes on that far behind the next instruction.
+    /// Goes on that far after the next instruction.
     Jump(Distance),
     /// `dst` is a constant of 64 bits. It takes two slots (RFC 9669, section 5.4).
     LoadImmediate {

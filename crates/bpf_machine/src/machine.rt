@@ -27,7 +27,7 @@ use bpf_stack_frame::{Frames, same_bytes};
 use helpers::{Answer, ArgKind, Arguments, Change, Helper, Request, Tells, Written};
 use std::marker::Model;
 
-/// The frame pointer of the outermost frame: behind its last byte.
+/// The frame pointer of the outermost frame: after its last byte.
 const FRAME_POINTER: u64 = FRAME_ADDRESS + FRAME_BYTES;
 
 /// A machine: where a program stands, its registers, the context that it reads, and what its run has.

@@ -21,7 +21,7 @@ const CONTEXT_BYTES: u64 = 96;
 /// Where the outermost frame begins.
 pub const FRAME_ADDRESS: u64 = 0x2000_0000;
 
-/// How far behind a frame the next one begins.
+/// How far after a frame the next one begins.
 pub const FRAME_DISTANCE: u64 = 0x1000;
 
 /// How many bytes a frame has.
@@ -67,7 +67,7 @@ pub fn store(size: StoreSize, frames: &mut Frames, address: u64, word: u64)
     }
 }
 
-// How far behind the context's start so many bytes begin, where they lie in it.
+// How far after the context's start so many bytes begin, where they lie in it.
 #[inline(always)]
 fn in_context(address: u64, bytes: u64) -> Option<usize>
     requires { bytes ≤ 8 }
@@ -86,7 +86,7 @@ fn in_context(address: u64, bytes: u64) -> Option<usize>
 pub struct FramePlace {
     /// The frame, the outermost being 0.
     pub frame: usize,
-    /// How far behind its start they begin.
+    /// How far after its start they begin.
     pub offset: usize,
 }
 

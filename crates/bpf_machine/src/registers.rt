@@ -1,5 +1,5 @@
 // The registers of a machine, in a place of fixed size: a word for each, and beside the words which are written, so
-// that an instruction reads and writes words and tests nothing. Behind the words is one that is always 0, the source of a
+// that an instruction reads and writes words and tests nothing. After the words is one that is always 0, the source of a
 // row that has a constant. It relies on `bpf_insn` for the registers' names and for rows.
 
 ghost use Rattle.std.specs.Prelude.{◌≡◌, ◌≤◌, ◌↔◌, IsTrue, ◌∷◌, ◌++◌, Some, None, [], drop, pos, replicate, take, slice_index_or, slice_set, length};
@@ -19,7 +19,7 @@ const ZERO: usize = 11;
 /// The registers R0 to R10. Contracts see the list, in which an unwritten register is `None`.
 #[derive(Clone, Copy, Debug, PartialEq, Eq)]
 pub struct Registers {
-    // 0 where nothing is written, and behind the registers
+    // 0 where nothing is written, and after the registers
     words: [u64; 12],
     written: [bool; 11],
 }
@@ -116,7 +116,7 @@ impl Registers {
         self.source_word(row)
     }
 
-    // The word of a row's source, and the 0 behind the registers where it has none.
+    // The word of a row's source, and the 0 after the registers where it has none.
     #[inline(always)]
     fn source_word(&self, row: &Row) -> u64
         requires { row.now.src ≤ no_source }
@@ -136,7 +136,7 @@ impl Registers {
         self.written[index] = true;
     }
 
-    /// Writes the word behind the registers, which is 0 already, so nothing changes. It is for a jump that is taken: what
+    /// Writes the word after the registers, which is 0 already, so nothing changes. It is for a jump that is taken: what
     /// writes is not done ahead, so the processor guesses the jump and does not wait for what it compares.
     #[inline(always)]
     pub fn write_zero(&mut self)

@@ -151,7 +151,7 @@ movsx_of_unwritten_stuck : is_stuck (one (SignExtend From8To64 R2 R3)) limits wi
 unfolding row_of
 movsx_of_unwritten_stuck = refl
 
--- R2 is 0: two slots behind the next instruction
+-- R2 is 0: two slots after the next instruction
 jump_taken : private_step two_paths without_freeze ≡ Some (moved_to without_freeze 3)
 jump_taken = refl
 
@@ -270,7 +270,7 @@ exit_without_result : is_stuck (one Exit) limits (record without_freeze { dispos
 unfolding row_of
 exit_without_result = refl
 
--- behind the last instruction there is none
+-- after the last instruction there is none
 behind_the_end : is_stuck (one Exit) limits (moved_to (done 0) 1) ≡ true
 unfolding row_of
 behind_the_end = refl

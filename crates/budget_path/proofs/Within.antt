@@ -109,8 +109,8 @@ caller_of program (suc n) slot e = elim (or_cases (option_map_or (λ to. to == s
   | inr earlier ↦ caller_of program n slot earlier
 ]
 
--- Written out, no function has more instructions than slot 0's: that comes to it by its callers, of which each stands behind what
--- it calls. It goes by how many functions may stand behind.
+-- Written out, no function has more instructions than slot 0's: that comes to it by its callers, of which each stands after what
+-- it calls. It goes by how many functions may stand after.
 function_within : (left : ℕ) (program : List Slot) (order : List ℕ) (count : ℕ) → IsProgram program → IsCallingOrder program order → IsWrittenOut program 0 count → (deep start : ℕ) → is_start program start ≡ true → start < length program → ((i : ℕ) → slice_get order i ≡ Some start → length order ≤ i + left) → written_out deep program start ≤ count
 function_within zero program order count is ordered written deep start starts inside late =
     let stands = ordered.all start inside starts in

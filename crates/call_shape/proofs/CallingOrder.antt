@@ -54,7 +54,7 @@ stood_at : (program : List Slot) (places : List ℕ) (j slot : ℕ) → slice_ge
 stood_at program [] j slot at = absurd cc
 stood_at program (place ∷ places) j slot at = stood_later (is_start program place) program place places refl (λ k other there. stood_at program places k other there) j slot at
 
--- the start of a function stands behind all its places, and so behind what they call
+-- the start of a function stands after all its places, and so after what they call
 callee_before : (program : List Slot) (places : List ℕ) (i place callee : ℕ) → IsPostorder program places (length places) → slice_get places i ≡ Some (function_of program place) → function_of program (function_of program place) ≡ function_of program place → callee_at program place ≡ Some callee → StandsBefore places i callee
 callee_before program places i place callee order at own leads =
     let lt : i < length places = slice_get_within places i (function_of program place) at in

@@ -23,7 +23,7 @@ target_there program place to insn at leads = ap (option_and_then (target_in pla
 pub callee_there : (program : List Slot) (place callee : ℕ) (insn : Insn) → insn_at program place ≡ Some insn → callee_in place insn ≡ Some callee → callee_at program place ≡ Some callee
 callee_there program place callee insn at leads = ap (option_and_then (callee_in place)) at ∙ leads
 
--- behind an instruction that goes on its function goes on too
+-- after an instruction that goes on its function goes on too
 pub goes_on_inside : (program : List Slot) (place : ℕ) (insn : Insn) → AreEnded program → insn_at program place ≡ Some insn → goes_on_behind insn ≡ true → (behind place insn < length program) × (is_start program (behind place insn) ≡ false)
 goes_on_inside program place insn ends at goes =
     let closed = at_some (λ i. goes_on_behind i && is_function_end program (behind place i)) (insn_at program place) insn at (ends.ended place) in

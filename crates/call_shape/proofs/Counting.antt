@@ -82,7 +82,7 @@ rest_count program next entry known = elim (cases_Bool (is_function_end program 
       }
 ]
 
--- a place's count is that of what it calls and that from behind it, and one more
+-- a place's count is that of what it calls and that from after it, and one more
 count_by : (program : List Slot) (counts : List ℕ) (place : ℕ) (insn : Insn) → IsProgram program → insn_at program place ≡ Some insn → ((start : ℕ) → callee_in place insn ≡ Some start → is_start program start ≡ true × IsCount program start (slice_index counts start)) → (is_function_end program (behind place insn) ≡ false → IsCount program (behind place insn) (slice_index counts (behind place insn))) → IsCount program place (count_on program counts place insn)
 count_by program counts place insn is at called rest =
     let inner = calls_count program (callee_in place insn) counts called in

@@ -13,7 +13,7 @@ use Rattle.call_shape.proofs.Contained.{target_there, callee_there, goes_on_begi
 contained_in : (program : List Slot) → IsLawful program → AreContained program
 contained_in program lawful = lawful.frames.calls.functions
 
--- behind an instruction that goes on there is one
+-- after an instruction that goes on there is one
 pub goes_on_lawfully : (program : List Slot) (place : ℕ) (insn : Insn) → IsProgram program → IsLawful program → insn_at program place ≡ Some insn → goes_on_behind insn ≡ true → begins program (behind place insn) ≡ true
 goes_on_lawfully program place insn is lawful at goes =
     goes_on_begins program place insn is (contained_in program lawful).calls.jumps.targets.targets.ends at goes
@@ -33,7 +33,7 @@ calls_lawfully program place callee insn is lawful at leads =
 runs_out : (program : List Slot) (place : ℕ) (insn : Insn) → AreContained program → behind place insn ≡ length program → insn_at program place ≡ Some insn → goes_on_behind insn ≡ true → ⊥
 runs_out program place insn functions last at goes = omega (arith, last, (goes_on_inside program place insn functions.calls.jumps.targets.targets.ends at goes).0)
 
--- the last instruction is an exit: from any other it would go on behind the program
+-- the last instruction is an exit: from any other it would go on after the program
 exit_last : (program : List Slot) (place : ℕ) (insn : Insn) → AreContained program → behind place insn ≡ length program → insn_at program place ≡ Some insn → (place + 1 ≡ length program) × (insn ≡ Exit)
 exit_last program place Exit functions last at = (last, refl)
 exit_last program place (Jump distance) functions last at =

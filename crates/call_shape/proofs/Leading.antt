@@ -1,5 +1,5 @@
--- Where control may come: ways put one behind the other, ways under calls that are open outside, and those through a function
--- and back behind its call.
+-- Where control may come: ways put one after the other, ways under calls that are open outside, and those through a function
+-- and back after its call.
 use Rattle.std.proofs.Common.{ℕ, zero, suc, List, ◌∷◌, inl, inr}
 use Rattle.bpf_insn.specs.declared.program.Slot.{Slot}
 use Rattle.call_shape.specs.StaticPath.{Standing, outermost, PathLeads, StaticPath, starts, goes_on}

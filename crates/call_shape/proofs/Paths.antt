@@ -1,4 +1,4 @@
--- Static paths put one behind the other, and taken apart. So all that is said of paths is said of those from slots of the
+-- Static paths put one after the other, and taken apart. So all that is said of paths is said of those from slots of the
 -- outermost function.
 use Rattle.std.proofs.Common.{◌≡◌, ℕ, zero, suc, ◌+◌, ◌≤◌, max, List, [], ◌∷◌, ◌++◌, length, Option, Some, refl, ap, sym, subst, ◌∙◌, arith, inl, inr, ◌⊎◌, length-append}
 use Rattle.bpf_insn.specs.declared.insn.Insn.{Insn}
@@ -97,7 +97,7 @@ exit_returns at insn return outer end =
     subst (λ (i : Insn). StepLeadsTo (under at (return ∷ outer)) i (back return outer)) (sym end.0)
     (subst (λ (rs : List ℕ). ReturnsTo (rs ++ return ∷ outer) (back return outer)) (sym end.1) refl)
 
--- a path to the end of a function, and then one from behind its call
+-- a path to the end of a function, and then one from after its call
 pub joined : (program : List Slot) (n m : ℕ) (at : Standing) (return : ℕ) (outer : List ℕ) (d e : ℕ) → HasPath program at n d → HasPath program (back return outer) m e → HasPath program (under at (return ∷ outer)) (n + m) (max (d + length outer + 1) e)
 joined program zero m at return outer d e inner after = absurd inner.0
 joined program (suc n) m at return outer d e ((insn, is, inl end), deep) after =
@@ -167,7 +167,7 @@ parted program (suc k) at return outer d ((insn, is, inr (to, leads, rest)), dee
           }
     ]
 
--- a path through a function that is called, and one from behind the call
+-- a path through a function that is called, and one from after the call
 pub record CallsOut (program : List Slot) (callee next n d : ℕ) : Type 0 where
   pub inner : ℕ
   pub inner_depth : ℕ

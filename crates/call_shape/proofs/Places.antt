@@ -8,7 +8,7 @@ use Rattle.bpf_insn.specs.Program.{IsProgram, insn_at, insns_in, is_wide, furthe
 use Rattle.call_shape.specs.Calls.{begins}
 use Rattle.call_shape.specs.Shape.{behind}
 
--- no instruction is behind a program's end
+-- no instruction is after a program's end
 pub past_end : (program : List Slot) (k : ℕ) → length program ≤ k → insn_at program k ≡ None
 past_end [] k le = refl
 past_end (s ∷ ss) zero le = absurd (omega arith)
@@ -37,7 +37,7 @@ skipped : (wide : Bool) (insn : Insn) (rest : List Slot) (k : ℕ) → insn_at (
 skipped true insn rest k = ap (insn_at (spread true insn ++ rest)) (let e : 2 + k ≡ suc (suc k) = omega arith in e)
 skipped false insn rest k = ap (insn_at (spread false insn ++ rest)) (let e : 1 + k ≡ suc k = omega arith in e)
 
--- what stands behind an instruction's first slot belongs to what follows it
+-- what follows an instruction's first slot belongs to what follows it
 later : (wide : Bool) (first : Insn) (rest : List Slot) (k : ℕ) (insn : Insn) → insn_at (spread wide first ++ rest) (suc k) ≡ Some insn → (j : ℕ) × (insn_at rest j ≡ Some insn) × (suc k ≡ length (spread wide first) + j)
 later true first rest zero insn e = absurd cc
 later true first rest (suc k) insn e = (k, e, omega arith)
@@ -62,7 +62,7 @@ seam_later wide first rest place j is (inr here) = inr (rw is (ap is_some (skipp
 same_insn : (a b : Insn) → Some a ≡ Some b → b ≡ a
 same_insn a b e = let same : a ≡ b = cc in sym same
 
--- behind an instruction of a layout is the next one or the end
+-- after an instruction of a layout is the next one or the end
 seam_behind : (insns : List Insn) (place : ℕ) (insn : Insn) → insn_at (layout insns) place ≡ Some insn → IsSeam (layout insns) (behind place insn)
 seam_behind [] place insn e = absurd cc
 seam_behind (first ∷ rest) zero insn e =
@@ -112,7 +112,7 @@ behind_cases place insn = elim (by_width (is_wide insn) insn) [
   | inr two ↦ inr (omega (arith, two.0), two.1)
 ]
 
--- the last instruction, behind which a layout ends
+-- the last instruction, after which a layout ends
 abbrev HasLast : List Slot → Type 0
 HasLast slots = (place : ℕ) × (insn : Insn) × (insn_at slots place ≡ Some insn) × (behind place insn ≡ length slots)
 

@@ -16,7 +16,7 @@ use Rattle.call_shape.specs.Shape.{is_open_end, is_outside, is_split, is_backwar
 abbrev answer : Insn
 answer = Alu Bits64 Mov R0 (Immediate (pos 0))
 
--- nothing behind the last instruction
+-- nothing after the last instruction
 runs_out : is_open_end (layout (answer ∷ [])) 0 ≡ true
 runs_out = refl
 

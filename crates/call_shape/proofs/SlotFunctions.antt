@@ -74,7 +74,7 @@ start_begins program start is starts = elim (or_cases (start == 0) (begins progr
 no_start : (program : List Slot) (slot : ℕ) → insn_at program (suc slot) ≡ None → is_start program (suc slot) ≡ false
 no_start program slot none = or_from (suc slot == 0) _ (ne_eqb (suc slot) 0 (λ e. absurd (omega (arith, e)))) (and_left (begins program (suc slot)) _ (ap is_some none))
 
--- the slots of an instruction and what stands behind it are of one function, where none starts there
+-- the slots of an instruction and what follows it are of one function, where none starts there
 pub function_behind : (program : List Slot) (place : ℕ) (insn : Insn) → IsProgram program → insn_at program place ≡ Some insn → is_start program (behind place insn) ≡ false → function_of program (behind place insn) ≡ function_of program place
 function_behind program place insn is at further = elim (behind_cases place insn) [
   | inl one ↦ ap (function_of program) one ∙ same_function program place (sym (ap (is_start program) one) ∙ further)
@@ -91,7 +91,7 @@ start_test program (suc slot) = elim (cases_Bool (is_start program (suc slot))) 
   | inr further ↦ further ∙ sym (ne_eqb _ _ (λ e. absurd (omega (arith, e, same_function program slot further, function_before program slot))))
 ]
 
--- what lies behind a program counts to its last function
+-- what lies after a program counts to its last function
 function_past : (program : List Slot) (slot : ℕ) → 0 < length program → length program ≤ slot + 1 → function_of program slot ≡ function_of program (length program - 1)
 function_past program zero some le = ap (function_of program) (let e : 0 ≡ length program - 1 = omega arith in e)
 function_past program (suc slot) some le = elim (cases_lt (suc slot) (length program)) [
@@ -109,7 +109,7 @@ function_clamped program slot some = elim (cases_lt slot (length program)) [
 pub end_test : (program : List Slot) (slot function : ℕ) → slot < length program → function ≡ function_of program slot → eqb function slot ≡ (leb (length program) slot || is_start program slot)
 end_test program slot function lt is = ap (λ (f : ℕ). eqb f slot) is ∙ sym (start_test program slot) ∙ ap (λ (b : Bool). b || is_start program slot) (sym (lt-leb (length program) slot lt))
 
--- behind the slots of a function that stand together there is none of it
+-- after the slots of a function that stand together there is none of it
 pub ends_before : (program : List Slot) (function stop slot : ℕ) → function < stop → ((k : ℕ) → function ≤ k → k < stop → function_of program k ≡ function) → (function_of program stop ≡ function → ⊥) → function_of program slot ≡ function → slot < stop
 ends_before program function zero slot some own other of = absurd (omega (arith, some))
 ends_before program function (suc stop) slot some own other of = elim (cases_lt slot (suc stop)) [

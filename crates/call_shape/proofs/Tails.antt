@@ -70,7 +70,7 @@ tail_of_start deep program start starts =
           ∙ sym (cond-false (eqb (function_of program k) start) (weight deep program k) 0 (ne_eqb _ _ other))
     ])
 
--- between a place and what is behind its instruction nothing counts
+-- between a place and what is after its instruction nothing counts
 nothing_between : (deep : ℕ) (program : List Slot) (place k : ℕ) (insn : Insn) → IsProgram program → insn_at program place ≡ Some insn → place < k → k < behind place insn → weight deep program k ≡ 0
 nothing_between deep program place k insn is at after before = elim (behind_cases place insn) [
   | inl one ↦ absurd (omega (arith, one, after, before))
@@ -79,7 +79,7 @@ nothing_between deep program place k insn is at after before = elim (behind_case
       ap (weight deep program) here ∙ ap (count_at (written_out deep program) (suc place)) (none_in_second program place insn is at two.1)
 ]
 
--- the places behind count as they did, where their function goes on
+-- the places after count as they did, where their function goes on
 tail_on : (deep : ℕ) (program : List Slot) (place : ℕ) (insn : Insn) → IsProgram program → insn_at program place ≡ Some insn → is_function_end program (behind place insn) ≡ false → tail deep program place ≡ weight deep program place + tail deep program (behind place insn)
 tail_on deep program place insn is at on =
     let next : ℕ = behind place insn in
@@ -123,7 +123,7 @@ tail_end deep program place insn is at ends =
     (omega (arith, counts_there deep program place (function_of program place) place (omega arith) refl)) in
     omega (arith, one, nothing_left (length program))
 
--- what is left behind an instruction in its function
+-- what is left after an instruction in its function
 abbrev pub rest_behind : ℕ → List Slot → ℕ → ℕ
 rest_behind deep program next = cond (is_function_end program next) 0 (tail deep program next)
 

@@ -67,7 +67,7 @@ pub record StandsBefore (order : List ℕ) (n slot : ℕ) : Type 0 where
   pub before : index < n
   pub there : slice_get order index ≡ Some slot
 
--- All functions in an order in which each stands behind those that it calls. So no chain of calls comes back.
+-- All functions in an order in which each stands after those that it calls. So no chain of calls comes back.
 pub record IsCallingOrder (program : List Slot) (order : List ℕ) : Type 0 where
   pub starts : (i slot : ℕ) → slice_get order i ≡ Some slot → is_start program slot ≡ true
   pub all : (slot : ℕ) → slot < length program → is_start program slot ≡ true → StandsBefore order (length order) slot

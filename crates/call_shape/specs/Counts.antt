@@ -12,7 +12,7 @@ use Rattle.call_shape.specs.declared.lawful_shape.TheConstants.{MAX_WRITTEN_OUT}
 abbrev pub capped : ℕ → ℕ
 capped count = min count (MAX_WRITTEN_OUT + 1)
 
--- those from a place to the end of its function, by those from behind it and those of what it calls
+-- those from a place to the end of its function, by those from after it and those of what it calls
 abbrev pub count_on : List Slot → List ℕ → ℕ → Insn → ℕ
 count_on program counts place insn =
     capped ((if is_function_end program (behind place insn) then 0 else slice_index counts (behind place insn)) + option_map_or (slice_index counts) (callee_in place insn) 0 + 1)

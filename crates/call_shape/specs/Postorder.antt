@@ -1,4 +1,4 @@
--- The order in which places are settled: each place behind all that control may reach from it. Then what is asked of a
+-- The order in which places are settled: each place after all that control may reach from it. Then what is asked of a
 -- place is known of all those on which it rests.
 use Rattle.std.specs.Prelude.{◌≡◌, ℕ, ◌<◌, true, List, length, Some, slice_get}
 use Rattle.bpf_insn.specs.declared.program.Slot.{Slot}
@@ -8,7 +8,7 @@ use Rattle.call_shape.specs.Calls.{begins, callee_at, function_of, StandsBefore}
 unfoldable pub StandOnce : List ℕ → ℕ → Type 0
 StandOnce places n = (i place : ℕ) → i < n → slice_get places i ≡ Some place → StandsBefore places i place → ⊥
 
--- of the first n places of a list none stands twice, and each stands behind the later ones of its function, and behind the
+-- of the first n places of a list none stands twice, and each stands after the later ones of its function, and after the
 -- start of what it calls
 pub record IsPostorder (program : List Slot) (places : List ℕ) (n : ℕ) : Type 0 where
   pub begun : (i place : ℕ) → i < n → slice_get places i ≡ Some place → begins program place ≡ true

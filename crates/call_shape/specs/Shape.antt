@@ -31,7 +31,7 @@ target_in place Exit = None
 abbrev pub target_at : List Slot → ℕ → Option ℕ
 target_at program place = option_and_then (target_in place) (insn_at program place)
 
--- nothing goes on behind an exit and behind an unconditional jump
+-- nothing goes on after an exit and after an unconditional jump
 abbrev pub goes_on_behind : Insn → Bool
 goes_on_behind Exit = false
 goes_on_behind (Jump distance) = false
@@ -44,7 +44,7 @@ goes_on_behind (Load form dst src offset) = true
 goes_on_behind (Store size dst src offset) = true
 goes_on_behind (Call callee) = true
 
--- the slot behind an instruction
+-- the slot after an instruction
 abbrev pub behind : ℕ → Insn → ℕ
 behind place insn = place + length (slots_of insn)
 

@@ -22,7 +22,7 @@ outermost slot = record { slot = slot; returns = [] }
 abbrev pub moved : Standing → ℕ → Standing
 moved at slot = record at { slot = slot }
 
--- at the start of a function that is called there, and that returns to behind its call
+-- at the start of a function that is called there, and that returns to after its call
 abbrev pub called : Standing → ℕ → Standing
 called at start = record { slot = start; returns = (at.slot + 1) ∷ at.returns }
 

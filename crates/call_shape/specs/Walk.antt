@@ -26,7 +26,7 @@ pub record IsOrderOf (program : List Slot) (order : Postorder) : Type 0 where
   pub fits : order.count ≤ MAX_SLOTS
   pub whole : IsWholePostorder program (take order.count order.places)
 
--- with a place more behind all others
+-- with a place more after all others
 abbrev pub with_place : Postorder → ℕ → Postorder
 with_place order place = record { places = slice_set order.places order.count place; count = order.count + 1 }
 

@@ -51,7 +51,7 @@ pub(crate) fn callee_at(program: &Program, place: usize) -> Option<usize>
     }
 }
 
-/// The slot behind the last one of the function that starts at a slot.
+/// The slot after the last one of the function that starts at a slot.
 pub(crate) fn function_end(
     program: &Program,
     functions: &[u16; MAX_SLOTS],
@@ -81,7 +81,7 @@ pub(crate) fn is_function_end(program: &Program, functions: &[u16; MAX_SLOTS], s
     program.len() <= slot || function_at(program, functions, slot) == slot
 }
 
-/// The function of a slot. What lies behind the program counts to its last one.
+/// The function of a slot. What lies after the program counts to its last one.
 pub(crate) fn function_at(program: &Program, functions: &[u16; MAX_SLOTS], slot: usize) -> usize
     requires { AreFunctions program.now functions.now }
     ensures { result ≡ function_of program.now slot }

@@ -91,7 +91,7 @@ fn has_fault(
     }
 }
 
-// Whether the instruction at a place goes on behind the end of its function.
+// Whether the instruction at a place goes on after the end of its function.
 fn is_open_end(program: &Program, functions: &[u16; MAX_SLOTS], place: usize) -> bool
     requires { AreFunctions program.now functions.now }
     ensures { result ≡ is_open_end program.now place }
@@ -103,7 +103,7 @@ fn is_open_end(program: &Program, functions: &[u16; MAX_SLOTS], place: usize) ->
     }
 }
 
-// Whether control may go on behind an instruction.
+// Whether control may go on after an instruction.
 fn goes_on_behind(insn: Insn) -> bool
     ensures { result ≡ goes_on_behind insn }
 {

@@ -78,7 +78,7 @@ impl<'a> Shape<'a> {
         self.written_out
     }
 
-    /// The places of all instructions, each once, behind the later ones of its function and behind the start of the
+    /// The places of all instructions, each once, after the later ones of its function and after the start of the
     /// function that it calls. So whoever asks the same of each place has asked it of all those on which a place rests.
     pub fn postorder(&self) -> &[u16]
         ensures { IsWholePostorder self.now result.now }

@@ -1,4 +1,4 @@
-// Places in the order in which they are settled: each behind all that control may reach from it.
+// Places in the order in which they are settled: each after all that control may reach from it.
 
 ghost use Rattle.std.specs.Prelude.{◌≡◌, ◌<◌, ◌≤◌, length, take};
 ghost use Rattle.bpf_insn.specs.declared.program.TheConstants.{MAX_SLOTS};
@@ -25,7 +25,7 @@ impl Postorder {
         }
     }
 
-    /// Puts a place behind all others.
+    /// Puts a place after all others.
     pub(crate) fn push(&mut self, place: usize)
         requires room { self.old.count < MAX_SLOTS }
         requires place { place < MAX_SLOTS }

@@ -1,4 +1,4 @@
-// A walk over the functions of a program that settles each behind those that it calls, or finds a cycle of calls. It
+// A walk over the functions of a program that settles each after those that it calls, or finds a cycle of calls. It
 // relies on `functions` and `postorder`.
 
 ghost use Rattle.std.specs.Prelude.{◌≡◌, ℕ, ◌<◌, ◌≤◌, true, false, replicate, length, Some, OnOk, IfOk, IfErr};
@@ -26,7 +26,7 @@ pub(crate) struct Walk {
 impl Walk {
     ghost use Rattle.call_shape.specs.Walk.{is_marked, IsWalk, IsOrderOf, OpenComeTo, WalkContinues, with_settled};
 
-    /// The places of a program, each behind all that control may reach from it, or a local call that lies on a cycle of
+    /// The places of a program, each after all that control may reach from it, or a local call that lies on a cycle of
     /// calls.
     pub(crate) fn postorder_of(
         program: &Program,

@@ -1,4 +1,4 @@
--- What an export did: to the values behind its slots, and with the result that its number stands for.
+-- What an export did: to the values in its slots, and with the result that its number stands for.
 use Rattle.std.specs.Prelude.{◌≡◌, ◌≢◌, ℕ, Bool, true, false, List, Option, None, Some, SomeIff, Result, Ok, Err, drop, length, min, take}
 use Rattle.std.specs.Global.{Box}
 use Rattle.ccb.specs.declared.cam_status.CamStatus.{CamStatus}

@@ -12,7 +12,7 @@ use Rattle.camr_c.specs.contracts.engine_slot.EngineSlot.{the_row as engine_slot
 use Rattle.camr_c.specs.declared.run_slot.RunSlot.{RunSlot}
 use Rattle.camr_c.specs.contracts.run_slot.RunSlot.{the_row as run_slot_row}
 
--- the slot with that value behind it
+-- the slot with that value in it
 abbrev pub with_engine : EngineSlot → HostedEngine → EngineSlot
 with_engine slot x = record { at = slot.at; held = Some x }
 

@@ -18,7 +18,7 @@ use Rattle.carried_lines.specs.CarriedText.{after_blank, after_blanks, carried_t
 abbrev text_by : Bool → CarriedCcb → Option (List ℕ)
 text_by there ccb = option_append (Some (kind_text kinds.Ccb)) (after_blanks (ccb_fields_by there ccb))
 
--- the fields behind the counts, and the whole text with these
+-- the fields after the counts, and the whole text with these
 abbrev behind_counts : Bool → CarriedCcb → List (Option (List ℕ))
 behind_counts neither ccb = (if neither then [] else None ∷ []) ++ state_fields ccb
 

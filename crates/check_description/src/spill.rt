@@ -12,7 +12,7 @@ use check_register_kinds::{FreezeName, Kind, Offsets, Region};
 pub enum Spill {
     /// No address and no freeze.
     Nothing,
-    /// An address in a region, or the one behind its last byte.
+    /// An address in a region, or the one after its last byte.
     Address(Region, Offsets),
     /// The freeze of that name, or 0 where the run got none.
     Freeze(FreezeName),

@@ -52,7 +52,7 @@ use Rattle.check_helper_calls.proofs.Tracing.{bytes_there, some_same}
 abbrev HoldKinds : FreezeNumbers → List Kind → List (Option ℕ) → Type 0
 HoldKinds numbers kinds registers = (reg : Reg) → HoldsKind numbers (slice_index_or kinds (number_of reg) Unwritten) (slice_index_or registers (number_of reg) None)
 
--- what stands behind the first six registers
+-- what follows the first six registers
 behind_holds : (numbers : FreezeNumbers) (k : ℕ) (kinds : List Kind) (registers : List (Option ℕ)) → HoldsKind numbers (slice_index_or kinds (6 + k) Unwritten) (slice_index_or registers (6 + k) None) → HoldsKind numbers (slice_index_or (drop 6 kinds) k Unwritten) (slice_index_or (drop 6 registers) k None)
 behind_holds numbers k kinds registers holds =
     subst (λ (o : Option ℕ). HoldsKind numbers (slice_index_or (drop 6 kinds) k Unwritten) o) (sym (get_or-drop 6 registers k None))

@@ -1,4 +1,4 @@
--- What is known behind a helper call, and what is found where its check passes.
+-- What is known after a helper call, and what is found where its check passes.
 use Rattle.std.proofs.Common.{None, ◌≡◌, ℕ, ℤ, Bool, List, [], Option, Some, Result, Ok, Err, IfOk, length, refl, ap, sym, subst, ◌∙◌, arith}
 use Rattle.std.specs.Prelude.{◌≤◌, IsOk, slice_index_or}
 use Rattle.std.proofs.lemmas.List.{get_or-drop}
@@ -28,7 +28,7 @@ use Rattle.check_helper_calls.specs.Called.{LeavesAnswer, LeavesCalled, LeavesCh
 use Rattle.check_helper_calls.specs.Fresh.{IsFresh}
 use Rattle.check_helper_calls.proofs.Tracing.{some_same}
 
--- what stands behind the first six registers is kept
+-- what follows the first six registers is kept
 kept_behind : (kinds : List Kind) (r0 : Kind) (reg : Reg) → 6 ≤ number_of reg → slice_index_or (after_call_kinds kinds r0) (number_of reg) Unwritten ≡ slice_index_or kinds (number_of reg) Unwritten
 kept_behind kinds r0 R0 late = absurd (omega (arith, late))
 kept_behind kinds r0 R1 late = absurd (omega (arith, late))
@@ -88,7 +88,7 @@ change_keeps name (changes.Writes bytes) d there may left = record {
   known = left.0.known;
 }
 
--- what is known behind a call, by its helper
+-- what is known after a call, by its helper
 pub left : (name : FreezeName) (number : ℤ) (helper : Helper) (d there : Description) → helper_of number ≡ Some helper → MayPass d name helper → LeavesOver name helper d there → LeavesCalled name d number there
 left name number helper d there named may leaves =
     let keeps = change_keeps name (row_of helper).machine d leaves.between may leaves.change in

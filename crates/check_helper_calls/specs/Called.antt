@@ -1,4 +1,4 @@
--- When the helper of a number may be called, and what is known behind it. It says nothing of machines: it is what a program
+-- When the helper of a number may be called, and what is known after it. It says nothing of machines: it is what a program
 -- may rely on that is to be accepted.
 use Rattle.std.specs.Prelude.{◌≡◌, ℕ, ℤ, ◌≤◌, true, List, [], ◌∷◌, ◌++◌, length, Some}
 use Rattle.bpf_insn.specs.declared.reg.Reg.{Reg}
@@ -64,7 +64,7 @@ pub record LeavesAnswer (kind : Kind) (d there : Description) : Type 0 where
   pub held : there.held ≡ d.held
   pub disposal : there.disposed ≡ d.disposed
 
--- behind the call of a helper, by its row: what it changes comes first, and then its answer
+-- after the call of a helper, by its row: what it changes comes first, and then its answer
 pub record LeavesOver (name : FreezeName) (helper : Helper) (d there : Description) : Type 0 where
   pub between : Description
   pub change : LeavesChanged name (row_of helper).machine d between
@@ -72,7 +72,7 @@ pub record LeavesOver (name : FreezeName) (helper : Helper) (d there : Descripti
   pub given : IsGivenAs name (row_of helper).gives kind
   pub answer : LeavesAnswer kind between there
 
--- and behind that of any: what is in R6 to R10 and no freeze is there as before
+-- and after that of any: what is in R6 to R10 and no freeze is there as before
 pub record LeavesCalled (name : FreezeName) (d : Description) (number : ℤ) (there : Description) : Type 0 where
   pub registers : (reg : Reg) → 6 ≤ number_of reg → (IsFreeze (kind_at d reg) → ⊥) → kind_at there reg ≡ kind_at d reg
   pub depth : length there.stack ≡ length d.stack

@@ -1,4 +1,4 @@
--- Instructions behind which a machine goes on at the next one: none is stuck, and what becomes of it is described.
+-- Instructions after which a machine goes on at the next one: none is stuck, and what becomes of it is described.
 use Rattle.std.proofs.Common.{◌≡◌, ℕ, ℤ, ◌+◌, ◌<◌, true, not, ◌||◌, List, [], Option, Some, None, IfSome, Result, Ok, Err, IfOk, length, refl, ap, sym, subst, ◌∙◌, inl, inr}
 use Rattle.std.specs.Prelude.{is_none, slice_index_or}
 use Rattle.std.specs.Option.{option_map}

@@ -1,4 +1,4 @@
--- What is enough for the check of an instruction to pass that is no call and no exit, and what is known behind it then. It says
+-- What is enough for the check of an instruction to pass that is no call and no exit, and what is known after it then. It says
 -- nothing of machines: it is what a program may rely on that is to be accepted.
 use Rattle.std.specs.Prelude.{◌≡◌, ℕ, ℤ, pos, ◌+◌, ◌<◌, ◌≤◌, ◌==◌, true, false, [], length, Some, ◌⊎◌, IfSome}
 use Rattle.std.specs.Int.{w64, cast_unsigned}
@@ -73,7 +73,7 @@ EnoughToCompute d width op dst src =
     ((reads_dst op ≡ true → IsNumber (kind_at d dst)) × IsNumberOperand d src)
     ⊎ ((width ≡ Bits64) × (op ≡ Mov) × (reg : Reg) × (src ≡ Register reg) × IsFreeze (kind_at d reg))
 
--- behind an instruction that writes one register: all else is known as before
+-- after an instruction that writes one register: all else is known as before
 pub record ChangesOnly (dst : Reg) (d there : Description) : Type 0 where
   pub others : (reg : Reg) → (number_of reg == number_of dst) ≡ false → kind_at there reg ≡ kind_at d reg
   pub stack : there.stack ≡ d.stack
@@ -101,7 +101,7 @@ pub record LeavesNumber (dst : Reg) (d there : Description) : Type 0 where
   pub only : ChangesOnly dst d there
   pub number : IsNumber (kind_at there dst)
 
--- behind a store the bytes that it wrote are known, and so is what was
+-- after a store the bytes that it wrote are known, and so is what was
 pub record LeavesStored (d : Description) (dst : Reg) (offset : ℤ) (bytes : ℕ) (there : Description) : Type 0 where
   pub registers : there.registers ≡ d.registers
   pub unspilled : d.spills ≡ [] → there.spills ≡ []
@@ -118,14 +118,14 @@ StaysKnown (Number scalar) after = IsNumber after
 StaysKnown (Address region offsets) after = after ≡ Address region offsets
 StaysKnown (Freeze name) after = after ≡ Freeze name
 
--- behind a jump on numbers
+-- after a jump on numbers
 pub record LeavesKnown (d there : Description) : Type 0 where
   pub registers : (reg : Reg) → StaysKnown (kind_at d reg) (kind_at there reg)
   pub stack : there.stack ≡ d.stack
   pub spills : there.spills ≡ d.spills
   pub disposal : there.disposed ≡ d.disposed
 
--- behind a test that found a freeze not to be 0
+-- after a test that found a freeze not to be 0
 pub record LeavesSure (name : FreezeName) (d there : Description) : Type 0 where
   pub registers : there.registers ≡ d.registers
   pub stack : there.stack ≡ d.stack
@@ -133,7 +133,7 @@ pub record LeavesSure (name : FreezeName) (d there : Description) : Type 0 where
   pub held : there.held ≡ with_sure d.held name
   pub disposal : there.disposed ≡ d.disposed
 
--- Behind a test for 0 the freeze is sure where it was not 0, and held no more where it was. The latter way is open only
+-- After a test for 0 the freeze is sure where it was not 0, and held no more where it was. The latter way is open only
 -- where it was not sure before.
 abbrev pub LeavesTested : Way → FreezeName → Description → Description → Type 0
 LeavesTested FallThrough name d there = LeavesSure name d there

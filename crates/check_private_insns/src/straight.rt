@@ -1,4 +1,4 @@
-// The instructions behind which a machine goes on at the next one, but for helper calls. It relies on
+// The instructions after which a machine goes on at the next one, but for helper calls. It relies on
 // `check_register_kinds` for what is computed, on `operands` for registers, and on `memory` for loads and stores.
 
 ghost use Rattle.std.specs.Prelude.{◌≡◌, true, ◌⊎◌, IfOk, IsOkAnd, length, IfSome, Some};

@@ -6,7 +6,7 @@ ghost use Rattle.check_private_insns.specs.GoesOn.{is_taken};
 /// Where an instruction leads.
 #[derive(Clone, Copy, Debug, PartialEq, Eq)]
 pub enum Way {
-    /// To the instruction behind it.
+    /// To the instruction after it.
     FallThrough,
     /// To the target of its jump.
     Taken,

@@ -97,7 +97,7 @@ IsBetween least most (Number scalar) = (least ≤ scalar.unsigned.least) × (sca
 IsBetween least most (Address region offsets) = ⊥
 IsBetween least most (Freeze name) = ⊥
 
--- an address at these offsets is in its region, or behind its last byte, where one of these numbers is added; the ends
+-- an address at these offsets is in its region, or after its last byte, where one of these numbers is added; the ends
 -- of a signed range are places in the order of signed words, where 0 is at 2 ^ 63
 pub record StaysAhead (region : Region) (offsets : Offsets) (by : Scalar) : Type 0 where
   pub least_from : 2 ^ 63 ≤ offsets.least + by.signed.least

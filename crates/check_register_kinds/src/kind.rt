@@ -16,7 +16,7 @@ pub enum Kind {
     Unwritten,
     /// One of these numbers.
     Number(Scalar),
-    /// An address in a region, or the one behind its last byte.
+    /// An address in a region, or the one after its last byte.
     Address(Region, Offsets),
     /// The freeze of that name, or 0 where the run got none.
     Freeze(FreezeName),

@@ -21,7 +21,7 @@ pub enum Region {
     Frame(u8),
 }
 
-/// How far behind the start of its region an address lies: a range of bytes, both ends included, from 0 to the region's
+/// How far after the start of its region an address lies: a range of bytes, both ends included, from 0 to the region's
 /// size.
 #[derive(Clone, Copy, Debug, PartialEq, Eq)]
 pub struct Offsets {

@@ -63,7 +63,7 @@ pub fn carry<N: Notices + Sync, R: Threads + Wait + Sync, W: Write, E: Write>(
     ensures output { result ≡ 0 → (input : _) → slice_get inputs.now 0 ≡ Some input → IsOutput plan.now input.items (W.contents out.old) (W.contents out.new) }
     // What a run that is done has put out is the trace of the second file's calls on an engine of the first, with its sums.
     ensures out { result ≡ 0 → (first second : _) → slice_get inputs.now 0 ≡ Some first → slice_get inputs.now 1 ≡ Some second → IsPutOut plan.now first.items second.items (W.contents out.old) (W.contents out.new) }
-    // Refused only where it has a fault, or a scenario or a trace behind it has one.
+    // Refused only where it has a fault, or a scenario or a trace after it has one.
     ensures refused { result ≡ 1 → (input : _) → slice_get inputs.now 0 ≡ Some input → IsFaulty plan.now input.items }
     // Of two files, refused only where one has a fault, a line of the trace does not follow, or the scenario has a release.
     ensures rejected { result ≡ 1 → (first second : _) → slice_get inputs.now 0 ≡ Some first → slice_get inputs.now 1 ≡ Some second → IsRejected plan.now first.items second.items }

@@ -65,7 +65,7 @@ module _ (asked : Asked) (rest : List Text) (f : Kinds) (end : Walk) (trace : Tr
 all_within : IsWithin everything
 all_within = record { ccb = tt; queue = tt; run = tt; freeze = tt; from = tt; to = tt }
 
--- ---- what is held behind options
+-- ---- what is held after options
 
 abbrev show_shape : Shape
 show_shape = shape_of (codes "show")

@@ -1,4 +1,4 @@
--- What the rows behind a word ask for, and that the plan which was found behind it is that.
+-- What the rows after a word ask for, and that the plan which was found after it is that.
 use Rattle.std.proofs.Common.{◌≡◌, ◌∙◌, ℕ, Bool, Global, String, true, false, List, [], Option, None, Some, codes, refl, sym, subst, ap, ap₂}
 use Rattle.std.specs.Prelude.{if◌then◌else◌, string_bytes, unwrap_or}
 use Rattle.std.specs.Str.{bytes_eq}
@@ -60,7 +60,7 @@ abbrev pub MeetsAsked : Option Asked → Plan → Type 0
 MeetsAsked None plan = Unit {0}
 MeetsAsked (Some asked) plan = IsAsked asked plan
 
--- the number behind a name is one alone
+-- the number after a name is one alone
 same_number : (name : Text) (rows : List Row) (o other : Option ℕ) → FindsNumber name rows o → FindsNumber name rows other → o ≡ other
 same_number name rows None None found also = refl
 same_number name rows (Some n) None found none = let bad : Some found.0 ≡ None = sym found.1 ∙ none in cc

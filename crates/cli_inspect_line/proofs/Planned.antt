@@ -1,4 +1,4 @@
--- From the rows that `clap` found behind a word to the plan.
+-- From the rows that `clap` found after a word to the plan.
 use Rattle.std.proofs.Common.{◌≡◌, ◌∙◌, List, [], Option, Some, None, ap, subst, sym}
 use Rattle.std.specs.Prelude.{unwrap_or}
 use Rattle.clap.specs.Words.{Row, Text}

@@ -96,7 +96,7 @@ abbrev pub IsOfFiles : Text → Text → Plan → Type 0
 IsOfFiles manifest file (ExplainFile a b) = (string_bytes a ≡ manifest) × (string_bytes b ≡ file)
 IsOfFiles manifest file plan = ⊥
 
--- the plan is what was asked for by that word, with what `clap` found behind it
+-- the plan is what was asked for by that word, with what `clap` found after it
 abbrev pub HasFoundBehind : Text → List Row → Plan → Type 0
 HasFoundBehind name rows (ExplainCode code) =
     (name ≡ codes "explain") × ((word : Text) × (first_of (codes "WORD") rows ≡ Some word) × (code_named word ≡ Some code)) × (first_of (codes "FILE") rows ≡ None)
@@ -133,28 +133,28 @@ abbrev pub AsksOne : List Row → Filter → Type 0
 AsksOne rows filter = ((AsksSummary rows → ⊥) × AsksNoDrawing rows)
     ⊎ ((filter ≡ everything) × (AsksSummary rows → AsksNoDrawing rows) × (AsksJson rows → AsksNoDrawing rows) × AsksOneDrawing rows)
 
--- behind `show` both paths are found, numbers that there can be, and one thing that is asked for
+-- after `show` both paths are found, numbers that there can be, and one thing that is asked for
 abbrev pub MakesAccount : List Row → Type 0
 MakesAccount rows = AreFound (codes "MANIFEST" ∷ codes "TRACE" ∷ []) rows
     × ((filter : Filter) × IsWithin filter × HasFilter rows filter × AsksOne rows filter)
 
--- behind `decide` a manifest is found, and words that are spelled as they have to be
+-- after `decide` a manifest is found, and words that are spelled as they have to be
 abbrev pub MakesQuestion : List Row → Type 0
 MakesQuestion rows = AreFound (codes "MANIFEST" ∷ []) rows × ((question : Question) × HasQuestion rows question)
 
--- those rows are enough for a plan behind that word
+-- those rows are enough for a plan after that word
 abbrev pub Suffices : Text → List Row → Type 0
 Suffices name rows = MatchBool (bytes_eq name (codes "show")) (MakesAccount rows)
     (MatchBool (bytes_eq name (codes "explain")) (AreFound (codes "WORD" ∷ []) rows)
     (MatchBool (bytes_eq name (codes "decide")) (MakesQuestion rows)
     (MatchBool (bytes_eq name (codes "try")) (MakesTrial rows) ⊥)))
 
--- what those rows ask for behind that word, and none only where they are not enough for a plan
+-- what those rows ask for after that word, and none only where they are not enough for a plan
 abbrev pub PlansBehind : Text → List Row → Option Plan → Type 0
 PlansBehind name rows (Some plan) = HasFoundBehind name rows plan
 PlansBehind name rows None = Suffices name rows → ⊥
 
--- the same behind `show`, if both paths and that filter are found
+-- the same after `show`, if both paths and that filter are found
 abbrev pub PlansShow : List Row → Filter → Text → Text → Option Plan → Type 0
 PlansShow rows filter manifest trace planned = HasBoth rows manifest trace → HasFilter rows filter → IsWithin filter → PlansBehind (codes "show") rows planned
 

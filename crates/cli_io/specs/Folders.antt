@@ -4,7 +4,7 @@ use Rattle.cli_io.specs.declared.folder.Look.{Look}
 use Rattle.cli_io.specs.declared.folder.Rights.{Rights}
 
 pub data Step : Type 0 where
-  -- the path leads to this one, behind which there is no link
+  -- the path leads to this one, which is no link
   Led : (path out : List ℕ) → Step
   -- that stands there
   Looked : (out : List ℕ) → Look → Step
@@ -14,7 +14,7 @@ pub data Step : Type 0 where
   Made : (name : List ℕ) (mode : ℕ) → Step
   -- what stands there, no regular file of a folder, is open
   Opened : (out : List ℕ) → Step
-  -- these bytes are written behind those that were written to what is open
+  -- these bytes are written after those that were written to what is open
   Put : List ℕ → Step
   -- the file that is open has these rights, or narrower ones
   Dressed : Rights → Step

@@ -30,7 +30,7 @@ pub trait Folder {
 
     ghost steps: { Self → Option (List Step) };
 
-    /// Where a path leads, behind all links: nothing has to stand there. It fails where links lead in a circle.
+    /// Where a path leads, once all links are followed: nothing has to stand there. It fails where links lead in a circle.
     fn lead(&mut self, path: &str) -> io::Result<String>
         ensures { MatchResult result (λ out. Adds (steps self.old) (Led path.now (string_bytes out)) (steps self.new)) (λ _. Stays (steps self.old) (steps self.new)) };
 

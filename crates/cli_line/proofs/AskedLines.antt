@@ -66,7 +66,7 @@ module _ (asked : Asked) (rest : List Text) (f : Kinds) (end : Walk) (trace : Tr
     some = λ none. subst (λ b. MatchBool b (MakesNoRun rows) (Suffices (word_of asked) rows → ⊥)) is_other (none (word_of asked) rows enters) suffices;
   }
 
--- ---- what is held behind flags and options
+-- ---- what is held after flags and options
 
 abbrev live_shape : Shape
 live_shape = shape_of (codes "live")
@@ -178,7 +178,7 @@ trace_to rest g end more =
     (walked_value migrate_shape.rules asks_to (codes "to") 1 (codes "3") refl)
     (turn_value migrate_shape asks_to (codes "to") 1 (codes "3") refl) more)
 
--- ---- the lines behind `live`
+-- ---- the lines after `live`
 
 -- the words after the folder
 abbrev kept_words : (is_synced is_clocked is_stepped is_told : Bool) → List Text → List Text

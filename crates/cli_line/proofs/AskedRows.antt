@@ -1,4 +1,4 @@
--- What the rows behind a word ask for, and that the plan which was found behind it is that.
+-- What the rows after a word ask for, and that the plan which was found after it is that.
 use Rattle.std.proofs.Common.{Global, ◌≡◌, Bool, true, false, List, [], Option, None, Some, codes, refl, sym, subst, ap}
 use Rattle.std.specs.Prelude.{MatchBool, String, if◌then◌else◌, option_map, string_bytes, unwrap_or}
 use Rattle.std.specs.Str.{bytes_eq}
@@ -20,7 +20,7 @@ abbrev pub is_told : Option Text → Bool
 is_told None = false
 is_told (Some word) = bytes_eq word (codes "true")
 
--- what is asked for behind `live`, if what is counted goes nowhere
+-- what is asked for after `live`, if what is counted goes nowhere
 abbrev pub live_in : List Row → (metrics journal manifest : Option Text) → Option Asked
 live_in rows (Some path) journal manifest = None
 live_in rows None None manifest = Some (Live (is_told (first_of (codes "clock") rows)) (is_told (first_of (codes "step") rows)) (is_told (first_of (codes "ack") rows)) (unwrap_or manifest []))
@@ -29,7 +29,7 @@ live_in rows None (Some folder) None =
 live_in rows None (Some folder) (Some manifest) =
     Some (Journal (is_told (first_of (codes "sync") rows)) (is_told (first_of (codes "clock") rows)) (is_told (first_of (codes "step") rows)) (is_told (first_of (codes "ack") rows)) folder manifest)
 
--- what is asked for behind `migrate`, by the word of the version
+-- what is asked for after `migrate`, by the word of the version
 abbrev pub migrated_in : Option Text → (manifest migrated : Text) → Option Asked
 migrated_in None manifest migrated = None
 migrated_in (Some word) manifest migrated =
@@ -85,7 +85,7 @@ kept_asked rows manner synced a b None (Some manifest) nowhere found flags sync 
 kept_asked rows manner synced a b (Some path) manifest somewhere found flags sync = tt
 
 module _ (name : Text) (rows : List Row) where
-  -- the plan is behind that word
+  -- the plan is after that word
   by_word : (other : Text) (plan : Plan) → name ≡ other → MeetsAsked (asked_in other rows) plan → MeetsAsked (asked_in name rows) plan
   by_word other plan is h = subst (λ (n : Text). MeetsAsked (asked_in n rows) plan) (sym is) h
 

@@ -50,7 +50,7 @@ pub or_else_none : (ks : Kinds) → or_else ks [] ≡ ks
 or_else_none [] = refl
 or_else_none (k ∷ ks) = refl
 
--- the faults of the words behind the first one
+-- the faults of the words after the first one
 abbrev pub faults_behind : Shape → List Text → Kinds
 faults_behind s rest = level_fault s [] nothing_held rest false []
 
@@ -65,7 +65,7 @@ module _ (name : Text) (s : Shape) (is : IsWordOf name s) (rest : List Text) whe
   walk_is : top_walk (name ∷ rest) ≡ stopped_at nothing_held idle 1 false name rest
   walk_is = ap (λ (w : Walk). fold (walked top.rules top_names) w rest) is.stops ∙ stays_stopped top.rules top_names nothing_held idle 1 false name [] rest
 
-  -- the words behind it are for the subcommand
+  -- the words after it are for the subcommand
   pub command_enters : subcommand_of camr_command (name ∷ rest) ≡ Some (name, rows_after s.rules [] rest)
   command_enters = ap (λ (w : Walk). entered (built camr_command) w.stopped) walk_is
       ∙ (ap (option_map (λ (x : Shape). rows_at x rest)) is.found ∙ ap (λ (n : Text). Some (n, rows_after s.rules [] rest)) is.named)
@@ -91,6 +91,6 @@ module _ (name : Text) (s : Shape) (is : IsWordOf name s) (rest : List Text) whe
   unfolding defaults_fault
   found_fault = or_else_none (faults_behind s rest)
 
-  -- the faults of the line are those of the words behind it
+  -- the faults of the line are those of the words after it
   pub command_fault : fault_of camr_command (name ∷ rest) ≡ faults_behind s rest
   command_fault = ap₂ whole_fault walk_faultless walk_is ∙ (ap fault_in is.found ∙ found_fault)

@@ -1,4 +1,4 @@
--- From the rows that `clap` found behind a word to the plan.
+-- From the rows that `clap` found after a word to the plan.
 use Rattle.std.proofs.Common.{◌≡◌, ◌∙◌, List, [], Option, Some, None, codes, false, refl, sym, subst, ap, ap₂}
 use Rattle.std.specs.Str.{bytes_eq}
 use Rattle.std.proofs.lemmas.Slice.Eq.{bytes_eq-Decides}

@@ -1,4 +1,4 @@
--- The plans behind `live`, with a journal and without.
+-- The plans after `live`, with a journal and without.
 use Rattle.std.proofs.Common.{◌≡◌, List, [], ◌∷◌, Option, Some, None, Result, Ok, Err, codes, refl, sym, subst, ap, ◌∙◌}
 use Rattle.std.specs.Prelude.{IfOk, MatchBool, String, false, true, option_map, string_bytes}
 use Rattle.clap.specs.Words.{Row, Text, first_of}

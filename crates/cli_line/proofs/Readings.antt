@@ -23,7 +23,7 @@ one_to_sixteen = value_parser.Signed (pos 1) (pos 16)
 abbrev pub number_kinds : Text → Kinds
 number_kinds number = if accepts false one_to_sixteen number then [] else kind.ValueValidation ∷ []
 
--- what the rows behind `run` say
+-- what the rows after `run` say
 pub record Says (rows : List Row) (number manifest scenario : Text) : Type 0 where
   pub workers : first_of (codes "workers") rows ≡ Some number
   pub watch_is : first_of (codes "watch") rows ≡ Some (codes "never")
@@ -48,7 +48,7 @@ run_word : IsWordOf (codes "run") run_shape
 unfolding walked
 run_word = record { stops = refl; faultless = refl; found = refl; named = refl }
 
--- a reading of the words behind `run`, by their trace
+-- a reading of the words after `run`, by their trace
 reading : (rest : List Text) (number manifest scenario : Text) (f : Kinds) (end : Walk) → Trace run_shape start rest f end
     → end_fault f end ≡ number_kinds number
     → Says (finished run_rules end.held) number manifest scenario
@@ -64,7 +64,7 @@ reading rest number manifest scenario f end trace is says = record {
 abbrev joined_walk : Text → Walk → Walk
 joined_walk n w = walk_at (reacted run_rules built_workers (n ∷ []) w.held) idle w.position
 
--- the number in a word behind its option
+-- the number in a word after its option
 abbrev numbered_walk : Text → Walk → Walk
 numbered_walk n w = number_walk w.held w.position n
 

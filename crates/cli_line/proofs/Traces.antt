@@ -1,4 +1,4 @@
--- The walk over the words behind a subcommand's, word by word.
+-- The walk over the words after a subcommand's, word by word.
 use Rattle.std.proofs.Common.{◌≡◌, ℕ, List, [], ◌∷◌, ◌++◌, Some, false, codes, refl, ◌∙◌, ap, ap₂, subst, sym}
 use Rattle.std.specs.Prelude.{fold, unwrap_or}
 use Rattle.clap.specs.Words.{Rule, Shape, Text}
@@ -71,7 +71,7 @@ module _ {s : Shape} where
       trace_path h 1 a (b ∷ []) _ _ plain_a
       (subst (λ (w : Walk). Trace s w (b ∷ []) (or_else (step_fault s 2 second value) []) (path_walk s (walk_at second idle 2) b)) (sym first) (trace_last second 2 b plain_b))
 
--- ---- what stands behind `run`
+-- ---- what follows `run`
 
 abbrev pub run_shape : Shape
 run_shape = shape_of (codes "run")

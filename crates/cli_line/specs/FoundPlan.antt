@@ -14,7 +14,7 @@ use Rattle.cli_line.specs.declared.plans.Plan.{Plan}
 use Rattle.cli_line.specs.declared.plans.Watch.{Watch}
 use Rattle.cli_line.specs.declared.plans.Plan.TheVariants.{Asm, Migrate, Dis, Check, Run, Strict, Live, Journal, Audit, Replay}
 
--- these are what `clap` found behind `run` under the arguments' names, and the plan has them
+-- these are what `clap` found after `run` under the arguments' names, and the plan has them
 pub record HasFoundIn (Has : Text → Text → Text → Text → Plan → Type 0) (rows : List Row) (plan : Plan) : Type 0 where
   pub number : Text
   pub when : Text
@@ -38,7 +38,7 @@ Tells name rows told = MatchBool told (IsGiven name rows) (IsGiven name rows →
 abbrev pub HasManner : List Row → Manner → Type 0
 HasManner rows manner = Tells (codes "clock") rows manner.is_clocked × Tells (codes "step") rows manner.is_stepped × Tells (codes "ack") rows manner.is_told × (first_of (codes "metrics") rows ≡ option_map string_bytes manner.metrics)
 
--- the plan is what was asked for by that word, with what `clap` found behind it
+-- the plan is what was asked for by that word, with what `clap` found after it
 abbrev pub HasFoundBehind : Text → List Row → Plan → Type 0
 HasFoundBehind name rows (Run workers watch a b) = (name ≡ codes "run") × (IsGiven (codes "strict") rows → ⊥) × HasFoundIn IsRun rows (Run workers watch a b)
 HasFoundBehind name rows (Strict workers watch a b) = (name ≡ codes "run") × IsGiven (codes "strict") rows × HasFoundIn IsStrictRun rows (Strict workers watch a b)
@@ -96,7 +96,7 @@ abbrev pub AreFound : List Text → List Row → Type 0
 AreFound [] rows = Unit {0}
 AreFound (id ∷ ids) rows = ((word : Text) × (first_of id rows ≡ Some word)) × AreFound ids rows
 
--- what has to be found behind a word, where nothing else is tested
+-- what has to be found after a word, where nothing else is tested
 abbrev pub paths_of : Text → Option (List Text)
 paths_of name =
     if bytes_eq name (codes "asm") then Some (codes "IN" ∷ codes "OUT" ∷ [])
@@ -111,25 +111,25 @@ abbrev pub AllFound : Option (List Text) → List Row → Type 0
 AllFound None rows = ⊥
 AllFound (Some ids) rows = AreFound ids rows
 
--- those rows are enough behind `live`: there is a journal; or there is none that would be synced, and a manifest
+-- those rows are enough after `live`: there is a journal; or there is none that would be synced, and a manifest
 abbrev pub MakesLive : Option Text → List Row → Type 0
 MakesLive None rows = (IsGiven (codes "sync") rows → ⊥) × AreFound (codes "MANIFEST" ∷ []) rows
 MakesLive (Some folder) rows = Unit {0}
 
--- those rows are enough behind `migrate`: there are both paths, and the version is one that there is
+-- those rows are enough after `migrate`: there are both paths, and the version is one that there is
 abbrev pub MakesMigration : List Row → Type 0
 MakesMigration rows = AreFound (codes "IN" ∷ codes "OUT" ∷ []) rows × ((to : LaterVersion) × (first_of (codes "to") rows ≡ Some (version_word to)))
 
--- those rows are enough for a plan behind that word
+-- those rows are enough for a plan after that word
 abbrev pub Suffices : Text → List Row → Type 0
 Suffices name rows = MatchBool (bytes_eq name (codes "live")) (MakesLive (first_of (codes "journal") rows) rows)
     (MatchBool (bytes_eq name (codes "migrate")) (MakesMigration rows) (AllFound (paths_of name) rows))
 
--- they are none behind it
+-- they are none after it
 abbrev pub MakesNone : Text → List Row → Type 0
 MakesNone name rows = MatchBool (bytes_eq name (codes "run")) (MakesNoRun rows) (Suffices name rows → ⊥)
 
--- what those rows ask for behind that word, and none only where they are no plan
+-- what those rows ask for after that word, and none only where they are no plan
 abbrev pub PlansBehind : Text → List Row → Option Plan → Type 0
 PlansBehind name rows (Some plan) = HasFoundBehind name rows plan × HasLawfulNumber plan
 PlansBehind name rows None = MakesNone name rows

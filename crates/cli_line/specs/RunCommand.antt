@@ -158,7 +158,7 @@ try_command = with_rule (with_rule seeded_command (path_rule (codes "MANIFEST"))
 abbrev pub audit_command : App
 audit_command = with_rule (new_app (codes "audit")) (path_rule (codes "DIR"))
 
--- the program, whose words begin behind its own name; where there are none it shows its help
+-- the program, whose words begin after its own name; where there are none it shows its help
 abbrev pub bare_command : App
 bare_command = let a = new_app (codes "camr") in record a {
   top = record a.top {

@@ -42,7 +42,7 @@ version_word Two = codes "2"
 version_word Three = codes "3"
 
 -- the lines that ask for a run with this number of workers, this manifest and this scenario; the
--- number stands before, between or behind the paths, and is 1 where there is none
+-- number stands before, between or after the paths, and is 1 where there is none
 pub data RunLine : List Text → Text → Text → Text → Type 0 where
   unnumbered : (m s : Text) → RunLine (codes "run" ∷ m ∷ s ∷ []) (codes "1") m s
   before : (n m s : Text) → RunLine (codes "run" ∷ codes "--workers" ∷ n ∷ m ∷ s ∷ []) n m s

@@ -57,7 +57,7 @@ fn manner_command<'a>(alloc: Global) -> Result<Command<'a>, AllocError>
     let ack = flag(
         alloc,
         "ack",
-        "Answers each line by a line of its own, behind all that it led to",
+        "Answers each line by a line of its own, after all that it led to",
     );
     Command::new(alloc, "live")
         .about("Carries out the lines of standard input as they come, and prints the trace")
@@ -66,7 +66,7 @@ fn manner_command<'a>(alloc: Global) -> Result<Command<'a>, AllocError>
         .arg(ack)
 }
 
-/// The plan of what clap found behind `live`: with a journal, or by itself.
+/// The plan of what clap found after `live`: with a journal, or by itself.
 pub(crate) fn live_plan(alloc: Global, live: &ArgMatches) -> Result<Option<Plan>, AllocError>
     ensures { IfOk result (PlansBehind (codes "live") (rows_of (found_of live.now))) }
 {

@@ -35,7 +35,7 @@ pub struct Manner {
     pub is_clocked: bool,
     /// A run goes to its next stop only where a line asks for that.
     pub is_stepped: bool,
-    /// Each line that asks for something is answered by a line of its own, behind all that it led to.
+    /// Each line that asks for something is answered by a line of its own, after all that it led to.
     pub is_told: bool,
     /// The path of the file in which what is counted stands, if there is one.
     pub metrics: Option<String>,

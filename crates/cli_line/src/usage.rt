@@ -15,7 +15,7 @@ use crate::try_usage::try_command;
 use clap::{Arg, Command, value_parser};
 use std::alloc::{AllocError, Global};
 
-/// What `--version` prints behind the program's name: its version, and the profile of its policies.
+/// What `--version` prints after the program's name: its version, and the profile of its policies.
 const VERSION: &str = "0.1.0, policy profile 3";
 
 /// What help has at its end.

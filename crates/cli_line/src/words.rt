@@ -259,7 +259,7 @@ fn planned(alloc: Global, matches: &ArgMatches) -> Result<Option<Plan>, AllocErr
     }
 }
 
-// The plan of what clap found behind a word.
+// The plan of what clap found after a word.
 fn plan_behind(alloc: Global, name: &str, found: &ArgMatches) -> Result<Option<Plan>, AllocError>
     ensures { IfOk result (PlansBehind name.now (rows_of (found_of found.now))) }
 {
@@ -276,7 +276,7 @@ fn plan_behind(alloc: Global, name: &str, found: &ArgMatches) -> Result<Option<P
     }
 }
 
-// The plan of what clap found behind `asm`.
+// The plan of what clap found after `asm`.
 fn asm_plan(alloc: Global, asm: &ArgMatches) -> Result<Option<Plan>, AllocError>
     ensures { IfOk result (PlansBehind (codes "asm") (rows_of (found_of asm.now))) }
 {
@@ -291,7 +291,7 @@ fn asm_plan(alloc: Global, asm: &ArgMatches) -> Result<Option<Plan>, AllocError>
     Ok(Some(Plan::Asm(text, program)))
 }
 
-// The plan of what clap found behind `dis`.
+// The plan of what clap found after `dis`.
 fn dis_plan(alloc: Global, dis: &ArgMatches) -> Result<Option<Plan>, AllocError>
     ensures { IfOk result (PlansBehind (codes "dis") (rows_of (found_of dis.now))) }
 {
@@ -301,7 +301,7 @@ fn dis_plan(alloc: Global, dis: &ArgMatches) -> Result<Option<Plan>, AllocError>
     Ok(Some(Plan::Dis(String::from_str(alloc, program)?)))
 }
 
-// The plan of what clap found behind `check`.
+// The plan of what clap found after `check`.
 fn check_plan(alloc: Global, check: &ArgMatches) -> Result<Option<Plan>, AllocError>
     ensures { IfOk result (PlansBehind (codes "check") (rows_of (found_of check.now))) }
 {
@@ -311,7 +311,7 @@ fn check_plan(alloc: Global, check: &ArgMatches) -> Result<Option<Plan>, AllocEr
     Ok(Some(Plan::Check(String::from_str(alloc, manifest)?)))
 }
 
-// The plan of what clap found behind `migrate`.
+// The plan of what clap found after `migrate`.
 fn migrate_plan(alloc: Global, migrate: &ArgMatches) -> Result<Option<Plan>, AllocError>
     ensures { IfOk result (PlansBehind (codes "migrate") (rows_of (found_of migrate.now))) }
 {
@@ -349,7 +349,7 @@ fn version_in(word: &str) -> Option<LaterVersion>
     }
 }
 
-// The plan of what clap found behind `replay`.
+// The plan of what clap found after `replay`.
 fn replay_plan(alloc: Global, replay: &ArgMatches) -> Result<Option<Plan>, AllocError>
     ensures { IfOk result (PlansBehind (codes "replay") (rows_of (found_of replay.now))) }
 {
@@ -364,7 +364,7 @@ fn replay_plan(alloc: Global, replay: &ArgMatches) -> Result<Option<Plan>, Alloc
     Ok(Some(Plan::Replay(manifest, trace)))
 }
 
-// The plan of what clap found behind `audit`.
+// The plan of what clap found after `audit`.
 fn audit_plan(alloc: Global, audit: &ArgMatches) -> Result<Option<Plan>, AllocError>
     ensures { IfOk result (PlansBehind (codes "audit") (rows_of (found_of audit.now))) }
 {
@@ -374,7 +374,7 @@ fn audit_plan(alloc: Global, audit: &ArgMatches) -> Result<Option<Plan>, AllocEr
     Ok(Some(Plan::Audit(String::from_str(alloc, folder)?)))
 }
 
-// The plan of what clap found behind `run`.
+// The plan of what clap found after `run`.
 fn run_plan(alloc: Global, run: &ArgMatches) -> Result<Option<Plan>, AllocError>
     ensures { IfOk result (PlansBehind (codes "run") (rows_of (found_of run.now))) }
 {
@@ -472,7 +472,7 @@ fn other_program(alloc: Global, name: &str) -> Result<Error, AllocError>
     camr_command(alloc)?.error(ErrorKind::ValueValidation, text.as_str())
 }
 
-// What is missing behind `live` where there is no journal: it is to be synced, or else the manifest is not there.
+// What is missing after `live` where there is no journal: it is to be synced, or else the manifest is not there.
 fn live_fault(alloc: Global, has_manifest: bool) -> Result<Error, AllocError>
     ensures { IfOk result (λ e. kind_of e ≡ ErrorKind.ValueValidation) }
 {

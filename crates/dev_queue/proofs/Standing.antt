@@ -34,7 +34,7 @@ first_least (p ∷ ps) x some is h k d l =
 starts_as : (p o q r : WaitingCcb) → p ≡ o → q ≡ r → StartsFirst o r → StartsFirst p q
 starts_as p o q r e f h = subst (λ (x : WaitingCcb). StartsFirst x q) (sym e) (subst (λ (x : WaitingCcb). StartsFirst o x) (sym f) h)
 
--- what is read of two places is so whatever is read behind the end
+-- what is read of two places is so whatever is read after the end
 pub read_as : (ps : List WaitingCcb) (i j : ℕ) (d e x : WaitingCcb) → i < length ps → j < length ps → StartsFirst (get_or ps i d) (get_or ps j e) → StartsFirst (get_or ps i x) (get_or ps j x)
 read_as ps i j d e x l m h = starts_as _ (get_or ps i d) _ (get_or ps j e) (get_or_default ps i x d l) (get_or_default ps j x e m) h
 
@@ -149,7 +149,7 @@ risen_far ps here up may under behind above place d u l =
       | inr e ↦ may.others above place d u l e.1
     ]
 
--- the pair here, which starts behind the first under it, changes places with that
+-- the pair here, which starts after the first under it, changes places with that
 pub sunk : (xs ys : List WaitingCcb) (here down : ℕ) → MaySink xs here → IsFirstUnder xs here down →
     ((d : WaitingCcb) → StartsFirst (get_or xs down d) (get_or xs here d)) → ys ≡ swap xs here down → MaySink ys down
 sunk xs ys here down may first before is =

@@ -34,7 +34,7 @@ pub record MayRise (pairs : List WaitingCcb) (here : ℕ) : Type 0 where
   pub around : (above place : ℕ) (d : WaitingCcb) → IsUnder above here → IsUnder here place → place < length pairs →
       StartsFirst (slice_index_or pairs above d) (slice_index_or pairs place d)
 
--- a heap, but for the pair at this place, which may start behind those under it
+-- a heap, but for the pair at this place, which may start after those under it
 pub record MaySink (pairs : List WaitingCcb) (here : ℕ) : Type 0 where
   pub others : (above place : ℕ) (d : WaitingCcb) → IsUnder above place → place < length pairs → above ≢ here →
       StartsFirst (slice_index_or pairs above d) (slice_index_or pairs place d)

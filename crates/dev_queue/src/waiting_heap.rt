@@ -18,7 +18,7 @@ use std::marker::Model;
 /// How many CCBs can wait at a time.
 const ROOM: usize = MAX_LIVE as usize;
 
-/// How many times a pair can go down, where fewer than 256 stand: once it did so, it is at the first place or behind,
+/// How many times a pair can go down, where fewer than 256 stand: once it did so, it is at the first place or after,
 /// twice, at the third, and so on.
 const LEVELS: usize = 8;
 

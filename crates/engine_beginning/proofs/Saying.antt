@@ -27,7 +27,7 @@ word_lines b = tables_from 0 b.runs.runs.tables
 abbrev numbers_line : BegunState → CarriedLine
 numbers_line b = lines.Numbers b.ccb b.freeze b.run
 
--- behind the numbers and the clock
+-- after the numbers and the clock
 abbrev rest_said : BegunState → List CarriedLine
 rest_said b = opened_lines b ++ (word_lines b ++ (ccb_lines b.transport.live ++ freeze_lines b.transport.freezes))
 
@@ -88,7 +88,7 @@ module _ (first second third fourth : List CarriedLine) (x : CarriedLine) where
       (append_assoc second (third ++ fourth) (x ∷ [])
       ∙ ap (λ (zs : List CarriedLine). second ++ zs) (append_assoc third fourth (x ∷ [])))
 
--- behind the numbers and the clock
+-- after the numbers and the clock
 longer : (b : BegunState) (xs rest : List CarriedLine) (x : CarriedLine) → 2 ≤ b.after → xs ≡ said b → rest_said b ++ x ∷ [] ≡ rest → xs ++ x ∷ [] ≡ numbers_line b ∷ lines.Clock b.transport.clock ∷ rest
 longer b xs rest x late is on =
     ap (λ (zs : List CarriedLine). zs ++ x ∷ []) (is ∙ said_long b late)
@@ -118,7 +118,7 @@ opened_more openings opened queue more is there =
     ∙ (ap (λ (n : ℕ). openings_from 0 (take queue openings) ++ lines.Openings n more ∷ []) count
     ∙ ap (λ (n : ℕ). openings_from 0 (take n openings) ++ lines.Openings queue more ∷ []) is))
 
--- all queues have their openings only behind lines that say so
+-- all queues have their openings only after lines that say so
 late_by : (b : BegunState) (xs : List CarriedLine) → Says b xs → IsComplete b → 3 ≤ b.after
 late_by b xs says complete = elim (cases_lt b.after 3) [
   | inl early ↦ absurd (omega (arith, says.unopened (omega (arith, early)), complete, says.some))

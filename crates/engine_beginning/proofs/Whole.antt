@@ -37,7 +37,7 @@ pub takes_both : (from between to : BegunState) (xs ys : List CarriedLine) → T
 takes_both from between to [] ys first second = subst (λ (b : BegunState). Takes b ys to) (sym first) second
 takes_both from between to (line ∷ xs) ys first second = (first.0, first.1, takes_both (with_line line from) between to xs ys first.2 second)
 
--- the state behind the first ones is one
+-- the state after the first ones is one
 record Splits (from to : BegunState) (xs : List CarriedLine) (line : CarriedLine) (ys : List CarriedLine) : Type 0 where
   between : BegunState
   first : Takes from xs between

@@ -178,7 +178,7 @@ impl Config {
         self.queues.queue(queue as usize).openings
     }
 
-    /// The controller that a queue is under, 0 to 7: 0 where there are none, and behind the last queue.
+    /// The controller that a queue is under, 0 to 7: 0 where there are none, and after the last queue.
     pub fn controller(&self, queue: QueueId) -> u32
         ensures value { result ≡ (queue_setup self.now queue.0).controller }
         ensures bound { result < most_controllers }

@@ -1,4 +1,4 @@
--- An event's reply: what fits, the room for its record, and what the engine is behind it.
+-- An event's reply: what fits, the room for its record, and what the engine is after it.
 use Rattle.std.proofs.Common.{◌≡◌, ℕ, ◌+◌, ◌≤◌, true, false, List, [], ◌∷◌, ◌++◌, length, Result, Ok, Err, Option, Some, None, refl, ap, sym, subst, ◌∙◌, arith}
 use Rattle.std.specs.Prelude.{IfOk, IfErr, OnOk}
 use Rattle.std.specs.Result.{is_err}
@@ -45,11 +45,11 @@ knows_program setup history transport runs run None kept of = tt
 knows_program setup history transport runs run (Some queue) kept of = λ it found its.
     of ∙ (ap (λ (n : ℕ). (queue_setup setup n).program) (sym its) ∙ sym (known_run setup history transport runs run.number it kept found).program)
 
--- and behind it for that of a park of each run that is out
+-- and after it for that of a park of each run that is out
 few_out : (runs : List LiveRun) (records capacity : ℕ) → records + 257 ≤ capacity → length runs ≤ 256 → HistoryHasRoom (records + 1) capacity runs
 few_out runs records capacity room few = omega (arith, room, few, count_by-le-length (λ (run : LiveRun). run.out) runs)
 
--- the engine behind an event that was performed
+-- the engine after an event that was performed
 pub performed : (setup : Setup) (history later : List Record) (event : Event) (transport : Transport) (old : RunsState) (more : Transport) (new : RunsState) (reply : Reply) (told : Record) → KeepsEngine setup history transport old → later ≡ history ++ told ∷ [] → Performs setup event transport old more new reply told → Goes setup history later transport more old new told
 performed setup history later event transport old more new reply told kept is it = goes setup history later transport more old new told kept is (it.tokens history kept) (it.leads history kept)
 

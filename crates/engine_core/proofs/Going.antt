@@ -1,4 +1,4 @@
--- A segment that was taken over, and a run that goes on behind its stop.
+-- A segment that was taken over, and a run that goes on after its stop.
 use Rattle.std.proofs.Common.{suc, ◌+◌, inr, ◌≡◌, ℕ, List, Some, refl, ap, sym, subst, ◌∙◌}
 use Rattle.bpf_insn.specs.declared.program.Slot.{Slot}
 use Rattle.bpf_semantics.specs.MachineState.{MachineState}

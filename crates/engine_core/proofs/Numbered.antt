@@ -1,4 +1,4 @@
--- An engine that keeps no history: what stands behind it, and what may follow that.
+-- An engine that keeps no history: what led to it, and what may follow.
 use Rattle.std.proofs.Common.{◌≡◌, ℕ, zero, suc, ◌+◌, ◌<◌, ◌≤◌, List, [], ◌∷◌, ◌++◌, Bool, true, false, not, cond, replicate, length, drop, Option, Some, None, inl, inr, refl, ap, sym, subst, ◌∙◌, arith}
 use Rattle.std.specs.List.{find}
 use Rattle.std.specs.Option.{option_map}
@@ -62,7 +62,7 @@ state_of setup transport runs = record { setup = setup; transport = transport; r
 pub behind_kept : (setup : Setup) (records : List Record) (transport : Transport) (runs : RunsState) → KeepsEngine setup records transport runs → IsBehind records (state_of setup transport runs)
 behind_kept setup records transport runs kept = record { world = _; leads = kept.run.run; is = refl }
 
--- nothing is behind an engine that was opened
+-- no record led to an engine that was opened
 pub keeps_opening : (config : Setup) (over : Option World) (transport : Transport) (runs : RunsState) (tokens : List Freeze) → IsLawful config → Begins config → config.carried ≡ None → over ≡ None
     → transport ≡ (opening config).transport → runs ≡ opened_runs config.tables → tokens ≡ [] → KeepsNumbered (setup_over config over) transport runs tokens
 keeps_opening config over transport runs tokens lawful begins alone nothing first second none =
@@ -87,11 +87,11 @@ pub seen_beginning : (config : Setup) (over : Option World) (transport : Transpo
     → state_of (setup_over config over) transport runs ≡ opened_numbered (setup_over config (Some (record { transport = transport; runs = runs.runs; ended = [] })))
 seen_beginning config over transport runs is = ap (λ (o : Option World). state_of (setup_over config o) transport runs) is
 
--- no record is behind an engine that begins
+-- no record led to an engine that begins
 pub behind_begun : (setup : Setup) → Begins setup → IsBehind [] (opened_numbered setup)
 behind_begun setup begins = record { world = beginning setup; leads = (begins, refl); is = refl }
 
--- whatever history is behind it, it is an engine of that
+-- whatever history led to it, it is an engine of that
 pub kept_behind : (setup : Setup) (history records : List Record) (transport : Transport) (runs : RunsState) → KeepsEngine setup history transport runs → IsBehind records (state_of setup transport runs) → KeepsEngine setup records transport runs
 kept_behind setup history records transport runs kept behind =
     let is = world_is setup records transport runs.runs behind.world behind.leads behind.is in
@@ -113,7 +113,7 @@ follows setup transport runs more after told tokens kept it = λ records behind.
     let k = kept_behind setup kept.0.0 records transport runs kept.0.1 behind in
     behind_kept setup (records ++ told ∷ []) more after (goes setup records (records ++ told ∷ []) transport more runs after told k refl (it.tokens records k) (it.leads records k)).kept
 
--- some history is behind it still
+-- some history led to it still
 pub keeps_on : (setup : Setup) (transport : Transport) (runs : RunsState) (more : Transport) (after : RunsState) (told : Record) (tokens later : List Freeze) → KeepsNumbered setup transport runs tokens → Moves setup transport runs more after told → later ≡ guests_of more.freezes → KeepsNumbered setup more after later
 keeps_on setup transport runs more after told tokens later kept it is =
     let history = kept.0.0 in
@@ -130,7 +130,7 @@ keeps_tokens setup transport runs more after told tokens kept it others =
 
 -- ---- what may not follow
 
--- a world behind it
+-- a world that led to it
 abbrev pub IsIn : NumberedState → World → Type 0
 IsIn state world = world ≡ record world { transport = state.transport; runs = state.runs }
 

@@ -40,7 +40,7 @@ private_leads setup (suc n) world high run to rising found out (next, first, res
     ap (λ (runs : List LiveRun). record world { runs = record world.runs { list = runs } }) (put_put run_key then_run (with_machine run to) world.runs.list refl) in
     (between, step, subst (λ (w : World). Leads setup between (replicate n (executes run.number private, went_on)) w) end later)
 
--- with the stop behind them they are what an advance's record stands for
+-- with the stop after them they are what an advance's record stands for
 pub advance_leads : (setup : Setup) (n steps : ℕ) (world between after : World) (run : ℕ) (stop : StoppedAt) (r0 : ℕ) → steps ≡ n + 1 → Leads setup world (replicate n (executes run private, went_on)) between → WorldStep setup between (executes run (stop_of stop)) (result r0) after → Leads setup world (events_of (Advance run steps stop r0)) after
 advance_leads setup n steps world between after run stop r0 count leads step =
     let many : steps ≡ suc n = omega (arith, count) in

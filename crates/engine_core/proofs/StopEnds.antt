@@ -119,7 +119,7 @@ continues old changed after place at request given same allowed goes stands = re
       (answered_reached segment request given (answered request given at) ends.segment_is n reached ends.stop_is (subst (λ (m : MachineState). IsAnswer m request given) (sym ends.machine_is) allowed) (ap (answered request given) (sym ends.machine_is)));
 }
 
--- a call that was carried out, with its run behind it
+-- a call that was carried out, with its run after it
 pub call_ends : (transport more : Transport) (old changed after : RunsState) (place : ℕ) (segment : SegmentState) (request : Request) (given : Answer) → IsSegment segment → segment.stop ≡ Helper request → Does place segment request given transport old more changed → Goes changed after place (answered request given segment.to) → LeadsBy (stopped_at (Helper request)) given.r0 place segment transport old more after
 call_ends transport more old changed after place segment request given is stop does goes number a setup history kept =
     let world : World = world_of setup history transport old.runs in
@@ -138,7 +138,7 @@ abbrev pub Ends : RunsState → RunsState → ℕ → Type 0
 Ends old after place =
     (it : LiveRun) → HasRunAt old.runs.list place it → after ≡ record { runs = record old.runs { list = leave run_key it.number old.runs.list }; tokens = remove old.tokens place }
 
--- and a run that is gone behind its exit
+-- and a run that is gone after its exit
 pub exit_ends : (transport : Transport) (old after : RunsState) (place : ℕ) (segment : SegmentState) (r0 : ℕ) → IsSegment segment → segment.stop ≡ Exit r0 → Ends old after place → LeadsBy at_exit_stop r0 place segment transport old transport after
 exit_ends transport old after place segment r0 is stop left number a setup history kept =
     let world : World = world_of setup history transport old.runs in

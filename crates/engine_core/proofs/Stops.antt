@@ -92,7 +92,7 @@ told_is (plain helper) = refl
 told_is (traces helper bytes) = refl
 told_is (finishes helper code) = refl
 
--- a call that is carried out, and the run that goes on behind it
+-- a call that is carried out, and the run that goes on after it
 pub call_leads : (setup : Setup) (world : World) (number : ℕ) (segment : SegmentState) (run : LiveRun) (request : Request) (given : Answer) (transport : Transport) (runs : Runs) → Arrives setup world number segment run → segment.stop ≡ Helper request → IsCarriedOut (goes_on world run segment.to) (at_stop run segment) request given transport (record runs { list = with_run (at_stop run segment) runs.list }) → LeadsTo setup world (events_of (Advance number segment.steps (recorded (told_of request)) given.r0)) transport (record runs { list = with_run (with_machine run (answered request given segment.to)) runs.list })
 call_leads setup world number segment run request given transport runs it stop does =
     let standing : LiveRun = at_stop run segment in

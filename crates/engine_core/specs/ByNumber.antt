@@ -1,4 +1,4 @@
--- What contracts see of an engine that keeps no history, and which histories may be behind it.
+-- What contracts see of an engine that keeps no history, and which histories may have led to it.
 use Rattle.std.specs.Prelude.{◌≡◌, ℕ, List, [], ◌∷◌, ◌++◌, length, filter, count_by, Option, Some, None, map, Bool, true, false}
 use Rattle.ccb.specs.Rising.{AreRising}
 use Rattle.freeze_ledger.specs.declared.freeze.Freeze.{Freeze}
@@ -32,7 +32,7 @@ opened_numbered setup = record { setup = setup; transport = (beginning setup).tr
 abbrev pub guests_of : List Freeze → List Freeze
 guests_of freezes = filter (λ freeze. is_guest freeze.holder) freezes
 
--- some history is behind it, and it has the tokens of all guests' freezes
+-- some history led to it, and it has the tokens of all guests' freezes
 abbrev pub KeepsNumbered : Setup → Transport → RunsState → List Freeze → Type 0
 KeepsNumbered setup transport runs tokens = ((history : List Record) × KeepsEngine setup history transport runs) × (tokens ≡ guests_of transport.freezes)
 
@@ -54,11 +54,11 @@ engine_of state history = record { setup = state.setup; history = history; taken
 abbrev pub HasHistory : NumberedState → Type 0
 HasHistory state = (history : List Record) × IsRun (engine_of state history)
 
--- one record more is behind it
+-- one record more led to it
 abbrev pub RecordFollows : NumberedState → Record → NumberedState → Type 0
 RecordFollows old told new = (records : List Record) → IsBehind records old → IsBehind (records ++ told ∷ []) new
 
--- behind no history of this engine stands this record
+-- this record follows no history of this engine
 abbrev pub CannotFollow : NumberedState → Record → Type 0
 CannotFollow old told = (records : List Record) → IsBehind records old → IsHistory old.setup (records ++ told ∷ []) → ⊥
 
@@ -92,7 +92,7 @@ abbrev pub Advances : NumberedState → ℕ → Option Record → NumberedState 
 Advances old run None new = (new ≡ old) × ((instructions : ℕ) (stop : StoppedAt) (r0 : ℕ) → CannotFollow old (Advance run instructions stop r0))
 Advances old run (Some told) new = IsAdvanceOf run told × RecordFollows old told new
 
--- the sums behind so many records
+-- the sums after so many records
 abbrev pub sums_behind : ℕ → NumberedState → Totals
 sums_behind records state = record {
   history = records;

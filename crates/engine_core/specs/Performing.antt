@@ -22,7 +22,7 @@ world_with transport runs world = record world { transport = transport; runs = r
 abbrev pub IsPlaced : List LiveRun → ℕ → ℕ → Type 0
 IsPlaced runs number place = (it : LiveRun) × (run_of number runs ≡ Some it) × HasRunAt runs place it
 
--- one run that is out more needs its room no more behind a park
+-- one run that is out more needs its room no more after a park
 abbrev pub LeavesRoom : Event → List LiveRun → List LiveRun → Type 0
 LeavesRoom (Park run) old new = (records capacity : ℕ) → HistoryHasRoom records capacity old → HistoryHasRoom (records + 1) capacity new
 LeavesRoom event old new = Unit {0}

@@ -148,7 +148,7 @@ answer_of (Left count) = answers.Left count
 answer_of (Removed count) = answers.Removed count
 answer_of given = answers.Ok
 
--- R0 behind what an advance gives
+-- R0 after what an advance gives
 abbrev pub r0_given : Success → ℕ
 r0_given (Goes run r0) = r0
 r0_given (Ended r0) = r0

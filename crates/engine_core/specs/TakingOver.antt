@@ -151,7 +151,7 @@ abbrev pub LeadsFrom : MachineState → Stop → ℕ → ℕ → Transport → R
 LeadsFrom machine stop r0 place transport runs more after =
     (segment : SegmentState) → EndsAt segment machine stop → LeadsBy (stopped_at stop) r0 place segment transport runs more after
 
--- R0 behind the stop
+-- R0 after the stop
 abbrev pub r0_onward : Onward → ℕ
 r0_onward (onward.Goes r0 spare) = r0
 r0_onward (onward.Ended r0 spare) = r0

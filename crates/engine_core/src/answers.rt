@@ -69,7 +69,7 @@ pub enum AdvanceAnswer {
 }
 
 impl AdvanceAnswer {
-    /// R0 behind the stop.
+    /// R0 after the stop.
     pub fn r0(&self) -> u64
         ensures { result ≡ r0_of self.now }
     {

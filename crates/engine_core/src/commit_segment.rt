@@ -41,16 +41,16 @@ fn recorded_call(alloc: Global, request: &Request) -> Result<StoppedAt, AllocErr
     }
 }
 
-/// What a stop led to, each with R0 behind it and the place of a machine that is needed no more.
+/// What a stop led to, each with R0 after it and the place of a machine that is needed no more.
 pub(crate) enum Onward {
-    /// The run goes on behind the call of a helper.
+    /// The run goes on after the call of a helper.
     Goes(u64, Box<Machine>),
     /// It exited and is gone.
     Ended(u64, Box<Machine>),
 }
 
 impl Onward {
-    /// R0 behind the stop.
+    /// R0 after the stop.
     pub(crate) fn r0(&self) -> u64
         ensures { result ≡ r0_onward self.now }
     {
@@ -76,7 +76,7 @@ impl Onward {
     }
 }
 
-/// Takes over what the run at this place executed, up to the stop at which this machine stands. The run goes on behind the call of
+/// Takes over what the run at this place executed, up to the stop at which this machine stands. The run goes on after the call of
 /// a helper, or exited and is gone.
 #[inline(always)]
 pub(crate) fn take_over(

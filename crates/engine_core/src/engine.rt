@@ -30,7 +30,7 @@ use std::marker::Model;
 use std::sync::Arc;
 use world_calls::{Record, Totals, Trace, Version};
 
-/// The room that a call makes in the history: for its own record, and for one of each run, which may be parked behind it.
+/// The room that a call makes in the history: for its own record, and for one of each run, which may be parked after it.
 pub(crate) const ROOM: usize = 1 + MAX_RUNS;
 
 /// Device queues with their CCBs, freezes and recovery runs, and the history of the calls made on them, of which it keeps what was not

@@ -460,7 +460,7 @@ impl<'a> NumberedEngine<'a> {
         first_out(&self.parts.runs)
     }
 
-    /// The sums, behind so many records.
+    /// The sums, after so many records.
     pub fn totals(&self, records: u64) -> Totals
         ensures { result ≡ sums_behind records self.now }
     {

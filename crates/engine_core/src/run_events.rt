@@ -67,7 +67,7 @@ pub(crate) fn advance(
     Ok((answer, told))
 }
 
-/// How far a run came: how many instructions it executed, with that of its stop, R0 behind the stop, and whether it goes on.
+/// How far a run came: how many instructions it executed, with that of its stop, R0 after the stop, and whether it goes on.
 #[derive(Clone, Copy)]
 pub(crate) struct Progress {
     pub(crate) instructions: u32,

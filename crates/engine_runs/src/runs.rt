@@ -425,7 +425,7 @@ impl Runs {
         let_go(&mut self.records[place].tokens, freeze)
     }
 
-    /// The run at this place goes on behind the helper call at which `to` stands, with an answer that the call may get. That
+    /// The run at this place goes on after the helper call at which `to` stands, with an answer that the call may get. That
     /// machine is the recorded one from now on, and the place of the one that was comes back.
     pub fn go_on(
         &mut self,

@@ -39,7 +39,7 @@ queue_state_of queue openings ccbs = record {
 abbrev pub with_gone : Bool → QueueState → QueueState
 with_gone was_active queue = if was_active then with_stopped false queue else with_left queue
 
--- the queue of a number; behind the last stands one without openings
+-- the queue of a number; after the last stands one without openings
 abbrev pub queue_at : List QueueState → ℕ → QueueState
 queue_at queues queue = slice_index_or queues queue (empty_queue 0)
 

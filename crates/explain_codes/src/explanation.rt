@@ -14,17 +14,17 @@ use std::io::Write;
 /// By what an example is shown.
 #[derive(Clone, Copy, PartialEq, Eq)]
 pub enum Shown {
-    /// `check`, of the beginning of a manifest, with the program p1 behind it, which is POLICY.
+    /// `check`, of the beginning of a manifest, with the program p1 after it, which is POLICY.
     Manifest,
     /// `migrate`, of the same.
     Migration,
     /// `check`, of the text of a program.
     Program,
-    /// `check`, of the text of a program's beginning, with POLICY behind it.
+    /// `check`, of the text of a program's beginning, with POLICY after it.
     Head,
     /// `check`, of the bytes of a program.
     Code,
-    /// `check`, of the bytes of a program's beginning, with POLICY_BYTES behind them.
+    /// `check`, of the bytes of a program's beginning, with POLICY_BYTES after them.
     CodeHead,
     /// `run`, of a scenario.
     Scenario,
@@ -36,7 +36,7 @@ pub enum Shown {
     Call,
 }
 
-/// What there is to say of a code. A line of an example with `# N times` behind it stands for N such lines.
+/// What there is to say of a code. A line of an example with `# N times` after it stands for N such lines.
 #[derive(Clone, Copy)]
 pub struct Explanation {
     /// What it means, with its numbers: a sentence without its full stop.

@@ -140,7 +140,7 @@ fn run_started(answer: CallAnswer, freeze: u32) -> Option<u32> {
     }
 }
 
-// How many records there are before the reports that wait at the end of the lines, which are served behind them.
+// How many records there are before the reports that wait at the end of the lines, which are served after them.
 fn served_before(text: &str, trace: &Trace) -> usize {
     let served = reports_in(trace).saturating_sub(waiting_at_end(text));
     let mut seen = 0usize;

@@ -18,7 +18,7 @@ pub record AreListed (places : Places) : Type 0 where
   pub among : (place : ℕ) → is_marked places.marked place ≡ true → IsAmong places.order places.count place
   pub placed : (i : ℕ) → i < places.count → is_marked places.marked (slice_index places.order i) ≡ true
 
--- More are listed: those that were stand where they stood, and behind them those of these places that were not listed yet.
+-- More are listed: those that were stand where they stood, and after them those of these places that were not listed yet.
 pub record ListsToo (these : ℕ → Type 0) (before after : Places) : Type 0 where
   pub listed : AreListed after
   pub more : before.count ≤ after.count

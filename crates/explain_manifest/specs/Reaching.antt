@@ -7,7 +7,7 @@ use Rattle.call_shape.specs.Onward.{onward}
 use Rattle.call_shape.specs.declared.onward.Onward.{Onward}
 use Rattle.call_shape.specs.declared.onward.Onward.TheVariants.{Leaves, Continues, Branches, Enters}
 
--- control goes on there: at a call in the function that is called, and behind the call once that ends
+-- control goes on there: at a call in the function that is called, and after the call once that ends
 abbrev pub GoesOnAt : Onward → ℕ → Type 0
 GoesOnAt Leaves to = ⊥
 GoesOnAt (Continues next) to = to ≡ next

@@ -10,7 +10,7 @@ use scalar_domain::Scalar;
 /// What distinguishes the signed order of words from the unsigned one.
 const SIGN: u64 = 1 << 63;
 
-/// How many bytes a frame has: R10 points behind them.
+/// How many bytes a frame has: R10 points after them.
 const FRAME_BYTES: u16 = 512;
 
 /// How many freezes are named one by one at most.

@@ -14,7 +14,7 @@ const SLOT_BYTES: usize = 8;
 
 const SLOT_DIGITS: usize = 16;
 
-/// How wide most instructions are as text, and the pairs of a slot with the blanks behind them.
+/// How wide most instructions are as text, and the pairs of a slot with the blanks after them.
 const TEXT: usize = 24;
 
 const PAIRS: usize = 25;

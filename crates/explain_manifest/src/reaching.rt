@@ -10,7 +10,7 @@ use bpf_insn::{MAX_SLOTS, Program};
 use call_shape::Onward;
 
 /// Whether control may come from one place of a program to another: it stands there already, or comes there by where
-/// instructions let it go on, into each function that is called and on behind the call. It takes no memory, and time that
+/// instructions let it go on, into each function that is called and on after the call. It takes no memory, and time that
 /// grows with the slots.
 pub fn reaches(program: &Program, from: usize, to: usize) -> bool
     requires { to < MAX_SLOTS }

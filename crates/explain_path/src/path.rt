@@ -97,7 +97,7 @@ fn worth(arrival: Arrival, matter: Registers) -> u32 {
         .saturating_add(arrival.alike.count())
 }
 
-// Which registers matter before an instruction, where these do behind it.
+// Which registers matter before an instruction, where these do after it.
 fn mattering(program: &Program, log: &Log, at: usize, matter: Registers) -> Registers {
     let Some(sighting) = log.sightings().get(at) else {
         return matter;

@@ -42,7 +42,7 @@ decided (Some other) key =
       | inr apart ↦ inr (λ e. let same : other ≡ key = cc e in apart same)
     ]
 
--- what is there behind a removal was there, under another key
+-- what is there after a removal was there, under another key
 stayed : (old new : List (Option Freeze)) (key : ℕ) → Changes old new key None → (k : ℕ) (f : Freeze) → freeze_at new k ≡ Some f → (k ≢ key) × (freeze_at old k ≡ Some f)
 stayed old new key change k f e =
     let apart : k ≢ key = λ same. let none : None ≡ Some f = sym change.changed ∙ (ap (freeze_at new) (sym same) ∙ e) in cc none in

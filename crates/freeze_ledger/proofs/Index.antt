@@ -1,4 +1,4 @@
--- An index of deadlines: what it is behind a freeze that came, went or changed its holder.
+-- An index of deadlines: what it is after a freeze that came, went or changed its holder.
 use Rattle.std.proofs.Common.{◌≡◌, ◌≢◌, ◌⊎◌, ℕ, zero, suc, ◌+◌, ◌<◌, ◌≤◌, List, [], ◌∷◌, ◌++◌, length, get_or, All, Contains, IsPermutation, count_by, filter, Bool, true, false, ◌||◌, ◌&&◌, ◌==◌, nat_lt, nat_le, not, cond, eqb, Option, Some, inl, inr, refl, ap, sym, subst, ◌∙◌, arith}
 use Rattle.std.proofs.lemmas.Bool.{cases_eq, eq-eqb, ne_eqb, cond-true, cond-false, or_parts}
 use Rattle.std.proofs.lemmas.List.{get_or_default}

@@ -20,7 +20,7 @@ pub record LinkLeadsTo (comes : ℕ → ℕ → Type 0) (slots : List (Option Fr
   pub behind : comes number freeze.number
   pub first : (other : ℕ) (between : Freeze) → freeze_at slots other ≡ Some between → index_of between.place ≡ place → comes number between.number → comes between.number freeze.number → ⊥
 
--- of the place's freezes that come behind this number in that order, the key is of the first; without one there is none
+-- of the place's freezes that come after this number in that order, the key is of the first; without one there is none
 abbrev pub LinkLeads : (ℕ → ℕ → Type 0) → List (Option Freeze) → (place number : ℕ) → Option ℕ → Type 0
 LinkLeads comes slots place number None =
     (key : ℕ) (freeze : Freeze) → freeze_at slots key ≡ Some freeze → index_of freeze.place ≡ place → comes number freeze.number → ⊥

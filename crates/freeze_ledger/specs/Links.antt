@@ -32,7 +32,7 @@ abbrev pub led_back : List Link → (from to : Option ℕ) → List Link
 led_back links None to = links
 led_back links (Some key) to = slice_set links key (record (link_at links key) { earlier = to })
 
--- this key comes behind the last
+-- this key comes after the last
 abbrev pub appended : List Link → Ends → ℕ → List Link
 appended links ends key = led_on (slice_set links key (record { earlier = ends.last; later = None })) ends.last (Some key)
 

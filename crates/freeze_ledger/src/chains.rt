@@ -6,7 +6,7 @@ ghost use Rattle.freeze_ledger.specs.Links.{no_link, no_ends, link_at, ends_at, 
 
 use std::alloc::{AllocError, Global};
 
-/// The keys of the entries before and behind one, of its place.
+/// The keys of the entries before and after one, of its place.
 #[derive(Clone, Copy)]
 pub(crate) struct Link {
     pub(crate) earlier: Option<usize>,
@@ -44,7 +44,7 @@ impl Chains {
         Ok(Chains { links, ends })
     }
 
-    /// Puts the entry of this key behind all others of its place.
+    /// Puts the entry of this key after all others of its place.
     pub(crate) fn append(&mut self, at: usize, key: usize)
         requires place { at < length self.old.ends.items }
         requires key { key < length self.old.links.items }
@@ -61,7 +61,7 @@ impl Chains {
         self.ends[at] = with_last(ends, key);
     }
 
-    /// Takes the entry of this key out of the chain of its place: the one before leads to the one behind.
+    /// Takes the entry of this key out of the chain of its place: the one before leads to the one after.
     pub(crate) fn remove(&mut self, at: usize, key: usize)
         requires place { at < length self.old.ends.items }
         requires key { key < length self.old.links.items }

@@ -54,7 +54,7 @@ impl<'a> Iterator for Holders<'a> {
     }
 }
 
-// The key behind this one.
+// The key after this one.
 fn later(links: &[Link], key: usize) -> Option<usize>
     ensures { result ≡ (link_at links.now key).later }
 {

@@ -401,7 +401,7 @@ impl Helper {
         self.row().asks
     }
 
-    /// How many arguments it takes, in R1 and the registers behind it: 0 to 3.
+    /// How many arguments it takes, in R1 and the registers after it: 0 to 3.
     pub fn arity(self) -> usize
         ensures { result ≡ arity self }
     {

@@ -58,7 +58,7 @@ pub fn run_from<'a>(
     unreachable!()
 }
 
-// An engine with these lines, and nothing behind it.
+// An engine with these lines, to which no record led.
 fn begun<'a>(
     alloc: Global,
     config: &'a Config,

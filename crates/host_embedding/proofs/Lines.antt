@@ -1,4 +1,4 @@
--- Lines of a trace, one behind the other.
+-- Lines of a trace, one after the other.
 use Rattle.std.proofs.Common.{◌≡◌, ◌+◌, ◌<◌, ℕ, Option, Some, List, [], ◌∷◌, ◌++◌, ◌≤◌, ◌-◌, None, length, drop, get_or, refl, sym, ap, ◌∙◌, append-nil, append_assoc, arith}
 use Rattle.std.proofs.lemmas.List.Edits.{between_none, between_more}
 use Rattle.std.proofs.lemmas.List.{drop-drop}

@@ -67,7 +67,7 @@ IsResumed (Ok handle) old new number =
     Records old new (Called answers.Ok (Resume number)) × (handle.value.number ≡ number) × (handle.value.freeze ≡ 0) × ((run : RunState) × HoldsRun new handle.value run)
 IsResumed (Err result) old new number = IsFaulted result old new (Resume number)
 
--- what the run at a stop tells, with R0 behind it
+-- what the run at a stop tells, with R0 after it
 abbrev pub advance_of : StoppedState → ℕ → Record
 advance_of stopped r0 = Advance stopped.number stopped.segment.steps (stopped_at stopped.segment.stop) r0
 

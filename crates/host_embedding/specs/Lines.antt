@@ -19,7 +19,7 @@ abbrev pub lines_of : {T : Type 0} → (T → Option (List ℕ)) → List T → 
 lines_of text [] = Some []
 lines_of text (first ∷ rest) = option_append (with_newline (text first)) (lines_of text rest)
 
--- Behind what stood there, the place has the lines of the items from one on, up to the next.
+-- After what stood there, the place has the lines of the items from one on, up to the next.
 pub record AddsLines {T : Type 0} (text : T → Option (List ℕ)) (items : List T) (before : List ℕ) (from : ℕ) (place : List ℕ) (next : ℕ) : Type 0 where
   pub lines : List ℕ
   pub lines_are : lines_of text (slice_range items from next) ≡ Some lines

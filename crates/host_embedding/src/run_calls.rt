@@ -43,7 +43,7 @@ impl EngineHandle {
         }
     }
 
-    /// Takes over what a run did up to its next stop, at which it has to be, with R0 behind it, and reports what it has done with its CCB.
+    /// Takes over what a run did up to its next stop, at which it has to be, with R0 after it, and reports what it has done with its CCB.
     /// The run goes on, or has ended and is spent. Where it is not out in this engine it is back where it was. Room for what it did is made
     /// first: where memory for it is refused, the engine is not asked.
     pub fn advance(

@@ -25,7 +25,7 @@ pub struct PutLines {
     pub next: u64,
 }
 
-// Puts a text behind so many bytes of a place, where it finds room: how many bytes stand there then.
+// Puts a text after so many bytes of a place, where it finds room: how many bytes stand there then.
 pub(crate) fn put_behind(text: &[u8], place: &mut [u8], written: usize) -> Option<usize>
     requires { written ≤ length place.old }
     ensures put { IfSome result (λ count. (count ≡ written + length text.now) × (count ≤ length place.new) × (take count place.new ≡ take written place.old ++ text.now)) }

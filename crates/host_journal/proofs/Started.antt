@@ -1,4 +1,4 @@
--- What an engine stands behind at a start.
+-- What led to an engine at a start.
 use Rattle.std.proofs.Common.{◌≡◌, ◌∙◌, ℕ, Option, Some, None, Ok, List, [], ◌∷◌, ◌++◌, inl, inr, codes, refl, subst, sym, ap, append_assoc, append-nil}
 use Rattle.std.specs.Fmt.{option_append, with_newline}
 use Rattle.base.specs.declared.or_memory.OrMemory.{OrMemory}

@@ -14,7 +14,7 @@ use Rattle.host_recovery.specs.declared.recovering.TheConstants.{MOST_WHOLE}
 use Rattle.host_journal.specs.Texts.{AreTooMany, IsBad, IsCutAt, Says, Tells}
 use Rattle.host_journal.proofs.LastLine.{too_many}
 
--- what is UTF-8 behind UTF-8
+-- what is UTF-8 after UTF-8
 pub behind : (front rest : List ℕ) → IsUtf8 front → IsUtf8 (front ++ rest) → IsUtf8 rest
 behind front rest first both =
     let cut : take (length front) (front ++ rest) ≡ front = take-append_seam front rest in

@@ -20,7 +20,7 @@ pub data Step : Type 0 where
   Opened : (number : ℕ) → Step
   -- the open segment has that many bytes, those from its front, and is appended to
   CutTo : (bytes : ℕ) → Step
-  -- these bytes stand behind those of the open segment
+  -- these bytes stand after those of the open segment
   Kept : (bytes : List ℕ) → Step
   -- the open segment outlasts a stop of the machine
   Synced : Step

@@ -103,7 +103,7 @@ pub record InOrder {T E : Type 0} (is_synced : Bool) (first : List ℕ) (before 
   pub whole : OnOk result (Told first (first ++ kept) out answers × (is_synced ≡ true → synced ≡ kept))
   pub unlost : OnOk result (is_lost ≡ false)
 
--- What was appended continues each history behind the engine, of so many records, by the runs that were out, unless runs stay out, and then by
+-- What was appended continues each history that led to the engine, of so many records, by the runs that were out, unless runs stay out, and then by
 -- what the lines that came asked for, turn by turn; and at the end by the last line, unless the trace is kept and a run is live. The order was
 -- kept, and what is out has the answer that was owed and those of these turns, and no others. The records of what was appended are those that
 -- were counted.

@@ -14,7 +14,7 @@ are_digits digits = list_all is_ascii_digit digits
 abbrev pub is_number : List ℕ → Bool
 is_number digits = nat_le 6 (length digits) && nat_le (length digits) 18 && are_digits digits && (length digits == 6 || not (slice_index digits 0 == 48))
 
--- the value of digits behind others of this value
+-- the value of digits after others of this value
 abbrev pub value_from : ℕ → List ℕ → ℕ
 value_from value [] = value
 value_from value (digit ∷ digits) = value_from (10 * value + (digit - 48)) digits

@@ -192,7 +192,7 @@ abbrev pub OpensFirst : Begun → (old new : Option (List Step)) → Result Reco
 OpensFirst begun old new (Ok recovered) = IsFirst begun recovered
 OpensFirst begun old new (Err error) = IsUnmade old new error ⊎ IsUnbegun begun error
 
--- what is opened of the segment of that number, whose bytes these are, if they are known: the engine that is behind its records
+-- what is opened of the segment of that number, whose bytes these are, if they are known: the engine to which its records lead
 abbrev pub OpensNext : Setup → (number : ℕ) → Option (List ℕ) → (old new : Option (List Step)) → Result Recovered (OrMemory JournalFault) → Type 0
 OpensNext setup number known old new (Ok recovered) = Replays setup number known (Ok recovered)
 OpensNext setup number known old new (Err error) = Replays setup number known (Err error) × HasCause number known old new error

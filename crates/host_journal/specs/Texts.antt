@@ -52,7 +52,7 @@ ReadsAll number known old (Err fault) new = (new ≡ with_step old (Failed (Segm
 abbrev pub IsBad : List ℕ → Type 0
 IsBad bytes = (more : List ℕ) → IsUtf8 (bytes ++ more) → ⊥
 
--- so many from the front are, and the few behind these are not, if there are any
+-- so many from the front are, and the few after these are not, if there are any
 pub record IsCutAt (bytes : List ℕ) (whole : ℕ) : Type 0 where
   pub within : whole ≤ length bytes
   pub few : length bytes < whole + 4

@@ -18,7 +18,7 @@ use host_recovery::{ReadFailed, Recovered, RecoveryError, RecoveryFault, recover
 use std::alloc::Global;
 use std::marker::{Brand, PhantomData};
 
-/// The engine that stands behind the records of the segment of that number. What is told of a segment that is not UTF-8 is that, before any
+/// The engine to which the records of the segment of that number lead. What is told of a segment that is not UTF-8 is that, before any
 /// other fault of it.
 pub(crate) fn replayed<'a, D: Disk>(
     alloc: Global,

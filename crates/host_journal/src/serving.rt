@@ -32,7 +32,7 @@ use std::alloc::Global;
 use std::marker::Brand;
 use trace::WriteFailed;
 
-/// Serves an engine of this journal that stands behind a history of so many records, whose segment is open, until the input ends or another
+/// Serves an engine of this journal to which a history of so many records led, whose segment is open, until the input ends or another
 /// engine is to follow this one; it returns whether one is. The lines of what a line of the input leads to are appended to the segment before
 /// they go out, and with `is_synced` they are synced before. If the segment was just made, its text goes out first, and then the answer that is
 /// owed. Each record is counted, and what was counted is reported when nothing more is served. At the end the last line of the trace is made; but a trace that is kept gets none while a run is live: then
@@ -62,7 +62,7 @@ pub fn serve<D: Disk, I: Input, N: Reports>(
     // each once and no others, over what was counted before; and what they come to was reported at last, as it is handed back, at the end and
     // where it stopped.
     ensures order { (point : Point) → IsAt point (I.came input.old) lines.old → ServesInOrder engine.entry count manner N.may_refuse owed point (I.came input.new) lines.new (N.has_decided reports.new) (CountsTo engine.entry metrics.old (N.has_counted reports.new AtLast) metrics.new) is_synced (first_line begun.now) (D.steps disk) (D.steps result.0) result.1 }
-    // What was appended continues the history behind the engine.
+    // What was appended continues the history that led to the engine.
     ensures told { (records : List TheRecord) → IsBehind records engine.entry → count ≡ length records → Continues engine.entry.setup manner records (kept_so_far (D.steps disk)) result.1 (kept_so_far (D.steps result.0)) }
     ensures unread { result.1 ≡ Err (Fault Unread) → IsTrue (I.has_failed input.new) }
     ensures still { OnOk result.1 (I.has_failed input.new ≡ I.has_failed input.old) }

@@ -10,7 +10,7 @@ use trace_lines::Text;
 /// How many bytes a character has at most.
 const CHARACTER: usize = 4;
 
-/// How many bytes are read at a time: behind what may begin a character they have room in a `Text`.
+/// How many bytes are read at a time: after what may begin a character they have room in a `Text`.
 const PIECE: usize = 4092;
 
 /// Whether all that the open segment gives is UTF-8.
@@ -40,7 +40,7 @@ pub(crate) fn is_text<D: Disk>(disk: &mut D) -> Result<bool, ReadFailed>
     Err(ReadFailed)
 }
 
-// How many bytes from the front are whole characters. Those behind may begin one more; none if they cannot.
+// How many bytes from the front are whole characters. Those after may begin one more; none if they cannot.
 fn whole_of(bytes: &[u8]) -> Option<usize>
     ensures { MatchOption result (IsBad bytes.now) (IsCutAt bytes.now) }
 {

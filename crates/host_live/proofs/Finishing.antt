@@ -198,7 +198,7 @@ module _ (manner : Manner) (Refuses : Succession → NumberedState → Unfollowe
   finishes_in_part_placed records answers (in_drives turned driven given ends runs kept) = in_drives turned driven given (ends_placed turned given ends) runs kept
   finishes_in_part_placed records answers (at_last lines is_followed some given it) = at_last lines is_followed some given (finishes_placed lines (λ how now. ⊤) is_followed some given it)
 
--- the same behind the runs that were out
+-- the same after the runs that were out
 module _ (manner : Manner) (Refuses : Succession → NumberedState → Unfollowed → Type 0) (point : Point) (came : Option CameState) (P Q : List Record → ℕ → Type 0) (on : (records : List Record) (behind : ℕ) → P records behind → Q records behind) (start : NumberedState) where
   pub gone_on_placed : (lines : Lines) (Decided : Succession → NumberedState → Type 0) (is_followed : Bool) (records : List Record) (answers : List Answer) → IsGoneOn manner Refuses start P point came lines Decided is_followed records answers → IsGoneOn manner Refuses start Q point came lines Decided is_followed records answers
   gone_on_placed lines Decided is_followed records answers it = record {

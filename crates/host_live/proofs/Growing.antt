@@ -231,7 +231,7 @@ long_after None between handed text behind told long = tt
 long_after (Some its) None handed text behind told long = absurd told
 long_after (Some its) (Some all) handed text behind told long = omega (arith, long, ap length told, length-append its handed, length-append handed text)
 
--- all was handed on: what is out is behind the lines of these records
+-- all was handed on: what is out is after the lines of these records
 pub placed_now : (more : List Record) (old new : PrintedState) (at to : Option (List ℕ)) (failed fails : ℕ) → GrowsBy more old at failed new to fails → (behind : ℕ) → IsNow new.printed to behind → IsPrintedBehind old.printed at more behind
 placed_now more old new at to failed fails by behind is = elim by.printed.prints [
   | went a b goes none ↦

@@ -62,7 +62,7 @@ turn_in_part : (manner : Manner) (line : List ℕ) (records : List Record) (beca
 turn_in_part manner line records became now (passed_over state text skipped none) = subst (TurnInPart manner (version_of state.setup) line) (sym none) (none_in_part manner (version_of state.setup) line)
 turn_in_part manner line records became now (carried reading same state of_clock it) = record { reading = reading; of_clock = of_clock; part = read_these reading (λ acts leads. led_in_part manner line acts same state leads) records it }
 
--- where the lines stand behind these
+-- where the lines stand after these
 stands_in : (base told : List ℕ) (came : Option CameState) (lines : Lines) → Stands base came lines told → (line rest : List ℕ) → told ≡ line ++ rest → IfSome came (λ known. (more : List ℕ) × (all_of known ≡ base ++ (line ++ more)))
 stands_in base told None lines stands line rest is = tt
 stands_in base told (Some known) lines stands line rest is =
@@ -250,7 +250,7 @@ module _ (E F : Type 0) (manner : Manner) (Refuses : Succession → NumberedStat
   turned_down next.End it is comes down answers = absurd (let bad : next.End ≡ next.Line = down.came_next in cc)
   turned_down next.Failed it is comes down answers = absurd (let bad : next.Failed ≡ next.Line = down.came_next in cc)
 
-  -- what came goes on behind what was told
+  -- what came goes on after what was told
   still_told : (what : Next) (it : Waits base old told what came new) → IfSome came (λ known. (more : List ℕ) × (all_of known ≡ base ++ (told ++ more)))
   still_told next.Line it = told_on base told (it.0.line ++ 10 ∷ []) came (stands_in base (told ++ (it.0.line ++ 10 ∷ [])) came new it.0.stands (told ++ (it.0.line ++ 10 ∷ [])) [] (sym (append-nil (told ++ (it.0.line ++ 10 ∷ [])))))
   still_told next.Cut it = told_on base told it.0.line came (stands_in base (told ++ it.0.line) came new it.0.stands (told ++ it.0.line) [] (sym (append-nil (told ++ it.0.line))))
@@ -310,7 +310,7 @@ pub stops_before : {F : Type 0} (manner : Manner) (Refuses : Succession → Numb
 stops_before manner Refuses base told before came old new Decided now printed at last same stands =
     (refl, at_reading None (λ still. refl) refl (subst (λ (c : Option CameState). IfSome c (λ known. (more : List ℕ) × (all_of known ≡ base ++ (told ++ more)))) (sym same) (told_all base told before old stands)))
 
--- what was waited for is behind the line before
+-- what was waited for is after the line before
 pub waits_from : (base told : List ℕ) (what : Next) (came : Option CameState) (old mid new : Lines) → mid.number ≡ old.number → Waits base mid told what came new → Waits base old told what came new
 waits_from base told next.Line came old mid new same it = (it.0, it.1 ∙ ap (λ (n : ℕ). n + 1) same)
 waits_from base told next.Cut came old mid new same it = (it.0, it.1 ∙ ap (λ (n : ℕ). n + 1) same)

@@ -463,7 +463,7 @@ none_is_back version told line word reads Help e = word.back Help e
 pub none_is : (version : Version) (told : Bool) (line : List ℕ) → Reads (named_text told) line None → Reads (call_text version) line None → Reads (request_text version told) line None
 none_is version told line word reads = record { said = tt; back = λ request e. none_is_back version told line word reads request e }
 
--- ---- a number behind a word
+-- ---- a number after a word
 
 behind_said : (word line rest : List ℕ) (made : Option ℕ) → line ≡ word ++ rest → IfSome made (λ number. number_text number ≡ Some rest) → IfSome made (λ number. option_append (Some word) (number_text number) ≡ Some line)
 behind_said word line rest None is said = tt

@@ -1,4 +1,4 @@
--- What is out of the trace of an engine that stood behind a history and went on.
+-- What is out of the trace of an engine to which a history led, and which went on.
 use Rattle.std.proofs.Common.{◌≡◌, ◌∙◌, ℕ, Bool, true, false, Option, Some, None, Result, Ok, Err, List, [], ◌++◌, length, length-append, refl, sym, ap, subst, append_assoc, append-nil, inl, inr, ◌⊎◌, arith}
 use Rattle.std.specs.Prelude.{IfOk, IfSome, MatchBool}
 use Rattle.std.specs.Fmt.{option_append}
@@ -41,7 +41,7 @@ pub if_any : {A : Type 0} {Q : Type 0} (o : Option A) → Q → IfSome o (λ it.
 if_any None it = tt
 if_any (Some value) it = it
 
--- ---- an engine that stood behind a history went on, and its records went out as far as they did
+-- ---- an engine to which a history led went on, and its records went out as far as they did
 
 -- a front of a history is one
 shorter : (setup : Setup) (xs ys : List Record) → IsHistory setup (xs ++ ys) → IsHistory setup xs

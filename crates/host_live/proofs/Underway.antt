@@ -1,4 +1,4 @@
--- What a record finds: some history is behind the engine, so that it has a text.
+-- What a record finds: some history led to the engine, so that it has a text.
 use Rattle.std.proofs.Common.{◌≡◌, ◌∙◌, ℕ, List, [], ◌∷◌, ◌++◌, sym, ap, subst}
 use Rattle.world_calls.specs.declared.record.Record.{Record}
 use Rattle.world_calls.specs.declared.trace.Version.{Version}

@@ -8,7 +8,7 @@ pub record Answer : Type 0 where
   pub fault : Option LineFault
   pub behind : ℕ
 
--- where the answers are known, these were given behind them
+-- where the answers are known, these were given after them
 abbrev pub with_answers : Option (List Answer) → List Answer → Option (List Answer)
 with_answers None more = None
 with_answers (Some given) more = Some (given ++ more)

@@ -32,13 +32,13 @@ resumed version count = record { lines = record { version = version; waiting = [
 abbrev pub resumed_printed : ℕ → NumberedState → MetricsState → PrintedState
 resumed_printed count engine metrics = record { engine = engine; printed = resumed (version_of engine.setup) count; metrics = metrics }
 
--- a history of so many records is behind the engine
+-- a history of so many records led to the engine
 pub record StandsBehind (count : ℕ) (engine : NumberedState) : Type 0 where
   pub records : List Record
   pub behind : IsBehind records engine
   pub counted : count ≡ length records
 
--- some history is behind the engine, and the trace is of the version of such histories
+-- some history led to the engine, and the trace is of the version of such histories
 pub record IsUnderway (engine : NumberedState) (printed : Printed) : Type 0 where
   pub lawful : IsLawful engine.setup
   pub version : printed.lines.version ≡ version_of engine.setup
@@ -58,7 +58,7 @@ pub record PrintsAll (before : Printed) (at : Option (List ℕ)) (failed : ℕ) 
   pub count : after.count ≡ before.count + length more
   pub prints : Prints before at failed more after to fails
 
--- These records more are behind the engine, whatever history was, they were printed, and they were counted.
+-- These records more led to the engine, whatever history was, they were printed, and they were counted.
 pub record GrowsBy (more : List Record) (old : PrintedState) (at : Option (List ℕ)) (failed : ℕ) (new : PrintedState) (to : Option (List ℕ)) (fails : ℕ) : Type 0 where
   pub setup : new.engine.setup ≡ old.engine.setup
   pub follows : (records : List Record) → IsBehind records old.engine → IsBehind (records ++ more) new.engine

@@ -41,7 +41,7 @@ IsTaken came lines = IfSome came (λ known. length known.piece ≤ lines.taken)
 abbrev pub IsOver : Option CameState → Type 0
 IsOver came = IfSome came (λ known. known.is_over ≡ true)
 
--- Behind what came before, these lines were told, and this came of the next one; the rest of the piece that came last was not taken yet. Of a
+-- After what came before, these lines were told, and this came of the next one; the rest of the piece that came last was not taken yet. Of a
 -- line that was told nothing more comes.
 pub record Stands (base : List ℕ) (came : Option CameState) (lines : Lines) (told : List ℕ) : Type 0 where
   pub line : List ℕ

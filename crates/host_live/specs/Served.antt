@@ -75,7 +75,7 @@ pub record IsServedOn (start : NumberedState) (manner : Manner) (Refuses : Succe
   pub turned : IsGoneOn manner Refuses start (IsOutBehind (version_of start.setup) [] base) point came lines Decided is_followed out.more answers
   pub counted : Counted out.more
 
--- a front of that; the last line begins in it only behind all of that; all records that were made were counted
+-- a front of that; the last line begins in it only after all of that; all records that were made were counted
 pub record IsServedOnInPart (start : NumberedState) (manner : Manner) (Refuses : Succession → NumberedState → Unfollowed → Type 0) (point : Point) (came : Option CameState) (lines : Lines) (Decided : Succession → NumberedState → Type 0) (Counted : List Record → Type 0) (records : List Record) (base at : Option (List ℕ)) (given answered : Option (List Answer)) : Type 0 where
   pub out : IsContinuedInPart start.setup manner records base at
   pub rest : List Record

@@ -58,7 +58,7 @@ pub record IsContinuedInPart (setup : Setup) (manner : Manner) (records : List R
   pub is : option_append (records_text (version_of setup) more) (last_text last) ≡ Some bytes
   pub front : IsFront bytes base at
 
--- what is said of one that stood behind these records, and served to its end, or stopped before
+-- what is said of one to which these records led, and served to its end, or stopped before
 abbrev pub Continues : {T E : Type 0} → Setup → Manner → List Record → Option (List ℕ) → Result T E → Option (List ℕ) → Type 0
 Continues setup manner records base (Ok done) at = IsContinued setup manner records base at
 Continues setup manner records base (Err fault) at = IsContinuedInPart setup manner records base at

@@ -58,7 +58,7 @@ pub record ReadThen (now : Option ℕ) (These : List Record → Type 0) (records
 abbrev pub AreAdvances : ℕ → List Record → Type 0
 AreAdvances run records = All (IsAdvanceOf run) records
 
--- the last of the advances is the run's exit, or the run is not out behind them
+-- the last of the advances is the run's exit, or the run is not out after them
 pub record IsDriven (run : ℕ) (now : NumberedState) (records : List Record) : Type 0 where
   pub advances : AreAdvances run records
   pub ended : ((front : List Record) × (last : Record) × (records ≡ front ++ last ∷ []) × IsExit last) ⊎ (HasRunOut now.runs.list run → ⊥)
@@ -67,7 +67,7 @@ pub record IsDriven (run : ℕ) (now : NumberedState) (records : List Record) : 
 abbrev pub AreOfRuns : List Record → Type 0
 AreOfRuns records = All (λ told. (run : ℕ) × IsAdvanceOf run told) records
 
--- behind them no run is out
+-- after them no run is out
 pub record AreDriven (now : NumberedState) (records : List Record) : Type 0 where
   pub of_runs : AreOfRuns records
   pub none_out : first_out now.runs.list ≡ None
@@ -127,7 +127,7 @@ is_telling asks.Ccbs = true
 is_telling asks.Help = true
 is_telling request = false
 
--- What a request led to, behind the reading: the records, what became of it, and the engine then.
+-- What a request led to, after the reading: the records, what became of it, and the engine then.
 pub data Does (manner : Manner) : Request → List Record → Served → NumberedState → Type 0 where
   elsewhere : (request : Request) (now : NumberedState) → manner.is_stepped ≡ false → is_of_steps request ≡ true → Does manner request [] (served.Refused Form) now
   not_held : (call : Call) (now : NumberedState) → IsNotHeld call now → Does manner (asks.Call call) [] (served.Refused NotHeld) now
@@ -192,7 +192,7 @@ Tells asked (Err fault) records = records ≡ []
 
 -- ---- what a line leads to
 
--- What a line led to, behind the reading. It is read as a line of the version that the engine's records have, and its call is asked for as
+-- What a line led to, after the reading. It is read as a line of the version that the engine's records have, and its call is asked for as
 -- such a record tells it.
 pub data Leads (manner : Manner) (line : List ℕ) (records : List Record) : Served → NumberedState → Type 0 where
   no_text : (now : NumberedState) → (IsText line → ⊥) → records ≡ [] → Leads manner line records (served.Refused Form) now
@@ -255,7 +255,7 @@ pub record IsAt (point : Point) (came : Option CameState) (lines : Lines) : Type
 abbrev pub IsSomewhere : Option CameState → Lines → Type 0
 IsSomewhere came lines = (point : Point) × IsAt point came lines
 
--- Behind these lines, which are so many: the bytes of what came next, the number of the last line, the records, the answers, and the engine
+-- After these lines, which are so many: the bytes of what came next, the number of the last line, the records, the answers, and the engine
 -- then. A line begins where one ended. Where lines are answered, none asked to quit; and none asked for the engine that follows.
 pub data OneTurn (manner : Manner) (Refuses : Succession → NumberedState → Unfollowed → Type 0) (told : List ℕ) (number : ℕ) : List ℕ → ℕ → List Record → List Answer → NumberedState → Type 0 where
   whole_line : (line : List ℕ) (records : List Record) (became : Served) (behind : ℕ) (now : NumberedState) → EndsALine told → IsOneLine line → Turn manner line records became now → (manner.is_told ≡ true → became ≢ served.Quit) → asked_of became ≡ None
@@ -268,7 +268,7 @@ pub data OneTurn (manner : Manner) (Refuses : Succession → NumberedState → U
   timer_due : (reading : Option ℕ) (records : List Record) (now : NumberedState) → IsOfClock manner reading → IsReading reading records → OneTurn manner Refuses told number [] number records [] now
 
 -- The lines that came so far from that point on, and the timers that were due between them, turn by turn. Each answer stands where it may
--- behind the records so far.
+-- after the records so far.
 pub data Turns (manner : Manner) (Refuses : Succession → NumberedState → Unfollowed → Type 0) (start : NumberedState) (Placed : List Record → ℕ → Type 0) (point : Point) : List ℕ → ℕ → List Record → List Answer → Type 0 where
   no_turn : Turns manner Refuses start Placed point point.told point.number [] []
   one_more : (told : List ℕ) (number : ℕ) (records : List Record) (answers : List Answer) (bytes : List ℕ) (last : ℕ) (more : List Record) (others : List Answer) (now : NumberedState)
@@ -315,12 +315,12 @@ pub record EndsAsked (manner : Manner) (Refuses : Succession → NumberedState �
   pub all : records ≡ turned ++ more
   pub follows : Follows start records now
 
--- behind these lines it stopped at a reading at most, or in the turn of the next line
+-- after these lines it stopped at a reading at most, or in the turn of the next line
 pub data StopsAt (manner : Manner) (version : Version) (base : List ℕ) (came : Option CameState) (told : List ℕ) (records : List Record) : Type 0 where
   at_reading : (reading : Option ℕ) → IsOfClock manner reading → IsReading reading records → IfSome came (λ known. (rest : List ℕ) × (all_of known ≡ base ++ (told ++ rest))) → StopsAt manner version base came told records
   in_line : (line : List ℕ) → EndsALine told → IsOneLine line → TurnInPart manner version line records → IfSome came (λ known. (rest : List ℕ) × (all_of known ≡ base ++ (told ++ (line ++ 10 ∷ rest)))) → StopsAt manner version base came told records
 
--- It stopped behind some turns.
+-- It stopped after some turns.
 pub record Stops (manner : Manner) (Refuses : Succession → NumberedState → Unfollowed → Type 0) (start : NumberedState) (Placed : List Record → ℕ → Type 0) (point : Point) (came : Option CameState) (records : List Record) (answers : List Answer) : Type 0 where
   pub told : List ℕ
   pub number : ℕ

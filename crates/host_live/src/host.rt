@@ -403,7 +403,7 @@ impl<'a> Host<'a> {
         }
     }
 
-    // Another engine is asked for, behind the reading, unless a run is live.
+    // Another engine is asked for, after the reading, unless a run is live.
     fn succeed<S: Outlet>(
         &mut self,
         how: Succession,
@@ -473,7 +473,7 @@ impl<'a> Host<'a> {
         }
     }
 
-    // Carries a call out, behind the reading.
+    // Carries a call out, after the reading.
     fn call<S: Outlet>(
         &mut self,
         manner: Manner,
@@ -536,7 +536,7 @@ impl<'a> Host<'a> {
         }
     }
 
-    // Drives a run that is out to its next stop, behind the reading.
+    // Drives a run that is out to its next stop, after the reading.
     fn step<S: Outlet>(
         &mut self,
         run: u32,
@@ -566,7 +566,7 @@ impl<'a> Host<'a> {
         }
     }
 
-    // Drives a run that is out to its end, behind the reading.
+    // Drives a run that is out to its end, after the reading.
     fn drive<S: Outlet>(
         &mut self,
         run: u32,

@@ -226,7 +226,7 @@ impl Lines {
     }
 }
 
-// What stands behind so many bytes.
+// What follows so many bytes.
 fn rest_of(bytes: &[u8], taken: usize) -> &[u8]
     requires { taken ≤ length bytes.now }
     ensures { result.now ≡ drop taken bytes.now }

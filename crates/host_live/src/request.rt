@@ -292,7 +292,7 @@ fn drive_request(line: &str) -> Option<u32>
     }
 }
 
-// What stands behind a word.
+// What follows a word.
 fn behind<'a>(line: &'a str, word: &str) -> Option<&'a str>
     ensures { MatchOption result ((rest : _) → ¬ (line.now ≡ word.now ++ rest)) (λ rest. line.now ≡ word.now ++ rest.now) }
 {

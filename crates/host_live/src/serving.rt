@@ -92,7 +92,7 @@ pub fn serve<I: Input, S: Outlet, N: Reports>(
     requires stands { IsSomewhere (I.came input.old) lines.old }
     // Whatever is counted of the records that follow may be reported, and nothing else is.
     requires counts { MayCount N.may_count engine metrics.old }
-    // All that went out continues the trace of each history that the engine stood behind; where it stopped, it is a front of what does.
+    // All that went out continues the trace of each history that led to the engine; where it stopped, it is a front of what does.
     ensures told { (records : List TheRecord) → IsBehind records engine.entry → count ≡ length records → Continues engine.entry.setup manner records (S.bytes out.old) result (S.bytes out.new) }
     // It is that of the runs that were out, unless runs stay out, and then of what the lines that came asked for. The answer that was owed was
     // given first, and then each line was answered so. The records of all that are counted, each once and no others, over what was counted

@@ -57,7 +57,7 @@ no_carried_fault config (Some lines) setup place a fault = none_is_refused confi
 
 -- ---- where a front ends
 
--- before a line's feed, or behind it
+-- before a line's feed, or after it
 cut_here : (line tail front rest : List ℕ) → front ++ rest ≡ line ++ 10 ∷ tail → ((more : List ℕ) × (line ≡ front ++ more)) ⊎ ((more : List ℕ) × (front ≡ line ++ 10 ∷ more) × (tail ≡ more ++ rest))
 cut_here line tail [] rest e = inl (line, refl)
 cut_here [] tail (x ∷ front) rest e =

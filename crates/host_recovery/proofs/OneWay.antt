@@ -34,7 +34,7 @@ abbrev pub Ends : Version → Option Totals → List ℕ → Type 0
 Ends version None rest = HasNoLine version rest
 Ends version (Some totals) rest = Unit {0}
 
--- the same rest, behind a last line or not, and the same lines if those of the second are their own
+-- the same rest, after a last line or not, and the same lines if those of the second are their own
 pub record OneCut (version : Version) (records others : List Record) (sums other : Option Totals) (rest more : List ℕ) : Type 0 where
   pub rest_is : rest ≡ more
   pub kind : is_some sums ≡ is_some other

@@ -73,7 +73,7 @@ or_cases : (x y : Bool) (P : Type 0) → (x || y) ≡ true → (x ≡ true → P
 or_cases true y P is first second = first refl
 or_cases false y P is first second = second is
 
--- what is held behind a release was held before, and is another freeze
+-- what is held after a release was held before, and is another freeze
 was_held : (number : ℕ) (was : Bool) (count : ℕ) (call : Call) → held_behind number was (Called (answers.Left count) call) ≡ true → was ≡ true
 was_held number was count (its.Submit queue priority retries class) held = held
 was_held number was count (its.Dispatch queue) held = held

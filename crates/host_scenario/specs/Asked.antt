@@ -60,7 +60,7 @@ abbrev pub by_host : List Record → List Record
 by_host [] = []
 by_host (made ∷ rest) = if is_by_host made then made ∷ by_host rest else by_host rest
 
--- whether the freeze of this number is held behind a record, where it was or was not before
+-- whether the freeze of this number is held after a record, where it was or was not before
 abbrev pub held_behind : ℕ → Bool → Record → Bool
 held_behind number was (Called (Freeze taken) call) = (taken == number) || was
 held_behind number was (Called (Left count) (its.GuestRelease given)) = not (given == number) && was

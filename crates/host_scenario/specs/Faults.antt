@@ -20,7 +20,7 @@ line_of OutOfMemory = None
 line_of (NotHeld line) = Some line
 line_of InternalError = None
 
--- on this line stands a release of a freeze that is not held behind these records, which are those of the steps before it
+-- on this line stands a release of a freeze that is not held after these records, which are those of the steps before it
 pub record IsUnheldAt (version : Version) (steps : List Step) (made : List Record) (line : ℕ) : Type 0 where
   pub before : List Step
   pub step : Step

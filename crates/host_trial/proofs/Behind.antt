@@ -1,4 +1,4 @@
--- What stands behind an engine to which nothing happened.
+-- What follows an engine to which nothing happened.
 use Rattle.std.proofs.Common.{◌≡◌, List, subst, sym}
 use Rattle.world_calls.specs.declared.record.Record.{Record}
 use Rattle.engine_core.specs.ByNumber.{IsBehind, NumberedState}

@@ -41,7 +41,7 @@ accounted_spent views n other seat u w at at_seat role apart has (j, x, there, h
     (seat, w, set_else views other seat spent apart ∙ at_seat, role, has (subst (λ (y : View). Contains (numbers (y.account ∷ y.back)) n) same contains)))
     (λ (differ : j ≢ other). (j, x, set_else views other j spent differ ∙ there, holder, contains))
 
--- a number more, behind the first
+-- a number more, after the first
 behind_first : (a b n : ℕ) (more : List ℕ) → Contains (a ∷ more) n → Contains (a ∷ b ∷ more) n
 behind_first a b n more has = ⊎_elim
     (λ first. Contains-append_left (a ∷ []) (b ∷ more) n first)

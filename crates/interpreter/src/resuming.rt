@@ -1,4 +1,4 @@
-// How a run goes on behind a helper call. It relies on `bpf_machine` for what an answer leaves.
+// How a run goes on after a helper call. It relies on `bpf_machine` for what an answer leaves.
 
 ghost use Rattle.std.specs.Prelude.{◌≡◌, ◌+◌, ℕ, List, Some};
 ghost use Rattle.bpf_insn.specs.declared.program.Slot.{Slot};
@@ -9,7 +9,7 @@ ghost use Rattle.interpreter.specs.Segments.{StandsAt};
 use bpf_machine::Machine;
 use helpers::{Answer, Request};
 
-/// The machine behind the helper call at which it stands, with an answer that the call may get. A program that
+/// The machine after the helper call at which it stands, with an answer that the call may get. A program that
 /// reached the call has then reached this machine, by one instruction more. A machine that calls for a further freeze
 /// holds fewer than eight, as the call's rule has it. It takes no memory.
 pub fn resume(machine: &Machine, request: &Request, answer: &Answer) -> Machine

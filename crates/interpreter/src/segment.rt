@@ -18,7 +18,7 @@ pub struct Segment {
     pub(crate) stretch: Stretch,
 }
 
-/// What a segment keeps, which is changed in its place until it is one. Behind `steps` is the only gap, so that its
+/// What a segment keeps, which is changed in its place until it is one. After `steps` is the only gap, so that its
 /// place need not be cleared before.
 #[derive(Debug, Drop)]
 pub(crate) struct Stretch {

@@ -11,13 +11,13 @@ with_first (Some byte) (Some bytes) = Some (byte ∷ bytes)
 with_first (Some byte) None = None
 with_first None rest = None
 
--- the bytes that pairs of digits spell; blanks may stand before, between and behind them
+-- the bytes that pairs of digits spell; blanks may stand before, between and after them
 unfoldable pub bytes_in : List ℕ → Option (List ℕ)
 bytes_in [] = Some []
 bytes_in (code ∷ []) = if is_blank code then Some [] else None
 bytes_in (high ∷ low ∷ rest) = if is_blank high then bytes_in (low ∷ rest) else with_first (byte_in (high ∷ low ∷ [])) (bytes_in rest)
 
--- a blank, or the byte of the first pair, and what stands behind it
+-- a blank, or the byte of the first pair, and what follows it
 abbrev pub blank_or : Bool → List ℕ → Option (Option ℕ × List ℕ) → Option (Option ℕ × List ℕ)
 blank_or true rest pair = Some (None, rest)
 blank_or false rest pair = pair

@@ -1,4 +1,4 @@
-// Bytes as text: pairs of lower case hexadecimal digits, with blanks before, between and behind them. It relies on
+// Bytes as text: pairs of lower case hexadecimal digits, with blanks before, between and after them. It relies on
 // `hexadecimal` for a pair.
 
 ghost use Rattle.std.specs.Prelude.{◌≡◌, ◌<◌, length, option_map, IfOk, IfSome};
@@ -25,7 +25,7 @@ pub fn bytes(alloc: Global, text: &str) -> Result<Option<Vec<u8>>, AllocError>
     Ok(Some(bytes))
 }
 
-// A blank, or the byte that a pair of digits spells, and what stands behind it.
+// A blank, or the byte that a pair of digits spells, and what follows it.
 fn first(text: &[u8]) -> Option<(Option<u8>, &[u8])>
     ensures read { option_map (λ read. (read.0, read.1.now)) result ≡ first_in text.now }
     ensures shorter { IfSome result (λ read. length read.1.now < length text.now) }

@@ -5,7 +5,7 @@ use Rattle.world_calls.specs.declared.record.Record.{Record}
 use Rattle.monitor.specs.declared.knowledge.Pair.{Pair}
 use Rattle.monitor.specs.LegalHistory.{all_by, pair, unshared, records, made_by, StartsWith}
 
--- the records of a history with those of a caller behind it
+-- the records of a history with those of a caller after it
 pub records_more : (history : List Pair) (c : ℕ) (made : List Record) → records (history ++ all_by c made) ≡ records history ++ made
 records_more [] c [] = refl
 records_more [] c (r ∷ rs) = ap (λ l. r ∷ l) (records_more [] c rs)

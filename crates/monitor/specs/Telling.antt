@@ -57,7 +57,7 @@ having_made history made caller = record caller {
   mine = caller.mine ++ made;
 }
 
--- A caller's records joined the history, at its end, one behind the other: the history with them is legal, and both agree with the
+-- A caller's records joined the history, at its end, one after the other: the history with them is legal, and both agree with the
 -- caller
 pub record Joins (setup : Setup) (history : List Pair) (before : CallerState) (made : List Record) (after : CallerState) : Type 0 where
   pub agreed : Agrees history before

@@ -74,7 +74,7 @@ impl<B: Origin> Keeper<B> {
         Watch::new(cell.split_pass::<LetsWatch>(&mut self.seat))
     }
 
-    /// Records that a caller made join the history, at its end, one behind the other and in one step: nobody sees some of them
+    /// Records that a caller made join the history, at its end, one after the other and in one step: nobody sees some of them
     /// alone. The caller has seen the history with them, and the sums of that are shown. It takes no memory, and may wait for those
     /// that read.
     ///

@@ -1,4 +1,4 @@
--- What is enough for the check of an instruction to pass, and what is known behind it then, at the entry, and where paths
+-- What is enough for the check of an instruction to pass, and what is known after it then, at the entry, and where paths
 -- meet. It says nothing of machines: it is what a program may rely on that is to be accepted.
 use Rattle.std.specs.Prelude.{◌≡◌, ℕ, ◌/◌, true, false, [], ◌∷◌, length, ◌⊎◌}
 use Rattle.std.specs.Int.{byte_len}
@@ -36,7 +36,7 @@ Enough (Call (Local distance)) d = ⊥
 Enough (Call (helper_call number)) d = EnoughToCall number d
 Enough Exit d = (d.held ≡ []) × (d.disposed ≡ true) × IsNumber (kind_at d R0)
 
--- what is known behind an instruction of which enough was known, where the way is open: none is behind an exit
+-- what is known after an instruction of which enough was known, where the way is open: none is after an exit
 abbrev pub Leaves : Insn → Way → Description → Description → Type 0
 Leaves (Alu width op dst src) way d there = LeavesComputed d width op dst src there
 Leaves (InPlace op dst) way d there = LeavesNumber dst d there

@@ -39,7 +39,7 @@ front_of (x ∷ xs) (suc k) (suc n) le = ap (λ (ys : List Record). x ∷ ys) (f
 front : (setup : Setup) (records : List Record) (k n : ℕ) → k ≤ n → IsHistory setup (take n records) → IsHistory setup (take k records)
 front setup records k n le history = shorter setup (take k records) (drop k (take n records)) (subst (IsHistory setup) (sym (front_of records k n le)) history)
 
--- no line behind the first
+-- no line after the first
 none_behind : (setup : Setup) (records : List Record) (totals : Totals) (count other : ℕ) → IsFirstFaulty setup records totals count → IsFirstFaulty setup records totals other → count < other → ⊥
 none_behind setup records totals count other one two less = elim one.stops [
   | inl some ↦ some.1 (front setup records (count + 1) other (omega (arith, less)) two.lead)

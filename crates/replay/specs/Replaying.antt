@@ -23,7 +23,7 @@ abbrev pub StopsAt : Setup → List Record → Totals → ℕ → Type 0
 StopsAt setup records totals count =
     ((count < length records) × (IsHistory setup (take (count + 1) records) → ⊥)) ⊎ ((count ≡ length records) × (TotalsOf setup records totals → ⊥))
 
--- The line behind so many records is the first that does not follow: these lead from the opening, and there it stops.
+-- The line after so many records is the first that does not follow: these lead from the opening, and there it stops.
 pub record IsFirstFaulty (setup : Setup) (records : List Record) (totals : Totals) (count : ℕ) : Type 0 where
   pub lead : IsHistory setup (take count records)
   pub stops : StopsAt setup records totals count
@@ -47,12 +47,12 @@ Replays setup lines trace (Err (Fault fault)) = IsFaultyAt setup lines trace fau
 
 -- ---- inside
 
--- the record follows, and is behind the engine now, or cannot follow
+-- the record follows, and has led to the engine now, or cannot follow
 abbrev pub FollowsIf : Bool → NumberedState → Record → NumberedState → Type 0
 FollowsIf true old told new = RecordFollows old told new
 FollowsIf false old told new = CannotFollow old told
 
--- so many records lead, and these are all, behind the engine, or with one more nothing leads
+-- so many records lead, and these are all, to the engine, or with one more nothing leads
 abbrev pub RecordsLead : Setup → List Record → ℕ → NumberedState → Type 0
 RecordsLead setup records count engine =
     IsHistory setup (take count records)

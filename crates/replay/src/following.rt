@@ -1,4 +1,4 @@
-// Whether a record follows from those behind an engine: the engine carries out what the record asks, and has to tell the same. It
+// Whether a record follows from those that led to an engine: the engine carries out what the record asks, and has to tell the same. It
 // relies on `engine_core` for the engine, and on `likeness` for whether an advance is the same.
 
 ghost use Rattle.std.specs.Prelude.{◌≡◌, IfOk};
@@ -10,7 +10,7 @@ use engine_core::NumberedEngine;
 use std::alloc::AllocError;
 use world_calls::{Call, CallAnswer, Record, StoppedAt};
 
-/// Whether the record follows, and then it is behind the engine too. Where it does not, the engine means nothing any more.
+/// Whether the record follows, and then it has led to the engine too. Where it does not, the engine means nothing any more.
 pub fn follows(engine: &mut NumberedEngine<'_>, told: &Record) -> Result<bool, AllocError>
     ensures follows { IfOk result (λ yes. FollowsIf yes engine.old told.now engine.new) }
     ensures setup { engine.new.setup ≡ engine.old.setup }

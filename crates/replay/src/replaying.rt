@@ -19,7 +19,7 @@ const OFTEN: usize = 4096;
 
 /// Whether the trace is a history of an engine of this configuration, with its sums: it is of the version of such histories, each
 /// record is what the engine tells when it is asked the same, an advance that of the run's next stop, and the last line has the sums
-/// behind them all. Else X3 with the first line that does not follow, the header's where the version is another. Of the trace's lines it takes no memory but for bytes that a line tells. How far it is, is told where
+/// after them all. Else X3 with the first line that does not follow, the header's where the version is another. Of the trace's lines it takes no memory but for bytes that a line tells. How far it is, is told where
 /// that is wanted.
 pub fn replay<N: Notices>(
     alloc: Global,
@@ -36,7 +36,7 @@ pub fn replay<N: Notices>(
     replay_on(&mut engine, 0, trace, notices)
 }
 
-/// The same on an engine behind which there is nothing yet. The trace has so many carried lines, by which a fault counts.
+/// The same on an engine to which nothing has led yet. The trace has so many carried lines, by which a fault counts.
 pub(crate) fn replay_on<N: Notices>(
     engine: &mut NumberedEngine<'_>,
     carried: usize,
@@ -60,7 +60,7 @@ pub(crate) fn replay_on<N: Notices>(
     }
 }
 
-// How many records follow from the opening, one behind the other, before the first that does not.
+// How many records follow from the opening, one after the other, before the first that does not.
 fn followed<N: Notices>(
     engine: &mut NumberedEngine<'_>,
     records: &ChunkedList<Record>,

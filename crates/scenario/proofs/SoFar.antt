@@ -24,7 +24,7 @@ use Rattle.world_calls.specs.declared.trace.Version.{Version}
 abbrev is_feed : ℕ → Bool
 is_feed byte = byte == 10
 
--- the first line, and the lines of what stands behind it
+-- the first line, and the lines of what follows it
 pub cut : (rest : List ℕ) (line behind : Bor (List ℕ)) → IsSplitOnceResult 10 rest (Some (line, behind)) → lines_of rest ≡ line.now ∷ lines_of behind.now
 cut rest line behind found =
     let parts = split_once_first 10 rest (Some (line, behind)) found (lit< tt) in
@@ -98,7 +98,7 @@ command_line version number line commands.Drain e said = drain_line version numb
 -- ---- the lines in front
 
 -- The lines in front of this rest say the steps that they have by these calls, and the next line has that number. The calls of the
--- lines that follow stand behind these.
+-- lines that follow stand after these.
 pub record AreSaidSoFar (version : Version) (text : List ℕ) (calls : List Call) (rest : List ℕ) (number : ℕ) : Type 0 where
   pub front : List (List ℕ)
   pub lines : lines_of text ≡ front ++ lines_of rest

@@ -18,7 +18,7 @@ abbrev pub calls_in : Command → List Call
 calls_in (commands.Call call) = call ∷ []
 calls_in commands.Drain = []
 
--- what the line needs is put behind the calls
+-- what the line needs is put after the calls
 abbrev pub Keeps : {T : Type 0} → Version → ℕ → List ℕ → List Call → Result T (OrMemory FaultyLine) → List Call → Type 0
 Keeps version number line old (Ok done) new = (calls : List Call) × (new ≡ old ++ calls) × AreOfLine version number line calls
 Keeps version number line old (Err fault) new = IfFault (λ told. (told ≡ number) × IsFaulty version line) fault

@@ -22,11 +22,11 @@ descriptor = refl
 deferred_descriptor : sense_of (0x73 ∷ 0xf4 ∷ 0x44 ∷ 0x03 ∷ []) ≡ said 0x4 0x44 0x03 4
 deferred_descriptor = refl
 
--- the bytes end behind the additional sense code
+-- the bytes end after the additional sense code
 ends_behind_asc : sense_of (0x70 ∷ 0x00 ∷ 0x06 ∷ 0x00 ∷ 0x00 ∷ 0x00 ∷ 0x00 ∷ 0x0a ∷ 0x00 ∷ 0x00 ∷ 0x00 ∷ 0x00 ∷ 0x29 ∷ []) ≡ said 0x6 0x29 0x00 13
 ends_behind_asc = refl
 
--- and behind the key
+-- and after the key
 ends_behind_key : sense_of (0x70 ∷ 0x00 ∷ 0x06 ∷ []) ≡ said 0x6 0x00 0x00 3
 ends_behind_key = refl
 
@@ -34,7 +34,7 @@ ends_behind_key = refl
 first_alone : sense_of (0x70 ∷ []) ≡ said 0x0 0x00 0x00 1
 first_alone = refl
 
--- a descriptor that ends behind the additional sense code
+-- a descriptor that ends after the additional sense code
 descriptor_ends : sense_of (0x72 ∷ 0x05 ∷ 0x24 ∷ []) ≡ said 0x5 0x24 0x00 3
 descriptor_ends = refl
 

@@ -60,7 +60,7 @@ same_cells columns found other tells cells records counts same it =
 pub run_found : (ccbs runs : BTreeMap ℕ ℕ) (lines : List CarriedLine) (records : List Record) → ((number : ℕ) → at ccbs number ≡ queue_of lines records number) → ((number : ℕ) → at runs number ≡ ccb_of records number) → (number : ℕ) → at_both ccbs runs number ≡ queue_of_run lines records number
 run_found ccbs runs lines records queues ccbs_of number = λ i. and_then (ccbs_of number i) (λ ccb. queues ccb i)
 
--- what is left behind one record more
+-- what is left after one record more
 pub rest_left : (before now left rest items : List Record) (more : Record) → now ≡ before ++ more ∷ [] → left ≡ more ∷ rest → before ++ left ≡ items → now ++ rest ≡ items
 rest_left before now left rest items more one_more here all =
     ap (λ (records : List Record). records ++ rest) one_more

@@ -118,7 +118,7 @@ pub fn count_records(
 }
 
 impl Counts {
-    /// What a table of counts has at a place; 0 behind the last.
+    /// What a table of counts has at a place; 0 after the last.
     pub fn at(counts: &[u64], place: usize) -> u64
         ensures { result ≡ slice_index_or counts.now place 0 }
     {

@@ -66,7 +66,7 @@ pub enum Happening {
 // - `1` to `5`: numbers; `p`: the third number, of openings; `t`: so many times; `z`: that the place is frozen so many times still, or thawed;
 // - `s`: a CAM status by its name; `v`: what became of a CCB that failed; `y`: the SCSI status and the sense that came, if any did; `k`: a final code by its name;
 // - `x`: why a call is refused; `o`: the code of the refusal;
-// - `l`: the class of the CCB behind a comma, and `a`: what was advised behind a comma; each of them is nothing if its number, the third one, is 0;
+// - `l`: the class of the CCB after a comma, and `a`: what was advised after a comma; each of them is nothing if its number, the third one, is 0;
 // - `d`: what is advised, the first number, by its name;
 // - `g`: a guest; `n`: the name of the queue's program; `w`: why the freeze was there; `b`: bytes, as digits and as text.
 impl Happening {

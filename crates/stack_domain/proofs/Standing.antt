@@ -90,7 +90,7 @@ each_stands frames before slots count long each are j = elim (cases_lt j count) 
   | inr past ↦ subst (StandsIn frames) (sym (get_or_past slots j None (omega (arith, past, long)))) tt
 ]
 
--- frames behind so many are gone
+-- frames after so many are gone
 pub stands_closed : (frames : List (List (Option ℕ))) (live : ℕ) (place : NumberPlace) (number : Scalar) → place.frame < live → StandsAt frames place number → StandsAt (take live frames) place number
 stands_closed frames live place number below stands = record {
   live = omega (arith, below, stands.live, length-take live frames);
@@ -164,13 +164,13 @@ set_each P slots slot new live done here j few = elim (cases_eq j slot) [
   | inr other ↦ subst (P j) (sym (get_or-set_other slots slot j new None other)) (done j (omega (arith, few, other)))
 ]
 
--- slots behind so many are forgotten, or some more have nothing
+-- slots after so many are forgotten, or some more have nothing
 pub standing_taken : (frames : List (List (Option ℕ))) (slots : List (Option StackNumber)) (n : ℕ) → AreStanding frames slots → AreStanding frames (take n slots)
 standing_taken frames slots n are j = elim (cases_lt j n) [
   | inl few ↦ subst (StandsIn frames) (sym (get_or-take n slots j None few)) (are j)
   | inr past ↦ subst (StandsIn frames) (sym (get_or_past (take n slots) j None (omega (arith, past, length-take n slots)))) tt
 ]
 
--- what was changed behind a slice stands in the list
+-- what was changed after a slice stands in the list
 pub put_back : (frames : List (List (Option ℕ))) (slots rest : List (Option StackNumber)) (n : ℕ) → n ≡ length slots → AreStanding frames slots → AreStanding frames (take n (slots ++ rest))
 put_back frames slots rest n long are = subst (AreStanding frames) (sym (ap (λ (k : ℕ). take k (slots ++ rest)) long ∙ take-append_seam slots rest)) are

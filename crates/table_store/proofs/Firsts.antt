@@ -38,7 +38,7 @@ all_with P (n ∷ lengths) (words ∷ firsts) none h =
     All-cons (λ table. All P table) (table_with n words) (tables_with lengths firsts) (words_with P n words none (All-head (λ words. All P words) words firsts h))
     (all_with P lengths firsts none (All-tail (λ words. All P words) words firsts h))
 
--- where there is room for its words, a table says what they say, and 0 behind them
+-- where there is room for its words, a table says what they say, and 0 after them
 at_with : (n : ℕ) (words : List ℕ) (i : ℕ) → length words ≤ n → get_or (table_with n words) i 0 ≡ get_or words i 0
 at_with zero [] i le = refl
 at_with zero (word ∷ words) i le = absurd (omega (arith, le))

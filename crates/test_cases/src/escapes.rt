@@ -19,7 +19,7 @@ pub fn push(bytes: &mut Vec<u8>, text: &str) -> Result<(), LineFault> {
     Ok(())
 }
 
-// The byte that a text begins with, and what stands behind it; none where an escape is none of these.
+// The byte that a text begins with, and what follows it; none where an escape is none of these.
 fn first_byte(text: &[u8]) -> Option<(u8, &[u8])>
     ensures { IfSome result (λ first. length first.1.now < length text.now) }
 {

@@ -181,7 +181,7 @@ impl<'a> Reader<'a> {
         self.take_behind(line)
     }
 
-    // What stands behind a heading: the shared text in which the text stands, if any, and its first line, which is empty where it has none.
+    // What follows a heading: the shared text in which the text stands, if any, and its first line, which is empty where it has none.
     fn parts_of(&self, rest: &'a str) -> Result<(Option<&'a str>, &'a str), LineFault> {
         if rest.is_empty() || Text::has_line(rest) {
             return Ok((None, rest));
@@ -194,7 +194,7 @@ impl<'a> Reader<'a> {
         }
     }
 
-    // The line of a text that stands behind its heading, if any does.
+    // The line of a text that stands after its heading, if any does.
     fn take_behind(&mut self, line: &str) -> Result<(), LineFault> {
         if line.is_empty() {
             Ok(())
@@ -275,7 +275,7 @@ fn calls_in(name: &str) -> Source<'_> {
     }
 }
 
-// A line's first word, and what stands behind the blank.
+// A line's first word, and what follows the blank.
 fn parted(line: &str) -> (&str, &str) {
     line.split_once(' ').unwrap_or((line, ""))
 }

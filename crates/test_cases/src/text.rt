@@ -27,7 +27,7 @@ impl Text {
             || line.starts_with('@')
     }
 
-    /// Adds what one line of a file says. Behind an error the text may have a part of it.
+    /// Adds what one line of a file says. After an error the text may have a part of it.
     pub fn push(&mut self, alloc: Global, line: &str) -> Result<(), LineFault> {
         match line.split_once(' ') {
             Some(("|", rest)) => self.push_line(rest),
@@ -101,7 +101,7 @@ impl Text {
         }
     }
 
-    /// The bytes of this shared text with those of a case at its place, or behind it where it has none.
+    /// The bytes of this shared text with those of a case at its place, or after it where it has none.
     pub fn filled(&self, alloc: Global, own: &[u8]) -> Result<Vec<u8>, AllocError> {
         let parts = self
             .place

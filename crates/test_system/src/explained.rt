@@ -86,7 +86,7 @@ fn see<W: Write>(
     Ok(())
 }
 
-// Whether a word of what went out is that name, with that behind it.
+// Whether a word of what went out is that name, with that after it.
 fn tells(came: &Outcome, name: &str, behind: &str) -> bool {
     [&came.out, &came.err].iter().any(|bytes| {
         bytes.split(|byte| *byte == b' ' || *byte == b'\n').any(|word| word.strip_suffix(
@@ -154,7 +154,7 @@ fn with_program(
     )
 }
 
-// The lines of a text, each with a line feed, and those with `# N times` behind them so often.
+// The lines of a text, each with a line feed, and those with `# N times` after them so often.
 fn expanded(alloc: Global, text: &str) -> Result<String, AllocError> {
     let mut lines = String::new(alloc);
     for line in text.split('\n') {

@@ -1,4 +1,4 @@
-// The case of a run once more, as it is asked over a pipe: behind each completion the scenario says `drain`, as a live engine does by itself, and
+// The case of a run once more, as it is asked over a pipe: after each completion the scenario says `drain`, as a live engine does by itself, and
 // what goes out is to be the same. It relies on `cli_line` for the words, and on `running` for what is shown.
 
 use crate::migrating::copied;
@@ -46,7 +46,7 @@ pub fn live<'a, R: Threads + Wait + Sync>(
     }))
 }
 
-// The same case, with `drain` behind each completion, and with one worker.
+// The same case, with `drain` after each completion, and with one worker.
 fn drained<'a>(alloc: Global, case: &Case<'a>, scenario: &str) -> Result<Case<'a>, AllocError> {
     let mut files = Vec::new(alloc);
     for file in &case.files {
@@ -74,7 +74,7 @@ fn drained<'a>(alloc: Global, case: &Case<'a>, scenario: &str) -> Result<Case<'a
     })
 }
 
-// The lines of a scenario, each with its line feed, and with `drain` behind each completion.
+// The lines of a scenario, each with its line feed, and with `drain` after each completion.
 fn with_drains(alloc: Global, scenario: &[u8]) -> Result<Vec<u8>, AllocError> {
     let mut lines = Vec::new(alloc);
     for line in scenario.split(|byte| *byte == b'\n') {

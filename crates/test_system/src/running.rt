@@ -83,7 +83,7 @@ fn inspected<R: Threads + Wait + Sync>(
     }
 }
 
-// Carries a plan of the second out. What it keeps stands behind what went out.
+// Carries a plan of the second out. What it keeps stands after what went out.
 fn inspect_keeping<R: Threads + Wait + Sync>(
     rt: &R,
     alloc: Global,
@@ -123,7 +123,7 @@ fn carry_out<R: Threads + Wait + Sync>(
     }
 }
 
-// Serves what comes on standard input, with an answer to each line where that is asked for. What was counted stands behind what went out, as it
+// Serves what comes on standard input, with an answer to each line where that is asked for. What was counted stands after what went out, as it
 // was written last, if it is asked for.
 fn serve_case(
     alloc: Global,

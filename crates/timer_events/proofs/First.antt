@@ -9,7 +9,7 @@ use Rattle.freeze_ledger.specs.Freezes.{is_due, entry_of}
 use Rattle.freeze_ledger.specs.Deadlines.{is_timer, some_timer, goes_behind, all_behind}
 use Rattle.timer_events.specs.Next.{some_due, NextIsOne}
 
--- what goes behind one that is not due yet is not due
+-- what goes after one that is not due yet is not due
 late : (reading due number : ℕ) (h : Holder) (other : ℕ) → reading < due → goes_behind due number h other ≡ true → is_due reading h ≡ false
 late reading due number (Run r) other later behind = refl
 late reading due number (Timer last) other later behind = grind (arith, later, behind)

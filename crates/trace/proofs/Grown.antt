@@ -118,7 +118,7 @@ goes_on_handed text (Err fault) before mid waiting old between new first second 
 pub stops_at : (more before : List ℕ) (old new : Option (List ℕ)) → Fronts (Some more) before old new → StopsIn (Some more) before old new
 stops_at more before old new fronts = record { more = more; is = refl; front = fronts more refl }
 
--- at nothing more behind a text that went on
+-- at nothing more after a text that went on
 pub stops_behind : (text : Option (List ℕ)) (before mid : List ℕ) (old between new : Option (List ℕ)) → Goes text before old mid between → StopsIn (Some []) mid between new → StopsIn text before old new
 stops_behind text before mid old between new first second =
     let none : second.more ≡ [] = same_text second.more [] (sym second.is) in
@@ -134,7 +134,7 @@ stops_behind text before mid old between new first second =
       };
     }
 
--- at a text behind one that went on
+-- at a text after one that went on
 pub stops_on : (a b : Option (List ℕ)) (before mid : List ℕ) (old between new : Option (List ℕ)) → Goes a before old mid between → StopsIn b mid between new → StopsIn (option_append a b) before old new
 stops_on a b before mid old between new first second =
     let is : option_append a b ≡ Some (first.more ++ second.more) = rw (first.is, second.is) refl in

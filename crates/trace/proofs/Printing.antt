@@ -25,7 +25,7 @@ taken_on text taken count within few =
     let all : take (length text - taken) (drop taken text) ≡ drop taken text = take_all (length text - taken) (drop taken text) (omega (arith, length-drop taken text)) in
     (omega (arith, few, ap length all, length-drop taken text), take-add taken count text ∙ ap (λ (t : List ℕ). take taken text ++ take count t) (sym all))
 
--- ---- texts one behind the other
+-- ---- texts one after the other
 
 pub append_three : (a b c : Option (List ℕ)) → option_append (option_append a b) c ≡ option_append a (option_append b c)
 append_three None b c = refl
@@ -212,7 +212,7 @@ records_cut version records place fault before mid old between new failed same f
     subst (λ (t : Option (List ℕ)). IsCut t before old failed fault.written new fails)
     (ap (λ (t : Option (List ℕ)). option_append t (records_text version (drop place records))) (append_nothing text) ∙ sym (first_of_all version records place)) all
 
--- ---- the whole trace, behind its first line
+-- ---- the whole trace, after its first line
 
 -- a write failed
 pub begun : (version : Version) (text : Option (List ℕ)) (page : Page) (old new : Option (List ℕ)) (failed fails written : ℕ) → page.text ≡ header version → page.written ≡ 0
@@ -274,7 +274,7 @@ ended trace (Err fault) before mid page old between new failed same fails first 
     (subst (λ (t : Option (List ℕ)). IsCut t before old failed fault.written new fails) (append_nothing text)
     (cut_behind text (Some []) before mid old between new failed same fails fault.written passed cut))
 
--- the last line is put behind the records'
+-- the last line is put after the records'
 pub last_put : (trace : Trace) (before first mid page : Page) (old one two : Option (List ℕ)) (failed same also : ℕ)
     → Passed (records_text trace.version trace.records.items) before old failed first one same → Passed (Some []) first one same mid two also
     → IsPut (totals_text trace.totals) mid.text page.text → page.written ≡ mid.written

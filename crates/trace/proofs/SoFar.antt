@@ -175,7 +175,7 @@ module _ (version : Version) (text : List ℕ) (entries : List Record) (rest : L
           let here : option_append (totals_text totals) (Some behind) ≡ Some rest = line_in_front (sums_text totals) (Some behind) line behind reads.said refl ∙ ap Some (sym first.whole) in
           append_three (records_text version entries) (totals_text totals) (Some behind) ∙ ap (option_append (records_text version entries)) here ∙ so_far.said
 
-      -- something stands behind it
+      -- something stands after it
       goes_on : (number : ℕ) → number ≡ length entries + 2 → behind ≢ [] → IsFaultyLine version text (number + 1)
       goes_on number place more = record { records = entries; sums = Some totals; rest = behind; front = last_said; place = omega arith; faulty = more }
 
@@ -197,7 +197,7 @@ module _ (version : Version) (text : List ℕ) (entries : List Record) (rest : L
       pub no_trace_on : behind ≢ [] → (all : List Record) (sums : Totals) → lines_text version all sums ≡ Some text → ⊥
       no_trace_on more all sums e = more (last_back all sums e).2
 
-      -- nothing stands behind it
+      -- nothing stands after it
       pub whole_text : behind ≡ [] → lines_text version entries totals ≡ Some text
       whole_text none = sym (append_nothing (lines_text version entries totals)) ∙ ap (λ (t : List ℕ). option_append (lines_text version entries totals) (Some t)) (sym none) ∙ last_said
 

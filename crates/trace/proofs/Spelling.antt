@@ -21,7 +21,7 @@ advance_none run instructions r0 stop e =
     (none_second (option_append (Some (codes " ")) (instructions_text instructions)) _
     (none_first _ (Some []) (none_second (Some (codes " ")) (stop_text (stop_of stop)) e)))))
 
--- a field behind a blank
+-- a field after a blank
 pub put_field : (text : Option (List ℕ)) (old mid new : List ℕ) → mid ≡ old ++ codes " " → IsPut text mid new → IsPut (option_append (Some (codes " ")) text) old new
 put_field text old mid new blank put = put_both (Some (codes " ")) text old mid new (put_text (codes " ") old mid blank) put
 

@@ -9,7 +9,7 @@ pub record GrowingState : Type 0 where
   pub version : Version
   pub waiting : List ℕ
 
--- the text stands behind what waited: a front of both was handed on, and the rest waits
+-- the text stands after what waited: a front of both was handed on, and the rest waits
 pub record Goes (text : Option (List ℕ)) (before : List ℕ) (old : Option (List ℕ)) (waiting : List ℕ) (new : Option (List ℕ)) : Type 0 where
   pub more : List ℕ
   pub is : text ≡ Some more

@@ -5,7 +5,7 @@ use Rattle.trace.specs.declared.fault.PrintFault.{PrintFault}
 use Rattle.trace.specs.declared.page.Page.{Page}
 use Rattle.trace.specs.Sinks.{HasFailed}
 
--- The text was printed behind what the page held: so many bytes of both were handed on, and the others are on the page.
+-- The text was printed after what the page held: so many bytes of both were handed on, and the others are on the page.
 pub record Passed (text : Option (List ℕ)) (before : Page) (old : Option (List ℕ)) (failed : ℕ) (page : Page) (new : Option (List ℕ)) (fails : ℕ) : Type 0 where
   pub more : List ℕ
   pub is : text ≡ Some more

@@ -33,12 +33,12 @@ abbrev pub front_lines : List Record → Option Totals → ℕ
 front_lines records None = length records
 front_lines records (Some totals) = length records + 1
 
--- what may not follow these: what begins with no line, as nothing does; behind the last line any text
+-- what may not follow these: what begins with no line, as nothing does; after the last line any text
 abbrev pub MayNotFollow : Version → Option Totals → List ℕ → Type 0
 MayNotFollow version None rest = HasNoLine version rest
 MayNotFollow version (Some totals) rest = rest ≢ []
 
--- In a text behind the first line of a version the line of this number is the first that is not of the form: the lines before it are records' lines,
+-- In a text after the first line of a version the line of this number is the first that is not of the form: the lines before it are records' lines,
 -- and maybe the last line, and what follows these may not. Where nothing follows, it is the number of the line that is missing.
 pub record IsFaultyLine (version : Version) (text : List ℕ) (number : ℕ) : Type 0 where
   pub records : List Record
@@ -61,7 +61,7 @@ SaysLines version text first (Err OutOfMemory) = Unit {0}
 SaysLines version text first (Err (Fault Header)) = ⊥
 SaysLines version text first (Err (Fault (Line number))) = IsFaultyFrom version text first number
 
--- What is said of a text: that it is this trace's; that no version's header stands in front; or that behind the header of one this line is
+-- What is said of a text: that it is this trace's; that no version's header stands in front; or that after the header of one this line is
 -- the first that is not of the form. Want of memory says nothing.
 abbrev pub Says : List ℕ → Result Trace (OrMemory TraceFault) → Type 0
 Says text (Ok trace) = trace_text trace ≡ Some text
@@ -75,7 +75,7 @@ IsTrace version records totals (Ok trace) = (trace.version ≡ version) × (trac
 IsTrace version records totals (Err OutOfMemory) = Unit {0}
 IsTrace version records totals (Err (Fault fault)) = ⊥
 
--- the trace whose text this is, or whose text stands behind the first line of a version
+-- the trace whose text this is, or whose text stands after the first line of a version
 abbrev pub IsReadAgain : List ℕ → Result Trace (OrMemory TraceFault) → Type 0
 IsReadAgain text read = (trace : Trace) → trace_text trace ≡ Some text → IsTrace trace.version trace.records.items trace.totals read
 

@@ -78,7 +78,7 @@ sums_text totals = option_append (Some (codes "end")) (fields_text SUMS (values_
 abbrev pub totals_text : Totals → Option (List ℕ)
 totals_text totals = with_newline (sums_text totals)
 
--- what stands behind the first line
+-- what follows the first line
 abbrev pub lines_text : Version → List Record → Totals → Option (List ℕ)
 lines_text version records totals = option_append (records_text version records) (totals_text totals)
 

@@ -1,4 +1,4 @@
-// Reads a record of its line: what was asked by the row of its word, and behind ` = ` what was answered. It relies on `trace_lines` for
+// Reads a record of its line: what was asked by the row of its word, and after ` = ` what was answered. It relies on `trace_lines` for
 // lines and answers, and on `world_calls` for records.
 
 ghost use Rattle.std.specs.Prelude.{◌≡◌, ◌≢◌, IfOk, List, None, Some, ℕ, if◌then◌else◌};

@@ -9,7 +9,7 @@ use std::fmt;
 pub enum TraceFault {
     /// X1: the text begins with no version's header.
     Header,
-    /// X2: the line of this number is the first that is not of the form. Where the last line is missing, this is the one behind the
+    /// X2: the line of this number is the first that is not of the form. Where the last line is missing, this is the one after the
     /// others.
     Line(usize),
 }

@@ -50,7 +50,7 @@ fn read_later(alloc: Global, text: &str) -> Result<Trace, TraceError>
     }
 }
 
-// What stands behind the version's first line.
+// What follows the version's first line.
 fn behind(version: Version, text: &str) -> Option<&str>
     ensures { MatchOption result ((rest : _) → ¬ (text.now ≡ header version ++ rest)) (λ rest. text.now ≡ header version ++ rest.now) }
 {

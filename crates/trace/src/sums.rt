@@ -13,7 +13,7 @@ use trace_lines::{
 };
 use world_calls::Totals;
 
-// What stands behind `end`: how many records there are, how many freezes, active CCBs and live runs.
+// What follows `end`: how many records there are, how many freezes, active CCBs and live runs.
 const SUMS: Slots<Kind> = Slots {
     first: Some(Kind::LongNumber),
     second: Some(Kind::Number),
@@ -41,7 +41,7 @@ pub fn print_totals(totals: Totals, text: &mut Text)
     text.push(b'\n');
 }
 
-// What stands behind `end`.
+// What follows `end`.
 #[tactic(auto, unfolding(trace_lines::specs::Lines::fields_text, trace_lines::specs::Texts::field_text))]
 fn print_sums(history: u64, frozen: u32, active: u32, runs: u32, text: &mut Text)
     requires room { length text.old + SUMS_LENGTH ≤ ROOM }
@@ -69,7 +69,7 @@ pub fn read_totals(line: &str) -> Option<Totals>
     }
 }
 
-// What stands behind `end`.
+// What follows `end`.
 fn behind_end(line: &str) -> Option<&str>
     ensures { MatchOption result ((rest : _) → ¬ (line.now ≡ codes "end" ++ rest)) (λ rest. line.now ≡ codes "end" ++ rest.now) }
 {

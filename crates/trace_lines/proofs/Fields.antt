@@ -65,7 +65,7 @@ nothing_left : (rest : List ℕ) → is_nothing rest ≡ true → rest ≡ []
 nothing_left [] h = refl
 nothing_left (b ∷ rest) h = absurd cc
 
--- the field and what is behind it are found
+-- the field and what is after it are found
 found_field : (kind : Kind) (value : Value) (text word after told rest : List ℕ) (stop : Bool) → is_last kind ≡ stop → IsCutFor kind text word after → field_text kind value ≡ Some told → text ≡ told ++ rest
     → is_behind (Some kind) rest ≡ true → (word ≡ told) × (after ≡ rest)
 found_field kind value text word after told rest true is cut e whole behind =

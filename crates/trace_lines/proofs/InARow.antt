@@ -1,4 +1,4 @@
--- A line's fields are read one behind the other, and its word before them.
+-- A line's fields are read one after the other, and its word before them.
 use Rattle.std.proofs.Common.{◌≡◌, ◌||◌, ◌==◌, not, ℕ, Bool, true, false, Option, Some, None, List, [], ◌∷◌, ◌++◌, length, refl, sym, ap, ◌∙◌, arith, codes, append-nil, Bor, cond}
 use Rattle.std.specs.Fmt.{option_append}
 use Rattle.std.specs.Option.{is_none}
@@ -74,7 +74,7 @@ behind_third third None None rest last e = let none : [] ≡ rest = cc in ap (is
 behind_third third None (Some value) rest last e = absurd cc
 behind_third third (Some kind) value rest last e = behind_plain third rest (no_stop (is_last_at third) last) (ends_last (Some kind) value rest e)
 
--- ---- one slot behind another
+-- ---- one slot after another
 
 step : (kind : Option Kind) (text : List ℕ) (held : Option Value) (rest : Bor (List ℕ)) → ReadsSlot kind text held (Some rest) → (value : Option Value) (o : Option (List ℕ)) → option_append (slot_text kind value) o ≡ Some text
     → ((r : List ℕ) → o ≡ Some r → is_behind kind r ≡ true) → (o ≡ Some rest.now) × (held ≡ value)

@@ -1,4 +1,4 @@
--- Texts are put one behind the other, and bytes as pairs of digits.
+-- Texts are put one after the other, and bytes as pairs of digits.
 use Rattle.std.proofs.Common.{◌≡◌, ◌<◌, ◌≤◌, ◌+◌, ◌==◌, ℕ, suc, Bool, true, false, Option, Some, None, Result, Ok, Err, List, [], ◌∷◌, ◌++◌, length, take, get_or, refl, sym, ap, ◌∙◌, arith, append-nil, append_assoc, length-append, nat_lt, nat_le, add-one, Fits, w8}
 use Rattle.std.proofs.lemmas.Bool.Decides.{nat_tests}
 use Rattle.std.specs.Prelude.{flat_map}
@@ -12,7 +12,7 @@ use Rattle.trace_lines.specs.Texts.{where_true, is_byte, byte_text, pair_text, b
 use Rattle.trace_lines.specs.Written.{IsPut, KeepsFront, Puts}
 use Rattle.trace_lines.proofs.Tests.{same_text}
 
--- ---- one text behind the other
+-- ---- one text after the other
 
 -- what stood there, and the text
 pub put_text : (text old new : List ℕ) → new ≡ old ++ text → IsPut (Some text) old new
@@ -24,7 +24,7 @@ put_both (Some x) None old mid new first second = absurd cc
 put_both (Some x) (Some y) old mid new first second =
     ap Some (sym (append_assoc old x y) ∙ ap (λ (t : List ℕ). t ++ y) (same_text (old ++ x) mid first)) ∙ second
 
--- behind any text
+-- after any text
 none_behind : (a : Option (List ℕ)) → option_append a None ≡ None
 none_behind None = refl
 none_behind (Some x) = refl
@@ -37,14 +37,14 @@ none_first a b e = ap (λ (t : Option (List ℕ)). option_append t b) e
 pub none_second : (a b : Option (List ℕ)) → b ≡ None → option_append a b ≡ None
 none_second a b e = ap (option_append a) e ∙ none_behind a
 
--- behind a text that was put another is, if there is one
+-- after a text that was put another is, if there is one
 pub puts_behind : {T E : Type 0} (r : Result T E) (a b : Option (List ℕ)) (old mid new : List ℕ) → IsPut a old mid → Puts b mid r new → Puts (option_append a b) old r new
 puts_behind (Ok done) a b old mid new first second = put_both a b old mid new first second
 puts_behind (Err none) a b old mid new first second = none_second a b second
 
 -- ---- what stood there
 
--- it is in front of what stands behind that in front of which it stands
+-- it is in front of what follows that in front of which it stands
 front_more : (old more mid new : List ℕ) → mid ≡ old ++ more → take (length mid) new ≡ mid → take (length old) new ≡ old
 front_more old more mid new is front =
     let longer : length mid ≡ length old + length more = ap (λ (t : List ℕ). length t) is ∙ length-append old more in

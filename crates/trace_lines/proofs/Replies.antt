@@ -29,7 +29,7 @@ cancel : (front a b : List ℕ) → front ++ a ≡ front ++ b → a ≡ b
 cancel [] a b e = e
 cancel (x ∷ front) a b e = cancel front a b (let tails : front ++ a ≡ front ++ b = cc in tails)
 
--- ---- a number behind its name
+-- ---- a number after its name
 
 named_parts : (name : List ℕ) (number : ℕ) (text : List ℕ) → named_number_text name number ≡ Some text → (y : List ℕ) × (number_text number ≡ Some y) × (text ≡ name ++ y)
 named_parts name number text e =
@@ -51,7 +51,7 @@ named_reads name text inner read front reads = record {
 pair_same : (run freeze : ℕ) (told : ℕ × ℕ) → run ≡ told.0 → freeze ≡ told.1 → ◌≡◌ {A = Option (ℕ × ℕ)} (Some (run, freeze)) (Some told)
 pair_same run freeze told p q = λ i. Some (p i, q i)
 
--- ---- two numbers, each behind its name
+-- ---- two numbers, each after its name
 
 -- the first name, and the second one, which begins with a blank
 module _ (first second : List ℕ) (text inner word rest : List ℕ) (front : text ≡ first ++ inner) (cut : IsCut inner word rest) where

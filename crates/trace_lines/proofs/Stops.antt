@@ -90,7 +90,7 @@ reads_helper name number read reads e =
 
 -- ---- what is told of a stop
 
--- what a helper tells behind a blank
+-- what a helper tells after a blank
 behind_blank : (test : Bool) (o : Option (List ℕ)) (text : List ℕ) → option_append (where_true test (codes " ")) o ≡ Some text → (test ≡ true) × (y : List ℕ) × (o ≡ Some y) × (text ≡ 32 ∷ y)
 behind_blank test o text e =
     let parts = parts_of (where_true test (codes " ")) o text e in
@@ -112,7 +112,7 @@ no_blank helper text other apart = record { said = tt; back = λ stop e of. absu
 
 -- ---- the whole of a stop
 
--- a stop that is no exit is a helper's call, and what is told behind it
+-- a stop that is no exit is a helper's call, and what is told after it
 pub record IsCall (text : List ℕ) (stop : Stop) : Type 0 where
   pub helper : Helper
   pub told : List ℕ
@@ -160,7 +160,7 @@ whole_of helper stops.Exit told of e = absurd of
 tail_same : (a b : List ℕ) → codes "helper " ++ a ≡ codes "helper " ++ b → a ≡ b
 tail_same a b e = cc
 
--- a text behind `helper `, cut at its first blank
+-- a text after `helper `, cut at its first blank
 module _ (text inner word behind : List ℕ) (front : text ≡ codes "helper " ++ inner) (cut : IsCut inner word behind) where
   same_parts : (stop : Stop) → stop_text stop ≡ Some text → (helper : Helper) × (told : List ℕ) × IsOf helper stop × (told_text stop ≡ Some told) × (decimal (number_of helper) ≡ word) × (told ≡ behind)
   same_parts stop e = elim (stop_parts stop text e) [
@@ -203,7 +203,7 @@ pub narrowed : {E : Type 0} (read : Result ℕ E) (number small_number : ℕ) �
 narrowed (Ok n) number small_number is e = let same : small_number ≡ n = cc in (same ∙ is.1, subst (λ k. k < 256) (sym (same ∙ is.1)) is.0)
 narrowed (Err fault) number small_number is e = absurd cc
 
--- what stands behind a text
+-- what follows a text
 pub behind_text : (front text : List ℕ) (read : Option (Bor (List ℕ))) → MatchOption read (FindsTextPrefix front text None) (λ x. StripsPrefix (FindsTextPrefix front) text x.now)
     → MatchOption read ((rest : List ℕ) → text ≢ front ++ rest) (λ x. text ≡ front ++ x.now)
 behind_text front text None is = is

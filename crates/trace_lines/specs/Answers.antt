@@ -11,7 +11,7 @@ use Rattle.trace_lines.specs.declared.table.Form.{Form}
 use Rattle.trace_lines.specs.declared.table.Form.TheVariants as forms
 use Rattle.trace_lines.specs.declared.table.Row.{Row}
 
--- a number behind its name
+-- a number after its name
 abbrev pub named_number_text : List ℕ → ℕ → Option (List ℕ)
 named_number_text name number = option_append (Some name) (number_text number)
 

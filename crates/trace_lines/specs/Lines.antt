@@ -1,4 +1,4 @@
--- How a line is spelled: its word and its fields, each behind a blank.
+-- How a line is spelled: its word and its fields, each after a blank.
 use Rattle.std.specs.Prelude.{ℕ, Bool, true, false, Option, Some, None, List, [], codes}
 use Rattle.std.specs.Fmt.{option_append}
 use Rattle.trace_lines.specs.Calls.{word_text}

@@ -41,7 +41,7 @@ IsOf helper (stops.Bytes called bytes) = called ≡ helper
 IsOf helper (stops.Code called code) = called ≡ helper
 IsOf helper stops.Exit = ⊥
 
--- what stands behind the helper is what is told of its call
+-- what follows the helper is what is told of its call
 pub record ReadsTold (helper : Helper) (text : List ℕ) (read : Option Stop) : Type 0 where
   pub said : IfSome read (λ stop. (told_text stop ≡ Some text) × IsOf helper stop)
   pub back : (stop : Stop) → told_text stop ≡ Some text → IsOf helper stop → read ≡ Some stop
@@ -67,7 +67,7 @@ pub record IsCutFor (kind : Kind) (text word rest : List ℕ) : Type 0 where
   pub all : is_last kind ≡ true → rest ≡ []
   pub first : is_last kind ≡ false → IsCut text word rest
 
--- a field that stands in front is read, and what is behind it is left
+-- a field that stands in front is read, and what is after it is left
 pub record ReadsSlot (kind : Option Kind) (text : List ℕ) (held : Option Value) (read : Option (Bor (List ℕ))) : Type 0 where
   pub said : IfSome read (λ rest. (told : List ℕ) × (slot_text kind held ≡ Some told) × (text ≡ told ++ rest.now))
   pub back : (value : Option Value) (told rest : List ℕ) → slot_text kind value ≡ Some told → text ≡ told ++ rest → is_behind kind rest ≡ true

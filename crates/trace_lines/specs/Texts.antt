@@ -79,7 +79,7 @@ helper_number_text helper = Some (decimal (number_of helper))
 abbrev pub helper_text : Helper → List ℕ
 helper_text helper = codes "helper " ++ decimal (number_of helper)
 
--- what is told behind the helper, if its row says so: nothing, bytes or a code
+-- what is told after the helper, if its row says so: nothing, bytes or a code
 abbrev pub told_text : Stop → Option (List ℕ)
 told_text (stops.Helper helper) = where_true (tells_name (told_by helper)) []
 told_text (stops.Bytes helper bytes) = option_append (where_true (tells_bytes (told_by helper)) (codes " ")) (bytes_text bytes)

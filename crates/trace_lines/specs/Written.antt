@@ -2,7 +2,7 @@
 use Rattle.std.specs.Prelude.{◌≡◌, ℕ, Option, Some, None, IfSome, Result, Ok, Err, OnErr, List, length, take}
 use Rattle.std.specs.Fmt.{option_append}
 
--- a text that there is stands behind what stood there
+-- a text that there is stands after what stood there
 abbrev pub IsPut : Option (List ℕ) → List ℕ → List ℕ → Type 0
 IsPut text old new = option_append (Some old) text ≡ Some new
 
@@ -11,7 +11,7 @@ abbrev pub Puts : {T E : Type 0} → Option (List ℕ) → List ℕ → Result T
 Puts text old (Ok done) new = IsPut text old new
 Puts text old (Err none) new = text ≡ None
 
--- Where there is no text, what stood there is in front still: a beginning of a line may stand behind it.
+-- Where there is no text, what stood there is in front still: a beginning of a line may stand after it.
 abbrev pub KeepsFront : {T E : Type 0} → List ℕ → Result T E → List ℕ → Type 0
 KeepsFront old result new = OnErr result (take (length old) new ≡ old)
 

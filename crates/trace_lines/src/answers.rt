@@ -93,7 +93,7 @@ fn print_advised(ccb: u32, advice: u32, text: &mut Text)
     print_named(" advice ", advice, text);
 }
 
-// A number behind its name, which is short.
+// A number after its name, which is short.
 fn print_named(name: &str, number: u32, text: &mut Text)
     requires short { length name.now ≤ 8 }
     requires room { length text.old + 18 ≤ ROOM }
@@ -193,14 +193,14 @@ fn started(text: &str) -> Option<(u32, u32)>
     Some((number(run)?, named_number(" freeze ", rest)?))
 }
 
-// A number behind its name.
+// A number after its name.
 fn named_number(name: &str, text: &str) -> Option<u32>
     ensures { Reads (named_number_text name.now) text.now result }
 {
     number(behind(name, text)?)
 }
 
-// What stands behind that front.
+// What follows that front.
 fn behind<'a>(front: &str, text: &'a str) -> Option<&'a str>
     ensures { MatchOption result ((rest : _) → ¬ (text.now ≡ front.now ++ rest)) (λ rest. text.now ≡ front.now ++ rest.now) }
 {

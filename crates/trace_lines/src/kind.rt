@@ -42,7 +42,7 @@ impl Kind {
     }
 }
 
-/// Up to four things, one behind the other: a line's fields, or what they hold.
+/// Up to four things, one after the other: a line's fields, or what they hold.
 #[derive(Clone, Copy)]
 pub struct Slots<T> {
     pub first: Option<T>,

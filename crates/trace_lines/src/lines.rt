@@ -13,12 +13,12 @@ use crate::text::{ROOM, Text};
 use crate::value::Value;
 use crate::word::Word;
 
-/// How long up to four fields may be, each behind a blank, and a word with these.
+/// How long up to four fields may be, each after a blank, and a word with these.
 pub const FIELDS: usize = 644;
 
 pub const LINE: usize = 653;
 
-/// Puts a line's word and what its fields hold, each behind a blank, unless it has no spelling as that line.
+/// Puts a line's word and what its fields hold, each after a blank, unless it has no spelling as that line.
 pub fn print_line(word: Word, held: &Slots<Value>, text: &mut Text) -> Result<(), NoText>
     requires room { length text.old + LINE ≤ ROOM }
     ensures text { Puts (line_text word held.now) text.old result text.new }
@@ -29,7 +29,7 @@ pub fn print_line(word: Word, held: &Slots<Value>, text: &mut Text) -> Result<()
     print_fields(&word.row().fields, held, text)
 }
 
-/// Puts what fields hold, each behind a blank, unless it has no spelling as these fields.
+/// Puts what fields hold, each after a blank, unless it has no spelling as these fields.
 #[tactic(auto, unfolding(crate::specs::Lines::fields_text))]
 pub fn print_fields(
     fields: &Slots<Kind>,
@@ -81,7 +81,7 @@ pub fn read_line(text: &str) -> Option<(Word, Slots<Value>)>
     Some((word, read_fields(&word.row().fields, rest)?))
 }
 
-/// What fields hold that are spelled so, each behind a blank.
+/// What fields hold that are spelled so, each after a blank.
 pub fn read_fields(fields: &Slots<Kind>, text: &str) -> Option<Slots<Value>>
     ensures { ReadsFields fields.now text.now result }
 {
@@ -101,7 +101,7 @@ pub fn read_fields(fields: &Slots<Kind>, text: &str) -> Option<Slots<Value>>
     Some(held)
 }
 
-// Reads what a field holds that stands in front, and answers what is behind it.
+// Reads what a field holds that stands in front, and answers what is after it.
 fn read_slot<'a>(kind: Option<Kind>, text: &'a str, held: &mut Option<Value>) -> Option<&'a str>
     ensures { ReadsSlot kind text.now held.new result }
 {

@@ -1,4 +1,4 @@
-// Prints fields: one function a kind, which puts the field behind a text. It relies on `kind` and `value`, on `text`, and on `helpers`
+// Prints fields: one function a kind, which puts the field after a text. It relies on `kind` and `value`, on `text`, and on `helpers`
 // for what a call tells.
 
 ghost use Rattle.std.specs.Prelude.{◌≡◌, ◌+◌, ◌<◌, ◌≤◌, Some, false, length};
@@ -35,7 +35,7 @@ pub const BYTES: usize = 128;
 pub const FIELD: usize = 160;
 
 impl Kind {
-    /// Puts what a field of this kind holds behind a text, unless it has no spelling of this kind.
+    /// Puts what a field of this kind holds after a text, unless it has no spelling of this kind.
     #[tactic(auto, unfolding(crate::specs::Texts::field_text))]
     pub fn print(self, value: Value, text: &mut Text) -> Result<(), NoText>
         requires room { length text.old + FIELD ≤ ROOM }

@@ -35,7 +35,7 @@ impl Kind {
     }
 }
 
-/// The front of a text up to its first blank, and what is behind.
+/// The front of a text up to its first blank, and what is after.
 pub fn first_word(text: &str) -> (&str, &str)
     ensures { IsCut text.now result.0.now result.1.now }
 {
@@ -147,14 +147,14 @@ fn stop(text: &str) -> Option<Stop>
     told(helper, behind)
 }
 
-// What stands behind `helper `.
+// What follows `helper `.
 fn behind_helper(text: &str) -> Option<&str>
     ensures { MatchOption result ((rest : _) → ¬ (text.now ≡ codes "helper " ++ rest)) (λ rest. text.now ≡ codes "helper " ++ rest.now) }
 {
     text.strip_prefix("helper ")
 }
 
-/// What stands behind a blank.
+/// What follows a blank.
 pub fn behind_blank(text: &str) -> Option<&str>
     ensures { MatchOption result ((rest : _) → ¬ (text.now ≡ 32 ∷ rest)) (λ rest. text.now ≡ 32 ∷ rest.now) }
 {

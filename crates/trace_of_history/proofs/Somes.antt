@@ -1,4 +1,4 @@
--- Texts that there are, one behind the other.
+-- Texts that there are, one after the other.
 use Rattle.std.proofs.Common.{◌≡◌, ◌<◌, ◌^◌, ℕ, Bool, true, false, cond, Option, Some, None, List, refl, codes, decimal, nat_lt}
 use Rattle.std.specs.Prelude.{IsSome}
 use Rattle.std.specs.Fmt.{option_append, with_newline}
@@ -27,7 +27,7 @@ some_long_number number fits = some_where (nat_lt number (2 ^ 64)) (decimal numb
 pub some_named : (name : List ℕ) (number : ℕ) → number < 2 ^ 32 → IsSome (named_number_text name number)
 some_named name number fits = some_append (Some name) (number_text number) refl (some_number number fits)
 
--- a field behind its blank
+-- a field after its blank
 pub some_field : (text : Option (List ℕ)) → IsSome text → IsSome (option_append (Some (codes " ")) text)
 some_field text is = some_append (Some (codes " ")) text refl is
 

@@ -1,4 +1,4 @@
--- A local call: what is called is sound from what is known there, and what comes back is known behind the call.
+-- A local call: what is called is sound from what is known there, and what comes back is known after the call.
 use Rattle.std.proofs.Common.{◌≡◌, true, false, ℕ, ℤ, ◌+◌, ◌<◌, ◌≤◌, List, [], ◌∷◌, ◌++◌, length, Option, Some, None, refl, ap, sym, subst, ◌∙◌, arith, inl, inr}
 use Rattle.std.specs.Option.{option_and_then}
 use Rattle.std.specs.List.{Contains}
@@ -177,7 +177,7 @@ back_stands callers start before at back after calls come m is = record {
   calls_are = is.calls_are;
 }
 
--- what comes back is known behind the call alone
+-- what comes back is known after the call alone
 pub behind_alone : (before : Table) (at : ℕ) (back : Option Description) (after : Table) → HasComeBack before (at + 1) back after → (k : ℕ) → k ≤ at → described after k ≡ described before k
 behind_alone before at back after come k le = come.others k (λ same. omega (arith, same, le))
 

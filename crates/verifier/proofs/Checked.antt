@@ -78,7 +78,7 @@ ends_run callers d m m' insn exit none holds step =
 target_is : (x y : ℕ) (o : Option ℕ) → o ≡ Some x → o ≡ Some y → x ≡ y
 target_is x y o e f = cc
 
--- behind an instruction
+-- after an instruction
 lands_behind : (limits : HelperLimits) (program : List Slot) (callers : List SavedRegisters) (start : ℕ) (d : Description) (before after : Table) (at to : ℕ) (insn : Insn) (m m' : MachineState) → to ≡ at + length (slots_of insn) → insn_at program (start + at) ≡ Some insn → at < length before → IsEnd program start (start + length before) → HasLed limits callers d before insn FallThrough to after → m.pc ≡ start + at → Describes callers d m → StepsBy m insn m' → goes_on_behind insn ≡ true → m'.pc ≡ behind m.pc insn → m'.open_calls ≡ m.open_calls → GoesBy m insn FallThrough → Stands callers m.open_calls start after m'
 lands_behind limits program callers start d before after at to insn m m' slot here inside end led at_place holds step goes_on place calls way =
     let lt = (end.closed (start + at) insn (omega arith) (omega (arith, inside)) here).goes_on goes_on in

@@ -72,7 +72,7 @@ one_place_more entry len table some first =
       ];
     }
 
--- a function is left, and what is known then is known behind its call
+-- a function is left, and what is known then is known after its call
 pub left_on : (saved : SavedRegisters) (d there merged : Description) (before : Option Description) → ((callers : List SavedRegisters) (m m' : MachineState) → Describes (callers ++ saved ∷ []) d m → does m Exit ≡ Some m' → Describes callers there m') → length there.stack + 1 ≡ length d.stack → IsMerged before there merged → HasLeft saved d before (Some merged)
 left_on saved d there merged before leaves deep is = record {
   keeps = λ old was. (merged, refl, is.keeps old was);
@@ -80,7 +80,7 @@ left_on saved d there merged before leaves deep is = record {
   frames = λ frames deep_there all now now_is. ap (λ (x : Description). length x.stack) (sym (same_description merged now now_is)) ∙ is.frames frames (omega (arith, deep, deep_there)) all;
 }
 
--- the same of what is known behind the call then
+-- the same of what is known after the call then
 pub left_so : (saved : SavedRegisters) (d there : Description) (before now : Option Description) → ((callers : List SavedRegisters) (m m' : MachineState) → Describes (callers ++ saved ∷ []) d m → does m Exit ≡ Some m' → Describes callers there m') → length there.stack + 1 ≡ length d.stack → IsSome now → IfSome now (IsMerged before there) → HasLeft saved d before now
 left_so saved d there before (Some merged) leaves deep some known = left_on saved d there merged before leaves deep known
 left_so saved d there before None leaves deep some known = absurd (let bad : IsSome {T = Description} None = some in cc)

@@ -54,7 +54,7 @@ led_nowhere limits callers table insn way to d there is_open never goes shut = r
   ]);
 }
 
--- what is left behind an instruction arrives where that leads
+-- what is left after an instruction arrives where that leads
 pub arrives_on : (program : List Slot) (place : ℕ) (insn : Insn) (way : Way) (to : ℕ) (d there : Description) → NeverLacks program → Arrives program place d → insn_at program place ≡ Some insn → goes_to place insn way ≡ Some to → Leaves insn way d there → Arrives program to there
 arrives_on program place insn way to d there lacks_not arrives at goes leaves =
     follows place to insn way d there arrives at (lacks_not.enough place insn d arrives at) goes leaves

@@ -1,4 +1,4 @@
--- A function on its way: the place behind an instruction, its target, what it calls, and the place behind the call.
+-- A function on its way: the place after an instruction, its target, what it calls, and the place after the call.
 use Rattle.std.proofs.Common.{◌≡◌, true, false, ℕ, ℤ, ◌+◌, ◌<◌, List, [], ◌∷◌, Some, None, refl, ap, sym, arith, inl, inr}
 use Rattle.bpf_insn.specs.declared.insn.Insn.{Insn}
 use Rattle.bpf_insn.specs.declared.insn.Insn.TheVariants.{Alu, InPlace, SignExtend, JumpIf, Jump, LoadImmediate, Load, Store, Call, Exit}
@@ -24,7 +24,7 @@ use Rattle.verifier.specs.OnTheWay.{IsChain}
 pub chain_first : (program : List Slot) → IsChain program 0 0
 chain_first program = record { returns = []; count = refl; begun = tt; on = begins_on_the_way program }
 
--- behind an instruction by which control stays in its function
+-- after an instruction by which control stays in its function
 leads_behind : (callers : List SavedRegisters) (at : Standing) (insn : Insn) → Stays callers insn → goes_on_behind insn ≡ true → StepLeadsTo at insn (moved at (behind at.slot insn))
 leads_behind callers at (Alu width op dst src) stays goes = refl
 leads_behind callers at (InPlace op dst) stays goes = refl
@@ -109,7 +109,7 @@ chain_called program calls place distance lawful here chain =
       on = further program at (called at (target place distance)) (Call (Local distance)) here refl chain.on;
     }
 
--- and behind the call: a path from there is the end of one through what is called
+-- and after the call: a path from there is the end of one through what is called
 pub chain_back : (program : List Slot) (calls place : ℕ) (distance : ℤ) → IsLawfulProgram program → insn_at program place ≡ Some (Call (Local distance)) → IsChain program calls place → IsChain program calls (place + 1)
 unfolding chain_called
 chain_back program calls place distance lawful here chain = record {
@@ -124,7 +124,7 @@ chain_back program calls place distance lawful here chain = record {
       (whole.0, whole.1, omega (arith, whole.2, through.1));
 }
 
--- so a path from somewhere to a call leads on behind it
+-- so a path from somewhere to a call leads on after it
 pub comes_back : (program : List Slot) (from : Standing) (place : ℕ) (distance : ℤ) → IsLawfulProgram program → insn_at program place ≡ Some (Call (Local distance)) → PathLeads program from (outermost place) → PathLeads program from (outermost (place + 1))
 comes_back program from place distance lawful here comes =
     let callee : begins program (target place distance) ≡ true = calls_lawfully program place (target place distance) (Call (Local distance)) lawful.0 lawful.1 here refl in

@@ -27,7 +27,7 @@ pub record IsTaken (all : Table) (at : ℕ) (before : Table) : Type 0 where
   pub ahead : (k : ℕ) → at < k → described before k ≡ described all k
   pub known : (k : ℕ) (d : Description) → described before k ≡ Some d → described all k ≡ Some d
 
--- what was known up to a place, and what is known behind it
+-- what was known up to a place, and what is known after it
 pub carried : ℕ → Table → Table → Table
 carried at all after = take (at + 1) all ++ drop (at + 1) after
 

@@ -39,7 +39,7 @@ module _ (limits : HelperLimits) (program : List Slot) (callers : List SavedRegi
   pub taken_so : at < length table → (nothing : Option Description) → nothing ≡ None → IsTaken are.all at (slice_set table at nothing)
   taken_so inside nothing none = subst (λ (o : Option Description). IsTaken are.all at (slice_set table at o)) (sym none) (taken_out limits program callers entry start table left at first now inside are)
 
-  -- there is a place behind a call
+  -- there is a place after a call
   pub room_behind : (insn : Insn) (callee : ℕ) (nothing : Option Description) → at < length table → insn_at program (start + at) ≡ Some insn → callee_in (start + at) insn ≡ Some callee → at + 1 < length (slice_set table at nothing)
   room_behind insn callee nothing inside here leads =
       let call = local_call (start + at) callee insn leads in

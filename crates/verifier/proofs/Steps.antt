@@ -1,5 +1,5 @@
--- Where a machine stands after one instruction: at the slot behind it, at the target where it jumps, at the start of a
--- function that it calls, or behind the call of the one that it leaves.
+-- Where a machine stands after one instruction: at the slot after it, at the target where it jumps, at the start of a
+-- function that it calls, or after the call of the one that it leaves.
 use Rattle.std.proofs.Common.{◌≡◌, ℕ, ℤ, ◌+◌, Bool, true, false, cond, List, [], ◌∷◌, map, Option, Some, None, refl, ap, sym, subst, ◌∙◌, ◌⊎◌, inl, inr}
 use Rattle.std.specs.Option.{option_map, option_and_then}
 use Rattle.std.proofs.lemmas.Bool.{cases_Bool, cond-true, cond-false}
@@ -28,7 +28,7 @@ use Rattle.call_shape.specs.StaticPath.{Standing, moved, StepLeadsTo, ReturnsTo}
 use Rattle.check_private_insns.specs.declared.way.Way.TheVariants.{FallThrough, Taken}
 use Rattle.check_private_insns.specs.Follows.{GoesBy, StepsBy, jumps_if}
 
--- one of the two ways, the first only where something may go on behind the instruction
+-- one of the two ways, the first only where something may go on after the instruction
 abbrev pub GoesPrivately : MachineState → Insn → MachineState → Type 0
 GoesPrivately m insn m' =
     (GoesBy m insn FallThrough × (m'.pc ≡ behind m.pc insn) × (goes_on_behind insn ≡ true))
@@ -71,7 +71,7 @@ pub record HasEntered (m : MachineState) (distance : ℤ) (m' : MachineState) : 
   pub place : m'.pc ≡ target m.pc distance
   pub leads : StepLeadsTo (standing_of m) (Call (Local distance)) (standing_of m')
 
--- out of one, behind its call
+-- out of one, after its call
 pub record HasLeft (m m' : MachineState) : Type 0 where
   pub step : does m Exit ≡ Some m'
   pub call : OpenCall
@@ -87,7 +87,7 @@ some_is x y e = cc
 none_is : (x : MachineState) → None ≡ Some x → ⊥
 none_is x e = absurd cc
 
--- behind the instruction, and what else it changes is no call
+-- after the instruction, and what else it changes is no call
 record IsNext (m : MachineState) (slots : ℕ) (m' : MachineState) : Type 0 where
   calls : m'.open_calls ≡ m.open_calls
   place : m'.pc ≡ m.pc + slots
@@ -139,7 +139,7 @@ jump_goes m m' width condition offset None b e = absurd (none_is m' e)
 moved_on : (m m' : MachineState) (place : ℕ) → m'.open_calls ≡ m.open_calls → m'.pc ≡ place → standing_of m' ≡ moved (standing_of m) place
 moved_on m m' place calls at = λ i. record { slot = at i; returns = map (λ (call : OpenCall). call.return_pc) (calls i) }
 
--- behind the instruction
+-- after the instruction
 next_onward : (m m' : MachineState) (insn : Insn) (slots : ℕ) → IsNext m slots m' → behind m.pc insn ≡ m.pc + slots → goes_on_behind insn ≡ true → GoesBy m insn FallThrough → StepLeadsTo (standing_of m) insn (standing_of m') → IsOnward m insn m'
 next_onward m m' insn slots is slot on goes leads = record { calls = is.calls; goes = inl (goes, is.place ∙ sym slot, on); leads = leads }
 
@@ -203,7 +203,7 @@ called_onward m m' (Load form dst src offset) request answer made allowed = absu
 called_onward m m' (Store size dst src offset) request answer made allowed = absurd (no_request request made)
 called_onward m m' Exit request answer made allowed = absurd (no_request request made)
 
--- within its function a machine goes on behind the instruction or where it jumps
+-- within its function a machine goes on after the instruction or where it jumps
 pub onward : (m m' : MachineState) (insn : Insn) → is_inside insn ≡ true → StepsBy m insn m' → IsOnward m insn m'
 onward m m' insn inside (inl step) = private_onward m m' insn inside step
 onward m m' insn inside (inr (request, answer, made, allowed)) = called_onward m m' insn request answer made allowed

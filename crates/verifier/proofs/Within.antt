@@ -27,7 +27,7 @@ not_stuck limits m None e = absurd (let bad : true ≡ false = e in cc)
 stands_at : (limits : HelperLimits) (program : List Slot) → Safe program limits → (n : ℕ) (m : MachineState) → Reached program n m → (insn : Insn) × (insn_at program m.pc ≡ Some insn)
 stands_at limits program safe n m reached = not_stuck limits m (insn_at program m.pc) (safe n m reached)
 
--- the instructions behind a run are the first of a static path
+-- the instructions after a run are the first of a static path
 path_through : (limits : HelperLimits) (program : List Slot) → Safe program limits → (n : ℕ) (m : MachineState) → Reached program n m → (k : ℕ) → StaticPath program (standing_of m) k → StaticPath program (outermost 0) (n + k)
 path_through limits program safe zero m entry k path =
     let same : k ≡ 0 + k = omega arith in
@@ -43,7 +43,7 @@ path_through limits program safe (suc n) m (before, reached, step) k path =
 same_begun : (program : List Slot) (m m' : MachineState) → m'.open_calls ≡ m.open_calls → AreBegun program (returns_of m) → AreBegun program (returns_of m')
 same_begun program m m' calls begun = subst (λ (l : List OpenCall). AreBegun program (map (λ (call : OpenCall). call.return_pc) l)) (sym calls) begun
 
--- an instruction begins behind each call that is open
+-- an instruction begins after each call that is open
 begun_on : (program : List Slot) (m m' : MachineState) (insn : Insn) → IsProgram program → IsLawful program → insn_at program m.pc ≡ Some insn → StepsBy m insn m' → AreBegun program (returns_of m) → AreBegun program (returns_of m')
 begun_on program m m' (Call (Local distance)) is lawful at step begun =
     let in_callee = enters m m' distance step in

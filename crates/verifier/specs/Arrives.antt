@@ -21,7 +21,7 @@ abbrev pub goes_to : ℕ → Insn → Way → Option ℕ
 goes_to place insn FallThrough = Some (behind place insn)
 goes_to place insn Taken = target_in place insn
 
--- What may be known where paths come to a place: at the entry, behind an instruction, and where two join.
+-- What may be known where paths come to a place: at the entry, after an instruction, and where two join.
 pub data Arrives (program : List Slot) : ℕ → Description → Type 0 where
   enters : (d : Description) → IsEntryKnown d → Arrives program 0 d
   follows : (place to : ℕ) (insn : Insn) (way : Way) (d there : Description) → Arrives program place d → insn_at program place ≡ Some insn → Enough insn d → goes_to place insn way ≡ Some to → Leaves insn way d there → Arrives program to there

@@ -61,7 +61,7 @@ pub record IsVisited (limits : HelperLimits) (program : List Slot) (callers : Li
   pub on_paths : (check : Standing) → Contains checks check → IsOnPath program (outermost start) check
   pub sound : FunctionIsSound limits program callers entry start left checks
 
--- Back behind a call at that place, of which that is known.
+-- Back after a call at that place, of which that is known.
 pub record IsBack (callers : List SavedRegisters) (left : Option Description) (place : ℕ) (calls : List OpenCall) (m : MachineState) : Type 0 where
   pub description : Description
   pub known : left ≡ Some description

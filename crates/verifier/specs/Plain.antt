@@ -68,7 +68,7 @@ abbrev pub IsContextLoad : Insn → Type 0
 IsContextLoad (Load form dst src offset) = (is_kept dst ≡ true) × (src ≡ R1) × (address_at 0 offset + byte_len (load_width form) ≤ 96)
 IsContextLoad insn = ⊥
 
--- arithmetic, loads and stores of the frame, and conditional jumps that lead forward, at most to the slot behind the list
+-- arithmetic, loads and stores of the frame, and conditional jumps that lead forward, at most to the slot after the list
 abbrev pub IsListed : ℕ → ℕ → Insn → Type 0
 IsListed place end (Alu width op dst src) = (is_free dst ≡ true) × IsFreeOperand src
 IsListed place end (InPlace op dst) = is_free dst ≡ true

@@ -61,7 +61,7 @@ pub record HasLed (limits : HelperLimits) (callers : List SavedRegisters) (d : D
   pub unstuck : NeverStuck limits callers insn d
   pub follows : (m m' : MachineState) → to < length before → Describes callers d m → GoesBy m insn way → StepsBy m insn m' → IsKnown callers after to m'
 
--- A function is left where that is known, and what is known behind its call is widened by that.
+-- A function is left where that is known, and what is known after its call is widened by that.
 pub record HasLeft (saved : SavedRegisters) (d : Description) (before after : Option Description) : Type 0 where
   pub keeps : (old : Description) → before ≡ Some old → (now : Description) × (after ≡ Some now) × Covers old now
   pub leaves : (outer : List SavedRegisters) (m m' : MachineState) → Describes (outer ++ saved ∷ []) d m → does m Exit ≡ Some m' → (now : Description) × (after ≡ Some now) × Describes outer now m'

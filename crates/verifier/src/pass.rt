@@ -68,7 +68,7 @@ pub fn pass<W: Witness + Drop>(
 }
 
 // Visits a function that starts at a slot, while these wait for it, from what is known there. What is known where it is left
-// is the answer, if it is anywhere, for the place behind its call.
+// is the answer, if it is anywhere, for the place after its call.
 #[cycle(functions)]
 fn visit_function<W: Witness + Drop>(
     limits: &HelperLimits,
@@ -170,7 +170,7 @@ fn visit<W: Witness + Drop>(
     )
 }
 
-// Visits the function that the instruction at a place calls where that is known. What is known behind the call is the answer, if
+// Visits the function that the instruction at a place calls where that is known. What is known after the call is the answer, if
 // any machine comes back.
 #[cycle(functions)]
 fn call<W: Witness + Drop>(

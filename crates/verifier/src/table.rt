@@ -70,7 +70,7 @@ pub fn first_table(
 }
 
 /// Checks an instruction where that is known, and lets it lead on one way: what is known then is joined into the table, of a function
-/// that starts at that slot. Nothing is behind the last exit.
+/// that starts at that slot. Nothing follows the last exit.
 pub fn lead<W: Witness + Drop>(
     limits: &HelperLimits,
     callers: &[SavedRegisters],
@@ -155,7 +155,7 @@ fn merge(
     }
 }
 
-/// A function is left where that is known, for the place behind its call.
+/// A function is left where that is known, for the place after its call.
 pub fn leave(
     mut known: Known,
     saved: &SavedRegisters,

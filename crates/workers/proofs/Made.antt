@@ -12,12 +12,12 @@ each_append f [] ys = refl
 each_append {X} f (x ∷ xs) ys = ap (λ (zs : List X). f x ++ zs) (each_append f xs ys) ∙ sym (append_assoc (f x) (each f xs) (each f ys))
 
 module _ (setup : Setup) where
-  -- calls behind calls
+  -- calls after calls
   pub made_then : (a b c : CallerState) (xs ys : List CallMade) → AreMade setup a xs b → AreMade setup b ys c → AreMade setup a (xs ++ ys) c
   made_then a b c xs ys (made_none caller) second = second
   made_then a b c xs ys (made_more before between after call calls first rest) second = made_more before between c call (calls ++ ys) first (made_then between after c calls ys rest second)
 
-  -- one call behind them
+  -- one call after them
   pub made_one : (a b c : CallerState) (xs : List CallMade) (event : Event) (reply : Reply) → AreMade setup a xs b → Section setup event reply b c → AreMade setup a (xs ++ record { event = event; reply = reply } ∷ []) c
   made_one a b c xs event reply made section =
       let call : CallMade = record { event = event; reply = reply } in

@@ -1,4 +1,4 @@
--- How the runs that are kept are parked, one behind the other.
+-- How the runs that are kept are parked, one after the other.
 use Rattle.std.proofs.Common.{◌≡◌, ℕ, ◌+◌, ◌<◌, List, [], ◌∷◌, ◌++◌, length, drop, All, refl, ap, sym, subst, ◌∙◌, arith, append_assoc, append-nil, length-append}
 use Rattle.std.specs.Prelude.{slice_index_or, slice_set}
 use Rattle.std.proofs.lemmas.List.Elements.{All-cons, All-head, All-tail}
@@ -19,7 +19,7 @@ empty_of [] none = refl
 empty_of (run ∷ runs) none = absurd (omega (arith, none))
 
 module _ (setup : Setup) where
-  -- So many runs were tried by this caller. Those that were not are in front, and those that came back behind them.
+  -- So many runs were tried by this caller. Those that were not are in front, and those that came back after them.
   pub record Turn (before after : CallerState) (all now : List RunState) (turn : ℕ) : Type 0 where
     pub done : List RunState
     pub ahead : List RunState

@@ -335,7 +335,7 @@ module _ (setup : Setup) where
     taken = second.taken ∙ (ap (λ (zs : List Outcome). zs ++ ys) first.taken ∙ append_assoc a.account.taken xs ys);
   }
 
-  -- one service behind another
+  -- one service after another
   pub did_more : (a b c : WorkerState) → HasDone setup a b → b.kept ≡ Nothing → b.out_of_memory ≡ false → HasDone setup b c → HasDone setup a c
   did_more a b c first free none second =
       let xs = first.calls in

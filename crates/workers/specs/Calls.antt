@@ -1,4 +1,4 @@
--- The calls that one caller made of a shared engine, one behind the other, whoever called between them.
+-- The calls that one caller made of a shared engine, one after the other, whoever called between them.
 use Rattle.std.specs.Prelude.{List, [], ◌∷◌, ◌++◌}
 use Rattle.world.specs.World.{Setup}
 use Rattle.engine_core.specs.declared.event.Event.{Event}

@@ -11,7 +11,7 @@ use Rattle.monitor.specs.Telling.{CallerState}
 use Rattle.engine_lock.specs.Sharing.{Section}
 use Rattle.workers.specs.Serving.{SeatState, ServedState}
 
--- One caller parked the runs, one behind the other. Those that the engine did not have out then (C4) are left, in their order.
+-- One caller parked the runs, one after the other. Those that the engine did not have out then (C4) are left, in their order.
 pub data AreSettled (setup : Setup) : CallerState → List RunState → List RunState → CallerState → Type 0 where
   nothing : (caller : CallerState) → AreSettled setup caller [] [] caller
   parks : (before between after : CallerState) (run : RunState) (runs left : List RunState) →

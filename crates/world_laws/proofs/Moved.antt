@@ -282,7 +282,7 @@ sooner setup before r went event reply middle after other first second = by_step
           second = e ∙ (λ i. Some (sym alike.both.reply_is i, (is.0 ∙ sym it.after_is) i));
         }
 
--- past any list of events, and whatever comes behind them
+-- past any list of events, and whatever comes after them
 past : (setup : Setup) (r : ℕ) (went : Reply) (ys zs : List (Event × Reply)) (before after : World) → list_all (is_of_another r) ys ≡ true → Leads setup before ((executes r private, went) ∷ (ys ++ zs)) after → Leads setup before (ys ++ (executes r private, went) ∷ zs) after
 past setup r went [] zs before after others leads = leads
 past setup r went (y ∷ ys) zs before after others leads =

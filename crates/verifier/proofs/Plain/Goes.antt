@@ -1,5 +1,5 @@
 -- Of a plain program enough is known everywhere: at each place what holds there is enough for its instruction, and what
--- is known behind that holds where it leads.
+-- is known after that holds where it leads.
 use Rattle.std.proofs.Common.{◌≡◌, ℕ, ℤ, ◌+◌, ◌≤◌, true, false, List, length, Some, None, refl, ap, sym, subst, ◌∙◌, arith, ◌⊎◌, inl, inr}
 use Rattle.std.specs.Prelude.{pos, slice_get, slice_index_or}
 use Rattle.std.specs.Int.{w64, cast_unsigned}
@@ -186,7 +186,7 @@ release_follows program first size place to FallThrough d there here at goes lea
       held = gone.0 ∙ ap (λ (held : List HeldFreeze). without held Start) is.held;
     })
 
--- behind the list
+-- after the list
 
 -- the immediates 0 and 1 are words of at most 1
 few_words : (n : ℤ) → (n ≡ pos 0) ⊎ (n ≡ pos 1) → cast_unsigned w64 n ≤ 1

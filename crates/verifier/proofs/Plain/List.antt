@@ -26,7 +26,7 @@ use Rattle.verifier.specs.Arrives.{goes_to}
 use Rattle.verifier.specs.Plain.{IsListed, IsFreeOperand, ReadsRegister, ReadsByte, ComesUnwritten, is_free, byte_of, writes_register, writes_byte}
 use Rattle.verifier.proofs.Plain.Known.{IsCommon, IsStep, compared_keeps, number_on, known_on, stored_on}
 
--- where the list stands, and at the slot behind it
+-- where the list stands, and at the slot after it
 pub record AtList (program : List Slot) (place : ℕ) (d : Description) : Type 0 where
   pub common : IsCommon program place d
   pub held : d.held ≡ []
@@ -91,7 +91,7 @@ list_enough program place end (LoadImmediate dst value) d listed written is = ab
 list_enough program place end (Call callee) d listed written is = absurd listed
 list_enough program place end Exit d listed written is = absurd listed
 
--- where an instruction of the list leads: on within the list, or to the slot behind it
+-- where an instruction of the list leads: on within the list, or to the slot after it
 pub record LeadsOn (place end : ℕ) (insn : Insn) (to : ℕ) : Type 0 where
   pub leads : StepLeadsTo (outermost place) insn (outermost to)
   pub on : place < to

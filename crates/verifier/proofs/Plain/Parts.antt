@@ -147,7 +147,7 @@ exit_fits program first size place d at is = record {
   at_exit = λ e. is;
 }
 
--- behind the program nothing is asked
+-- after the program nothing is asked
 pub behind_fits : (program : List Slot) (first size place : ℕ) (d : Description) → first + 7 + size ≤ place → PlainAt program first size place d
 behind_fits program first size place d past = record {
   at_load = λ le. absurd (omega (arith, le, past));

@@ -19,7 +19,7 @@ use Rattle.bpf_insn.specs.Target.{target}
 use Rattle.verifier.specs.Plain.{IsContextLoad, IsListed, IsPlain, plain}
 use Rattle.verifier.proofs.Plain.Insns.{plain_narrow, narrow_length, narrow_begins, length_plain, there_inside, test, copy, release, Stands, loads_there, tests, copies, gives_back, lists, sets_retries, requeues_there, sets_answer, exits, stands}
 
--- what the shape asks of each instruction of a plain program whose jumps lead at most to the slot behind its list
+-- what the shape asks of each instruction of a plain program whose jumps lead at most to the slot after its list
 record PlainInsn (end place : ℕ) (insn : Insn) : Type 0 where
   narrow : is_wide insn ≡ false
   no_callee : callee_in place insn ≡ None
@@ -77,7 +77,7 @@ loaded_insn end place Exit lt is = absurd is
 pub test_target : (place : ℕ) → place ≤ MAX_SLOTS → target place (pos 2) ≡ place + 3
 test_target place le = omega (arith, le)
 
--- the slot behind the list
+-- the slot after the list
 abbrev end_of : (program : List Slot) → IsPlain program → ℕ
 end_of program is = length is.loads + 3 + length is.list
 

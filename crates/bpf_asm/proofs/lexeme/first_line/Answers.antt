@@ -5,7 +5,7 @@ use Rattle.bpf_asm.specs.Scanner.{line_len}
 use Rattle.bpf_asm.proofs.Scanning.{first_line_is}
 use Rattle.bpf_asm.proofs.lexeme.first_line.Goals as goal
 
--- the first line of a text that is not empty, and what stands behind it
+-- the first line of a text that is not empty, and what follows it
 parted : (text line rest behind : List ℕ) → 0 < length text → line ≡ take (line_len text) text → rest ≡ drop (line_len text) text → behind ≡ drop 1 rest → lines text ≡ line ∷ lines behind
 parted [] line rest behind h front back e = absurd (omega (arith, h))
 parted (b ∷ bytes) line rest behind h front back e = rw (front, e, back) (first_line_is b bytes)

@@ -16,7 +16,7 @@ use Rattle.cli_inspect_line.proofs.words.asked_for.Goals as goal
 lent : (items read : List (Bor Text)) (out : List Text) → read ≡ items → map (λ word. word.now) items ≡ out → map (λ word. word.now) read ≡ out
 lent items read out same is = ap (map (λ (word : Bor Text). word.now)) same ∙ is
 
--- what was found is what is behind the line
+-- what was found is what stands for the line
 found_so : (read line : List Text) (rows : Option (Text × List Row)) (planned : Option Plan) → read ≡ line → rows ≡ subcommand_of camr_command read → PlansFound rows planned → PlansFound (subcommand_of camr_command line) planned
 found_so read line rows planned same is found = subst (λ f. PlansFound f planned) (is ∙ ap (subcommand_of camr_command) same) found
 

@@ -37,7 +37,7 @@ no_memory n m s (Err e) is = inl is
 lent : (items read : List (Bor Text)) (out : List Text) → read ≡ items → map (λ word. word.now) items ≡ out → map (λ word. word.now) read ≡ out
 lent items read out same is = ap (map (λ (word : Bor Text). word.now)) same ∙ is
 
--- what was found is what is behind the line
+-- what was found is what stands for the line
 found_so : (read line : List Text) (rows : Option (Text × List Row)) (planned : Option Plan) → read ≡ line → rows ≡ subcommand_of camr_command read → PlansFound rows planned → PlansFound (subcommand_of camr_command line) planned
 found_so read line rows planned same is found = subst (λ f. PlansFound f planned) (is ∙ ap (subcommand_of camr_command) same) found
 

@@ -1,4 +1,4 @@
--- The first pass has the accounts of those that it took in, which stand behind those that are still to come.
+-- The first pass has the accounts of those that it took in, which stand after those that are still to come.
 use Rattle.std.proofs.Common.{◌≡◌, [], ◌∷◌, ◌++◌, map, vec_len}
 use Rattle.std.specs.List.{All}
 use Rattle.crossbeam_queue.specs.Passes.{IsPassOf}

@@ -1,4 +1,4 @@
--- the records so far are behind the engine, and the others are those that are left
+-- the records so far led to the engine, and the others are those that are left
 use Rattle.std.proofs.Common.{◌≡◌, ◌++◌, map, length}
 use Rattle.engine_core.specs.ByNumber.{IsBehind}
 use Rattle.replay.proofs.replaying.followed.Given as goal

@@ -73,13 +73,13 @@ empty_spec 𝓤 𝓛 𝓜 𝓡 wired =
     let word = lowers.val_is h vs ok ∙ ap (λ (p : Ptr). lowers.lowered (record h { at = p }) ∷ []) e in
     let Cell = λ (xs : List Val). ‵ (cell_at full_share R.mir xs rb ro) in let new : Handle = record h { held = None } in
     rewrite ! 2 Cell word refl $
-    -- [what lies behind the slot; the fields; the slot's cell; the open borrow, in three entries; self's first part; the heap's handle]
+    -- [what lies after the slot; the fields; the slot's cell; the open borrow, in three entries; self's first part; the heap's handle]
     sets ! (of_opd ! (load ! (through ! refl (fld ! refl (stop !))) (look_in ! 2 (sub ! 0 refl (whole !))))) refl (tt, tt) $
     sets ! (of_opd ! (get ! refl)) refl (tt, tt) $
     sets ! (agg ! (and_then ! (get ! refl) (and_then ! (get ! refl) (no_more !)))) refl (loose_good T Z LZ ghosts b o heap_val (tt, ((tt, tt), tt))) $
     rewrite ! 2 Cell (sym word) refl $
     nothing ! $ move ! (2 ∷ 0 ∷ []) $ fjoin ! $ move ! (2 ∷ 0 ∷ 3 ∷ 4 ∷ 5 ∷ []) $ closes ! tt R new vs rb ro $
-    -- [two parts of self; the token; what lay behind the slot; self's first part; the heap's handle]
+    -- [two parts of self; the token; what lay after the slot; self's first part; the heap's handle]
     move ! (3 ∷ 5 ∷ []) $ loose_in T Z LZ ghosts ! b o heap_val a x $
     let r : Lr.Denot = record { at = block_ptr b o; alloc = a; value = x } in
     returns ! (look_at ! 0 refl) $ free_all ! refl $ move ! (4 ∷ 1 ∷ 2 ∷ []) $ fjoin3 ! $

@@ -62,10 +62,10 @@ fill_spec 𝓤 𝓛 𝓜 𝓡 wired =
     enter ! 𝓣.C 𝓣.Λ code.function us Post $ alloc_all ! (λ l. pass_all ! refl ((tt, tt), (loose_good T Z heap_laws.the_row_laws ghosts b o hv fits, tt)) $
     sets ! (of_opd ! (get_in ! (fld ! refl (stop !)) (sub ! 0 refl (whole !)))) refl (tt, tt) $
     sets ! (of_opd ! (get ! refl)) refl (tt, tt) $
-    -- [what lies behind the box; self; the token]
+    -- [what lies after the box; self; the token]
     move ! (1 ∷ []) $ fsplit3 ! $ move ! (1 ∷ 2 ∷ 4 ∷ []) $ opens ! tt R rb ro (λ vs.
     move ! (1 ∷ []) $ peeks ! R _ (shows 𝓛 R) h vs (λ ok. fsplit ! $ drop ! $ drop ! $
-    -- [the slot's cell; the open borrow, in three entries; self's first part; what lies behind the box]
+    -- [the slot's cell; the open borrow, in three entries; self's first part; what lies after the box]
     let Cell = λ (xs : List Val). ‵ (cell_at full_share R.mir xs rb ro) in let new : Handle = record { at = block_ptr b o; held = Some d.value } in let v : Val = vstruct (vcons (vptr b o) vnil) in
     rewrite ! 0 Cell (lowers.val_is h vs ok) refl $
     assigns ! (of_opd ! (get ! refl)) (through ! refl (fld ! refl (stop !))) (store_in ! 0 (sub ! 0 refl (whole !)) (tt, tt)) $

@@ -1,4 +1,4 @@
--- `held` meets its contract: the value behind the slot is lent, and the slot follows it. Assumes `Logic`.
+-- `held` meets its contract: the value in the slot is lent, and the slot follows it. Assumes `Logic`.
 use Rattle.std.proofs.Common.{◌≡◌, ℕ, List, [], ◌∷◌, refl, sym, ap, ◌∙◌}
 use Rattle.std.specs.Prelude.{Option, Some, IsSome}
 use seplogic.Ra.Ura.{Ura}

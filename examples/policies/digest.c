@@ -25,7 +25,7 @@ APART u64 digest(const u8 *bytes, u64 seed) {
         sum = sum * 31 + bytes[i];
     return sum;
 }
-/* The number, and behind it how many CCBs wait. */
+/* The number, and after it how many CCBs wait. */
 APART void tell(u64 number) {
     struct queue_counts counts;
     u64 both[2];

@@ -58,9 +58,11 @@ fn argument(description: &Description, asked: Option<ArgKind>, reg: Reg) -> Kind
 /// Whether all arguments are written and as asked.
 ///
 /// # Errors
-/// `UnwrittenRegister`; `ArgumentAgainstRule`, or `UnwrittenByte` where only bytes that are read are unwritten, or
-/// `AddressStored` where only the word that is to be stored in a table is no number, or bytes that are read may be of an
-/// address or a freeze.
+/// - `UnwrittenRegister`.
+/// - `ArgumentAgainstRule`; where nothing else is wrong, one of the next two.
+/// - `UnwrittenByte` where bytes that are read are unwritten.
+/// - `AddressStored` where the word that is to be stored in a table is no number, or bytes that are read may be of an
+///   address or a freeze.
 pub(crate) fn check_arguments(
     description: &Description,
     limits: &HelperLimits,

@@ -22,9 +22,10 @@ use stack_domain::NumberPlace;
 /// What a load gives of the bytes that begin at a register's address plus the offset.
 ///
 /// # Errors
-/// `UnwrittenRegister` for the address, `AccessOutside` where it is none or a byte may lie outside the context and
-/// the live frames, `UnwrittenByte`, and `AddressStored` where a byte may be of an address or a freeze that was spilled, and
-/// the load is not of just that.
+/// - `UnwrittenRegister` for the address.
+/// - `AccessOutside` where it is no address, or a byte may lie outside the context and the live frames.
+/// - `UnwrittenByte`.
+/// - `AddressStored` where a byte may be of an address or a freeze that was spilled, and the load is not of just that.
 pub(crate) fn loaded(
     description: &Description,
     form: LoadForm,
@@ -221,9 +222,11 @@ fn check_frame(
 /// Stores a word of that kind from a register's address plus the offset on.
 ///
 /// # Errors
-/// `UnwrittenRegister` for the address and the word, `AccessOutside` where the former is none or a byte may lie outside
-/// the live frames, `StoreToContext`, and `AddressStored` for a word that is no number and is not stored whole at one
-/// place, a multiple of 8. `OutOfMemory` only for such a word.
+/// - `UnwrittenRegister` for the address and the word.
+/// - `AccessOutside` where the former is no address, or a byte may lie outside the live frames.
+/// - `StoreToContext`.
+/// - `AddressStored` for a word that is no number and is not stored whole at one place, a multiple of 8.
+/// - `OutOfMemory`, only for such a word.
 pub(crate) fn store(
     description: &mut Description,
     size: StoreSize,

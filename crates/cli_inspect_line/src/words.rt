@@ -21,8 +21,13 @@ use explain_codes::Code;
 use std::alloc::{AllocError, Global};
 
 /// Reads the words after the program's name. A word after `explain` that stands there alone and is a code is that code. A line is refused
-/// only if `clap` refuses it, if a number or another word that it found is none, if two things are asked for that exclude each other, if it
-/// would read standard input more than once, or if another program carries it out; and for want of memory.
+/// for want of memory, and otherwise only for one of these reasons:
+///
+/// - `clap` refuses it.
+/// - A number or another word that it found is none.
+/// - Two things are asked for that exclude each other.
+/// - It would read standard input more than once.
+/// - Another program carries it out.
 pub fn plan(alloc: Global, words: &[String]) -> Result<Plan, UsageFault>
     ensures found { IfOk result (HasFound (subcommand_of camr_command (map spelled_out (map string_bytes words.now)))) }
     ensures once { IfOk result (λ plan. stdin_reads plan ≤ 1) }

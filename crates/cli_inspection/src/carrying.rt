@@ -1,6 +1,5 @@
-// A plan, carried out over the bytes of its files. It relies on `tracing` for what a trace shows, on `explaining` for what is said of a
-// manifest, on `judging` for what is said of a scenario or a trace, on `deciding` for what a policy decides, and on `explain_codes` for what
-// is said of a code.
+// A plan, carried out over the bytes of its files. It relies on `tracing` for what a trace shows, and on `deciding` for what a policy
+// decides. What is said of a manifest is of `explaining`, of a scenario or a trace of `judging`, and of a code of `explain_codes`.
 
 ghost use Rattle.std.specs.Prelude.{◌≡◌, ◌≢◌, ◌≤◌, Contains, Some, IsUtf8, false, length, slice_get, true};
 ghost use Rattle.std.specs.Io.KnownBytes.{Keeps};

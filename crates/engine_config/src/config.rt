@@ -53,9 +53,9 @@ impl Model for Config {
 }
 
 impl Config {
-    /// A configuration without controllers: of 1 to 64 queues, as many as the limits say, each with 1 to 255 openings and a
-    /// program that was accepted under these limits, of which the helpers are those of queues alone, and of up to 16 tables
-    /// of 1 to 4096 words; `None` exactly where they are not so. It takes no memory.
+    /// A configuration without controllers. It has 1 to 64 queues, as many as the limits say, each with 1 to 255 openings and a
+    /// program that was accepted under these limits. The limits' helpers are those of queues alone, and there are up to 16 tables
+    /// of 1 to 4096 words. `None` exactly where they are not so. It takes no memory.
     pub fn new(limits: HelperLimits, queues: Vec<(u8, Arc<Accepted>)>) -> Option<Self>
         ensures lawful { IsSome result ↔ IsConfigured limits 0 (map alone_of queues.items) }
         ensures value { IfSome result (λ config. config ≡ setup_of limits 0 [] (map alone_of queues.items)) }

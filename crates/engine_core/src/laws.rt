@@ -17,10 +17,10 @@ ghost use Rattle.world.specs.Laws.Advice.{AdviceIsTold};
 /// submissions, dispatches, withdrawals, completions, timers, guests, parks and runs: no run is ever stuck, and each that is
 /// out has exactly one next step; each executes at most its budget; if it ends it has released or handed over
 /// exactly the freezes that it took, and it disposed of its CCB once; and every queue's frozen count, and every
-/// controller's, is at every moment the number of entries that name it. A run's CCB is that of the completion which started it; it is in
-/// recovery by this run alone until the run disposes of it, and then it waits again in its queue, with the retries
-/// that the run asked for fewer and its priority and attempts as they were, or it is gone and ended with the run's
-/// code, while all other CCBs stay as they are. And: each live run's machine is one that its program reaches; what
+/// controller's, is at every moment the number of entries that name it. A run's CCB is that of the completion which started it. It is in
+/// recovery by this run alone until the run disposes of it. Then it waits again in its queue, with the retries that the
+/// run asked for fewer and its priority and attempts as they were; or it is gone, and ended with the run's code. All
+/// other CCBs stay as they are. And: each live run's machine is one that its program reaches; what
 /// a machine holds is what the entries say of its run; no limit is passed: in particular no run holds more than 8
 /// freezes, and none has more than 8 frames; no event lets more CCBs of a queue be active than it has openings, though
 /// openings may be set below those that are; each CCB number is of a live CCB or of one that ended, once, with its
@@ -61,17 +61,17 @@ pub fn moved()
     ensures moves { Moved }
 {}
 
-/// One controller over all queues takes nothing away. Each list of events with its replies that a transport of device queues
-/// alone may have, of which none is about a controller, may happen with the same replies in every transport that has the same
-/// queues, instructions and tables and one controller over all of them, and it leads to the same world.
+/// One controller over all queues takes nothing away. Take each list of events with its replies that a transport of device
+/// queues alone may have, of which none is about a controller. It may happen with the same replies in every transport that has
+/// the same queues, instructions and tables and one controller over all of them, and it leads to the same world.
 pub fn one_controller()
     ensures { OneController }
 {}
 
-/// Classes and advice take nothing away. Each list of events with its replies that a transport of device queues under controllers may
-/// have, of which none is a withdrawal, may happen in every transport that has the same queues, instructions, tables and controllers and
-/// whose CCBs have a class and an advice: there each submission has the class 0, and each start reports the advice 0. It leads to the same
-/// world.
+/// Classes and advice take nothing away. Take each list of events with its replies that a transport of device queues under controllers
+/// may have, of which none is a withdrawal. It may happen in every transport that has the same queues, instructions, tables and
+/// controllers and whose CCBs have a class and an advice: there each submission has the class 0, and each start reports the advice 0. It
+/// leads to the same world.
 pub fn classes_too()
     ensures { ClassesToo }
 {}

@@ -102,9 +102,13 @@ impl<'a> NumberedEngine<'a> {
         }
     }
 
-    /// Carries a call out, or refuses it: its answer. `None`, which changes nothing, exactly where the call is no event here: a
-    /// submission that says a class though CCBs have none, or says none though they have one, a completion that no device reports, a park of a run that is not out, or a release of a freeze that no guest holds. Only a
-    /// completion, a guest's freeze and a resume take memory; where it is refused nothing changes.
+    /// Carries a call out, or refuses it: its answer. Only a completion, a guest's freeze and a resume take memory; where it is
+    /// refused nothing changes. `None`, which changes nothing, exactly where the call is no event here:
+    ///
+    /// - a submission that says a class though CCBs have none, or says none though they have one,
+    /// - a completion that no device reports,
+    /// - a park of a run that is not out,
+    /// - a release of a freeze that no guest holds.
     pub fn call(&mut self, call: &Call) -> Result<Option<CallAnswer>, AllocError>
         ensures answered { IfOk result (λ answer. AnswersCall self.old call.now answer self.new) }
         ensures setup { self.new.setup ≡ self.old.setup }

@@ -7,8 +7,8 @@ use bpf_machine::Machine;
 use ccb::{CcbId, QueueId};
 use std::sync::Arc;
 
-/// A run that has not exited: its number, for which CCB of which queue it is, under which controller, its program, the machine in which it goes
-/// on, whether it is out, and the rights to give back the freezes that it holds, in the order of their numbers.
+/// A run that has not exited: its number, for which CCB of which queue it is and under which controller, its program, the machine in
+/// which it goes on, and whether it is out. And the rights to give back the freezes that it holds, in the order of their numbers.
 #[derive(Drop)]
 pub(crate) struct RunRecord {
     pub(crate) number: u32,

@@ -38,10 +38,14 @@ pub enum RunFault {
     OutOfMemory,
     /// N2: the `grelease` of that line is of a freeze whose token is not held.
     NotHeld(usize),
-    /// An inbox that was served until it was empty has a completion or has no room for one, a worker kept a run that is not out, a run
-    /// used its program's budget up, a completion was refused with another code than C1 and C3, a guest's freeze is gone whose token is
-    /// held, a caller or a pass is missing at the end, a run is live then, or the history has calls of somebody else. None of these can
-    /// be.
+    /// What cannot be:
+    ///
+    /// - An inbox that was served until it was empty has a completion, or has no room for one.
+    /// - A worker kept a run that is not out, or a run used its program's budget up.
+    /// - A completion was refused with another code than C1 and C3.
+    /// - A guest's freeze is gone whose token is held.
+    /// - At the end a caller or a pass is missing, or a run is live.
+    /// - The history has calls of somebody else.
     InternalError,
 }
 

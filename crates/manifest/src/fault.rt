@@ -17,8 +17,8 @@ pub enum ManifestFault {
     Key,
     /// M3: a value is of another type or form.
     Form,
-    /// M4: `version` is none of 1, 2 and 3, `controllers` is not 1 to 8, a `controller` is not below it, `openings` is not 1 to 255,
-    /// `length` not 1 to 4096, a table has more first words than its length, or one of them is negative.
+    /// M4: `version` is none of 1, 2 and 3; `controllers` is not 1 to 8, or a `controller` is not below it; `openings` is not 1 to 255;
+    /// `length` is not 1 to 4096, a table has more first words than that, or one of them is negative.
     Range,
     /// M5: there is no queue or no program, or there are more than 64 of them or 16 tables.
     Number,

@@ -13,9 +13,9 @@ use engine_succession::{BeginFault, begin_numbered};
 use std::alloc::Global;
 use world_calls::{CarriedLine, Notices, Trace, Version};
 
-/// Whether the trace, with these carried lines, is a history of an engine of this configuration that took over what the lines say: an
-/// engine of the configuration begins with just these lines, the trace is of the version of its histories, each record is what the
-/// engine answers when it is asked the same, and the last line has the sums after all of them. Else it returns the first fault of these:
+/// Whether the trace, with these carried lines, is a history of an engine of this configuration that took over what the lines say. So an
+/// engine of the configuration begins with just these lines, and the trace is of the version of its histories; each record is what the
+/// engine answers when it is asked the same; and the last line has the sums after all of them. Else it returns the first fault of these:
 /// X3 with the header, X4 with the first carried line with which no engine of the configuration begins, or X3 with the first line that
 /// does not follow. It tells how far it is, as `replay` does.
 pub fn replay_continued<N: Notices>(

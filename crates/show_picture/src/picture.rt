@@ -16,7 +16,7 @@ use world_calls::Record;
 
 /// Writes the picture of a trace of this configuration as SVG: a lane for each queue and each controller, over the clock in milliseconds,
 /// or over the records if the clock never moved. In a lane stand the stretches for which a CCB was active, one waited, and the place was
-/// frozen by a run, a timer or a guest, each with its numbers as a hover text, and marks where a CCB failed and where a run finished one.
+/// frozen by a run, a timer or a guest, each with its numbers as a hover text. Marks stand where a CCB failed and where a run finished one.
 /// What was carried over begins at the left edge. Stretches too thin to see are drawn together, and the picture says so. The programs are the
 /// manifest's, with their names. The trace is one that a replay accepts, or is open. It fails if memory is refused, as such an error, or if
 /// the writer does; some may be out then.

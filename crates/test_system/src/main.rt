@@ -1,6 +1,6 @@
-// The tests of the whole program, as data: it reads the cases of the files that its words name, carries each out
-// as `camr` would, those of runs once more over their manifest as `camr migrate` makes it, and as `camr live` is asked, and then the smallest text of
-// each code. It prints each case that comes out otherwise, and how many passed. It relies on `test_cases` for cases, on `explain_codes` for
+// The tests of the whole program, as data: it reads the cases of the files that its words name, and carries each out as `camr` would. Those
+// of runs are carried out once more over their manifest as `camr migrate` makes it, and as `camr live` is asked. The smallest text of each
+// code comes last. It prints each case that comes out otherwise, and how many passed. It relies on `test_cases` for cases, on `explain_codes` for
 // codes, and on `cli_line` and `cli_commands`, which are all of `camr` but its files. How a case is written stands in data/README.
 #![tactic(auto)]
 

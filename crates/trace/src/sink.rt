@@ -7,8 +7,8 @@ ghost use Rattle.trace.specs.Sinks.{HandsOn, Takes};
 #[derive(Clone, Copy, Debug, PartialEq, Eq)]
 pub struct WriteFailed;
 
-/// Where bytes go. Contracts see the bytes that it was told so far, where these are known (a list's are, a terminal's are not), how
-/// many writes failed, which is counted up to 2^64 - 1 at least, and which sink it is, which no write changes: a sink that has its writer
+/// Where bytes go. Contracts see the bytes that it was told so far, where these are known: a list's are, a terminal's are not. They see how
+/// many writes failed, which is counted up to 2^64 - 1 at least, and which sink it is, which no write changes. A sink that has its writer
 /// on loan is known by that loan, so that whoever lent the writer knows what was written on it.
 pub trait Sink {
     ghost bytes: { Self → Option (List ℕ) };

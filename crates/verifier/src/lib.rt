@@ -1,9 +1,9 @@
 // The verifier: a program is accepted where no run of it can be stuck, and then its budget is known. It
 // describes what holds at each place before it is executed, in one pass from a function's first slot to its last, since
 // every jump leads forward, and once for each chain of local calls by which control comes there. It relies on `call_shape`
-// for that, on `check_description` for what is known of a machine, on `reg_domain` for what an instruction makes of it, and on
-// `check_local_calls` for what a call of a function does, on `budget_path` for the budget, on `bpf_semantics` for what it proves,
-// and on `bpf_accepted` for the answer.
+// for that, on `reg_domain` for what an instruction makes of what is known of a machine (`check_description`), and on
+// `check_local_calls` for what a call of a function does. The budget is of `budget_path`, what is proved of `bpf_semantics`, and
+// the answer of `bpf_accepted`.
 #![tactic(auto)]
 
 mod known;

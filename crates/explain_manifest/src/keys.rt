@@ -1,6 +1,9 @@
 // The keys of a manifest's tables, a row each, for those who are told of one that is wrong. `manifest_form` judges them; a case of
 // each breach sees that both agree. It relies on nothing.
 
+/// The latest version of a manifest.
+pub const LATEST: u8 = 3;
+
 /// What the value of a key is.
 #[derive(Clone, Copy, Debug, PartialEq, Eq)]
 pub enum Wants {

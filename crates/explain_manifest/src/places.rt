@@ -1,6 +1,6 @@
 // Where what a manifest says stands in its text. It relies on `explain_layout`.
 
-use explain_layout::{Layout, Span};
+use explain_layout::{Entry, Layout, Span};
 use manifest_form::Source;
 
 /// The value of a key in the table of that name and number; the table itself if the key is not there, and if that is not there either
@@ -37,5 +37,13 @@ pub fn end(layout: &Layout) -> Span {
     match layout.left_out {
         Some(span) => span,
         None => Span { start: 0, end: 0 },
+    }
+}
+
+/// The name of the table that a key stands in.
+pub fn table_of<'a>(layout: &'a Layout, entry: &Entry) -> &'a str {
+    match layout.tables.get(entry.table) {
+        Some(table) => table.name.as_str(),
+        None => "",
     }
 }

@@ -1,11 +1,12 @@
-// Why a manifest is refused, in a report. It relies on `form` for faults of the form, and on `program` for those of programs.
+// Why a manifest is refused, in a report. It relies on `form` and `plan_faults` for faults of what stands around the
+// programs, and on `program` for those of programs.
 
 use crate::codes::code_in;
 use crate::listing::{Listing, base_of, hexadecimal, of_bytes, of_text, pairs_of, slots_in};
 use crate::notes::notes_of;
 use crate::places::source_span;
 use crate::program::Told;
-use crate::{asm_line, codes, fields, form, program, toml_fault};
+use crate::{asm_line, codes, fields, form, plan_faults, program, toml_fault};
 use base::OrMemory;
 use bpf_asm::{AsmFault, LineFault, assemble};
 use bpf_decode::{DecodeFault, InsnFault, decode};
@@ -136,7 +137,7 @@ fn print_plan(
             print_programs(alloc, path, text, layout, plan, name.as_str(), page)
         }
         _ => {
-            let advice = form::print_plan(alloc, path, text, layout, plan, page)?;
+            let advice = plan_faults::print_plan(alloc, path, text, layout, plan, page)?;
             put_advice(alloc, page, fault, advice)
         }
     }

@@ -17,8 +17,8 @@ use Rattle.world_calls.specs.declared.trace.Version.{Version}
 use Rattle.world.specs.World.{version_of}
 use Rattle.host_live.specs.Requests.{AsksFor, request_text, request_told}
 use Rattle.host_live.specs.Turns.{Acts, ActsHere, ActsOn, AreAdvances, AreOfRuns, Does, DoesInPart, DrivesStarted, DrivesTo, IsDriven, IsOfClock, IsReading, Leads, MakesOne, ReadThen, ReadsDue, Tells, Turned, is_of_steps, is_telling, record_of_answer, run_to_drive, stepped_of, asked_to_quit, elsewhere, no_step, one_drive, only_told, part_drive, one_step, one_call, call_driven, part_none, part_call, no_text, no_request, asked_for, led_to_none, led_to_part, carried}
-use Rattle.host_live.specs.declared.host.Served.{Served}
-use Rattle.host_live.specs.declared.host.Served.TheVariants as served
+use Rattle.host_live.specs.declared.served.Served.{Served}
+use Rattle.host_live.specs.declared.served.Served.TheVariants as served
 use Rattle.host_live.specs.declared.manner.Manner.{Manner}
 use Rattle.host_live.specs.declared.printed_engine.Advanced.{Advanced}
 use Rattle.host_live.specs.declared.printed_engine.Advanced.TheVariants as advanced

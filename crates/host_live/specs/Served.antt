@@ -15,8 +15,8 @@ use Rattle.host_live.specs.declared.answering.After.{After}
 use Rattle.host_live.specs.declared.answering.After.TheVariants as after
 use Rattle.host_live.specs.declared.answering.Turn.{Turn as CarriedOut}
 use Rattle.host_live.specs.declared.answering.Turn.TheVariants as turn
-use Rattle.host_live.specs.declared.host.Served.{Served}
-use Rattle.host_live.specs.declared.host.Served.TheVariants as served
+use Rattle.host_live.specs.declared.served.Served.{Served}
+use Rattle.host_live.specs.declared.served.Served.TheVariants as served
 use Rattle.host_live.specs.declared.lines.Lines.{Lines}
 use Rattle.host_live.specs.declared.lines.Next.{Next}
 use Rattle.host_live.specs.declared.lines.Next.TheVariants as next

@@ -1,8 +1,8 @@
 -- How one engine is to follow another.
 use Rattle.std.specs.Prelude.{Option, Some, None, IfSome}
 use Rattle.engine_core.specs.ByNumber.{NumberedState}
-use Rattle.host_live.specs.declared.host.Served.{Served}
-use Rattle.host_live.specs.declared.host.Served.TheVariants as served
+use Rattle.host_live.specs.declared.served.Served.{Served}
+use Rattle.host_live.specs.declared.served.Served.TheVariants as served
 use Rattle.host_live.specs.declared.reports.LineFault.{LineFault}
 use Rattle.host_live.specs.declared.reports.LineFault.TheVariants as faults
 use Rattle.host_live.specs.declared.reports.Unfollowed.{Unfollowed}

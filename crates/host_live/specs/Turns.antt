@@ -18,8 +18,8 @@ use Rattle.host_live.specs.Inputs.{CameState, all_of}
 use Rattle.host_live.specs.LinesCome.{EndsALine, IsAll, IsOneLine, IsText, Stands}
 use Rattle.host_live.specs.Requests.{request_text, request_told}
 use Rattle.host_live.specs.Successions.{asked_of, fault_of_unfollowed}
-use Rattle.host_live.specs.declared.host.Served.{Served}
-use Rattle.host_live.specs.declared.host.Served.TheVariants as served
+use Rattle.host_live.specs.declared.served.Served.{Served}
+use Rattle.host_live.specs.declared.served.Served.TheVariants as served
 use Rattle.host_live.specs.declared.printed_engine.Advanced.{Advanced}
 use Rattle.host_live.specs.declared.printed_engine.Advanced.TheVariants as advanced
 use Rattle.host_live.specs.declared.lines.Lines.{Lines}

@@ -5,7 +5,7 @@ ghost use Rattle.host_live.specs.Growth.{GrowsBy};
 ghost use Rattle.host_live.specs.Served.{AnswersDecided, AnswersTurn, IsDecidedLine, IsDecidedTurn};
 ghost use Rattle.host_live.specs.declared.answering.After.TheVariants.{End as AfterAll};
 ghost use Rattle.host_live.specs.declared.answering.Turn.TheVariants.{End as AtEnd, Line as LineTurn};
-ghost use Rattle.host_live.specs.declared.host.Served.TheVariants.{Asked};
+ghost use Rattle.host_live.specs.declared.served.Served.TheVariants.{Asked};
 ghost use Rattle.host_live.specs.declared.serving.LiveFault.TheVariants.{Unread, Unwritten};
 
 use crate::host::{Host, Served};

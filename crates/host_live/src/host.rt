@@ -1,87 +1,27 @@
 // The host of a live engine: it carries requests out. It relies on `printed_engine` for the engine.
 
-ghost use Rattle.std.specs.Prelude.{◌≡◌, ◌≢◌, ℕ, List, [], Option, Some, IsErr, MatchOption, true, false};
+ghost use Rattle.std.specs.Prelude.{◌≡◌, ℕ, List, [], Option, Some, IsErr, MatchOption, true, false};
 ghost use Rattle.host_live.specs.Growth.{GrowsAs, GrowsBy};
 ghost use Rattle.engine_core.specs.ByNumber.{NumberedState, is_of_parking};
 ghost use Rattle.host_live.specs.LinesCome.{IsText};
 ghost use Rattle.host_live.specs.Metering.{HasCounted};
-ghost use Rattle.host_live.specs.Successions.{asked_of};
-ghost use Rattle.host_live.specs.Turns.{Acts, ActsHere, ActsOn, IsNotHeld, IsOfClock, IsReading, MakesOne, ReadThen, ReadsDue, Drives, DrivesAll, DrivesStarted, DrivesTo, Tells, Turned, fault_of, is_of_steps, record_of_answer, run_to_drive, stepped_of};
+ghost use Rattle.host_live.specs.Turns.{Acts, ActsHere, ActsOn, IsNotHeld, IsOfClock, IsReading, ReadThen, ReadsDue, Drives, DrivesStarted, Turned, is_of_steps, record_of_answer, run_to_drive};
 ghost use Rattle.host_live.specs.declared.manner.Manner.{Manner as TheManner};
-ghost use Rattle.host_live.specs.declared.host.Served.TheVariants.{Quit, Skipped};
+ghost use Rattle.host_live.specs.declared.served.Served.TheVariants.{Quit, Skipped};
 ghost use Rattle.host_live.specs.declared.request.Request.TheVariants as asks;
 ghost use Rattle.host_live.specs.declared.request.Succession.{Succession as TheSuccession};
 
 use crate::manner::Manner;
 use crate::outlet::Outlet;
-use crate::printed_engine::{Advanced, PrintedEngine};
+use crate::printed_engine::PrintedEngine;
 use crate::reports::{LineFault, Moment, Reports};
 use crate::request::{Request, Succession, asked_by};
+use crate::served::{HostFault, Served};
+use crate::telling::Told;
 use host_metrics::Metrics;
 use scenario::is_skipped;
 use std::alloc::{AllocError, Global};
 use world_calls::{Call, CallAnswer};
-
-/// Why a host carries nothing out any more.
-#[derive(Clone, Copy, Debug, PartialEq, Eq)]
-pub(crate) enum HostFault {
-    OutOfMemory,
-    /// A call is no event of the engine, which cannot be.
-    InternalError,
-}
-
-/// What became of a line.
-#[derive(Clone, Copy)]
-pub(crate) enum Served {
-    /// It is skipped, since it says nothing.
-    Skipped,
-    /// It was carried out.
-    Done,
-    /// It was carried out, and is the last one.
-    Quit,
-    /// It asks for another engine to follow this one, and no run is live.
-    Asked(Succession),
-    /// It was not carried out.
-    Refused(LineFault),
-}
-
-impl Served {
-    /// Whether it is skipped.
-    pub(crate) fn is_skipped(&self) -> bool
-        ensures skipped { result ≡ true → self.now ≡ Skipped }
-        ensures other { result ≡ false → self.now ≢ Skipped }
-    {
-        matches!(self, Served::Skipped)
-    }
-
-    /// Whether it is the last line.
-    pub(crate) fn is_last(&self) -> bool
-        ensures last { result ≡ true → self.now ≡ Quit }
-        ensures other { result ≡ false → self.now ≢ Quit }
-    {
-        matches!(self, Served::Quit)
-    }
-
-    /// How another engine is to follow, if it asks for one.
-    pub(crate) fn asked(&self) -> Option<Succession>
-        ensures { result ≡ asked_of self.now }
-    {
-        match self {
-            Served::Asked(how) => Some(*how),
-            Served::Skipped | Served::Done | Served::Quit | Served::Refused(_) => None,
-        }
-    }
-
-    /// Why it was not carried out.
-    pub(crate) fn fault(&self) -> Option<LineFault>
-        ensures { result ≡ fault_of self.now }
-    {
-        match self {
-            Served::Refused(fault) => Some(*fault),
-            Served::Skipped | Served::Done | Served::Quit | Served::Asked(_) => None,
-        }
-    }
-}
 
 /// The greatest clock reading, in milliseconds, that an engine takes.
 const LAST_READING: u64 = 1 << 62;
@@ -95,15 +35,6 @@ pub(crate) struct Host<'a> {
     is_over: bool,
     // A timer was due since it was told last what was counted.
     has_timer_gone: bool,
-}
-
-// What is told on request, and is no part of a trace.
-#[derive(Clone, Copy)]
-enum Told {
-    Nothing,
-    Totals,
-    Ccbs,
-    Requests,
 }
 
 // Whether nobody can ask for it but a host of runs that stay out.
@@ -135,16 +66,6 @@ fn run_to_drive(manner: Manner, answer: CallAnswer) -> Option<u32>
     match answer {
         CallAnswer::Started { run, .. } => { if manner.is_stepped { None } else { Some(run) } }
         _ => None,
-    }
-}
-
-// What became of the line that asked for an advance.
-fn stepped(advanced: Advanced) -> Served
-    ensures { result ≡ stepped_of advanced }
-{
-    match advanced {
-        Advanced::NotOut => Served::Refused(LineFault::NotHeld),
-        Advanced::Goes | Advanced::Ended => Served::Done,
     }
 }
 
@@ -312,8 +233,8 @@ impl<'a> Host<'a> {
         }
     }
 
-    // Takes the reading, if there is one.
-    fn read<S: Outlet>(&mut self, now: Option<u64>, out: &mut S) -> Result<(), HostFault>
+    /// Takes the reading, if there is one.
+    pub(crate) fn read<S: Outlet>(&mut self, now: Option<u64>, out: &mut S) -> Result<(), HostFault>
         ensures grown { GrowsAs (IsReading now) self.old.engine (S.bytes out.old) (S.failures out.old) self.new.engine (S.bytes out.new) (S.failures out.new) }
         ensures answers { S.answers out.new ≡ S.answers out.old }
     {
@@ -433,46 +354,6 @@ impl<'a> Host<'a> {
         }
     }
 
-    // Takes the reading, and tells what is asked for that makes no record. That became of the line.
-    fn tell<N: Reports, S: Outlet>(
-        &mut self,
-        told: Told,
-        became: Served,
-        now: Option<u64>,
-        reports: &mut N,
-        out: &mut S,
-    ) -> Result<Served, HostFault>
-        ensures grown { GrowsAs (ReadThen now (Tells became result)) self.old.engine (S.bytes out.old) (S.failures out.old) self.new.engine (S.bytes out.new) (S.failures out.new) }
-        ensures answers { S.answers out.new ≡ S.answers out.old }
-    {
-        match self.read(now, out) {
-            Ok(()) => {
-                self.report(told, reports);
-                Ok(became)
-            }
-            Err(fault) => Err(fault),
-        }
-    }
-
-    fn report<N: Reports>(&self, told: Told, reports: &mut N) {
-        match told {
-            Told::Nothing => {}
-            Told::Totals => reports.sums(self.engine.totals()),
-            Told::Ccbs => self.report_ccbs(reports),
-            Told::Requests => reports.help(),
-        }
-    }
-
-    // Tells of each live CCB, by rising number.
-    fn report_ccbs<N: Reports>(&self, reports: &mut N) {
-        for place in 0..usize::MAX {
-            match self.engine.ccb_at(place) {
-                Some(live) => reports.ccb(&live),
-                None => break,
-            }
-        }
-    }
-
     // Carries a call out, after the reading.
     fn call<S: Outlet>(
         &mut self,
@@ -533,115 +414,6 @@ impl<'a> Host<'a> {
             Call::Park { run } => self.engine.is_out(*run),
             Call::GuestRelease { freeze } => self.engine.is_guests(*freeze),
             _ => true,
-        }
-    }
-
-    // Drives a run that is out to its next stop, after the reading.
-    fn step<S: Outlet>(
-        &mut self,
-        run: u32,
-        now: Option<u64>,
-        out: &mut S,
-    ) -> Result<Served, HostFault>
-        ensures grown { GrowsAs (ReadThen now (λ acts. (manner : TheManner) → Acts manner (asks.Step run) result self.new.engine.engine acts)) self.old.engine (S.bytes out.old) (S.failures out.old) self.new.engine (S.bytes out.new) (S.failures out.new) }
-        ensures answers { S.answers out.new ≡ S.answers out.old }
-    {
-        if !self.engine.is_out(run) {
-            return Ok(Served::Refused(LineFault::NotHeld));
-        }
-        match self.read(now, out) {
-            Ok(()) => self.step_here(run, out),
-            Err(fault) => Err(fault),
-        }
-    }
-
-    // Drives a run that is out to its next stop.
-    fn step_here<S: Outlet>(&mut self, run: u32, out: &mut S) -> Result<Served, HostFault>
-        ensures grown { GrowsAs (λ acts. (manner : TheManner) → Acts manner (asks.Step run) result self.new.engine.engine acts) self.old.engine (S.bytes out.old) (S.failures out.old) self.new.engine (S.bytes out.new) (S.failures out.new) }
-        ensures answers { S.answers out.new ≡ S.answers out.old }
-    {
-        match self.advance(run, out) {
-            Ok(advanced) => Ok(stepped(advanced)),
-            Err(fault) => Err(fault),
-        }
-    }
-
-    // Drives a run that is out to its end, after the reading.
-    fn drive<S: Outlet>(
-        &mut self,
-        run: u32,
-        now: Option<u64>,
-        out: &mut S,
-    ) -> Result<Served, HostFault>
-        ensures grown { GrowsAs (ReadThen now (λ acts. (manner : TheManner) → Acts manner (asks.Drive run) result self.new.engine.engine acts)) self.old.engine (S.bytes out.old) (S.failures out.old) self.new.engine (S.bytes out.new) (S.failures out.new) }
-        ensures answers { S.answers out.new ≡ S.answers out.old }
-    {
-        if !self.engine.is_out(run) {
-            return Ok(Served::Refused(LineFault::NotHeld));
-        }
-        match self.read(now, out) {
-            Ok(()) => self.drive_here(run, out),
-            Err(fault) => Err(fault),
-        }
-    }
-
-    // Drives a run to its end, while it is out.
-    fn drive_here<S: Outlet>(&mut self, run: u32, out: &mut S) -> Result<Served, HostFault>
-        ensures grown { GrowsAs (DrivesTo run result self.new.engine.engine) self.old.engine (S.bytes out.old) (S.failures out.old) self.new.engine (S.bytes out.new) (S.failures out.new) }
-        ensures answers { S.answers out.new ≡ S.answers out.old }
-    {
-        match self.drive_out(run, out) {
-            Ok(()) => Ok(Served::Done),
-            Err(fault) => Err(fault),
-        }
-    }
-
-    // Drives a run to its end, while it is out.
-    fn drive_out<S: Outlet>(&mut self, run: u32, out: &mut S) -> Result<(), HostFault>
-        ensures grown { GrowsAs (Drives run result self.new.engine.engine) self.old.engine (S.bytes out.old) (S.failures out.old) self.new.engine (S.bytes out.new) (S.failures out.new) }
-        ensures answers { S.answers out.new ≡ S.answers out.old }
-    {
-        for _ in 0..u64::MAX {
-            match self.advance(run, out) {
-                Ok(Advanced::Goes) => {}
-                Ok(Advanced::NotOut) => return Ok(()),
-                Ok(Advanced::Ended) => return Ok(()),
-                Err(fault) => return Err(fault),
-            }
-        }
-        Err(HostFault::InternalError)
-    }
-
-    /// Drives the runs that are out to their ends, in the order of their numbers.
-    pub(crate) fn drive_all<S: Outlet>(&mut self, out: &mut S) -> Result<(), HostFault>
-        ensures grown { GrowsAs (DrivesAll result self.new.engine.engine) self.old.engine (S.bytes out.old) (S.failures out.old) self.new.engine (S.bytes out.new) (S.failures out.new) }
-        ensures answers { S.answers out.new ≡ S.answers out.old }
-    {
-        for _ in 0..u64::MAX {
-            match self.engine.first_out() {
-                Some(run) => match self.drive_out(run, out) {
-                    Ok(()) => {}
-                    Err(fault) => return Err(fault),
-                },
-                None => return Ok(()),
-            }
-        }
-        Err(HostFault::InternalError)
-    }
-
-    // Lets a run go on to its next stop. If it is not out nothing changes.
-    fn advance<S: Outlet>(&mut self, run: u32, out: &mut S) -> Result<Advanced, HostFault>
-        ensures grown { GrowsAs (MakesOne run result self.new.engine.engine) self.old.engine (S.bytes out.old) (S.failures out.old) self.new.engine (S.bytes out.new) (S.failures out.new) }
-        ensures answers { S.answers out.new ≡ S.answers out.old }
-    {
-        if !self.engine.is_out(run) {
-            return Ok(Advanced::NotOut);
-        }
-        match self.engine.advance(run, out) {
-            Ok(Advanced::NotOut) => Err(HostFault::InternalError),
-            Ok(Advanced::Goes) => Ok(Advanced::Goes),
-            Ok(Advanced::Ended) => Ok(Advanced::Ended),
-            Err(AllocError) => Err(HostFault::OutOfMemory),
         }
     }
 

@@ -4,7 +4,10 @@
 #![tactic(auto)]
 
 mod answering;
+mod carrying;
 mod draft;
+mod driving;
+mod ending;
 mod host;
 mod input;
 mod lending;
@@ -16,7 +19,9 @@ mod printed_engine;
 mod putting;
 mod reports;
 mod request;
+mod served;
 mod serving;
+mod telling;
 
 pub use input::{Came, Input};
 pub use lines::Lines;

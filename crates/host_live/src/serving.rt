@@ -2,32 +2,33 @@
 // `lines` for lines, and on `printed_engine` for what goes out.
 
 ghost use Rattle.std.specs.Prelude.{◌≡◌, ◌≢◌, ◌<◌, ◌^◌, ◌-◌, ℕ, [], List, Ok, Err, IfErr, IfOk, IsTrue, OnErr, OnOk, Some, false, length, true};
-ghost use Rattle.engine_core.specs.ByNumber.{IsBehind, NumberedState};
+ghost use Rattle.engine_core.specs.ByNumber.{IsBehind};
 ghost use Rattle.trace.specs.Growing.{FailsBySink};
 ghost use Rattle.trace.specs.Sinks.{HasFailed};
 ghost use Rattle.world_calls.specs.declared.record.Record.{Record as TheRecord};
 ghost use Rattle.host_live.specs.Answering.{Answer, with_answers};
-ghost use Rattle.host_live.specs.Drafts.{IsDraftOf};
-ghost use Rattle.host_live.specs.Growth.{GrowsAs, GrowsBy, StandsBehind};
+ghost use Rattle.host_live.specs.Growth.{GrowsBy, StandsBehind};
 ghost use Rattle.host_live.specs.LinesCome.{IsTaken, Stands, Waits};
 ghost use Rattle.host_live.specs.Metering.{CountsTo, HasCounted, MayCount};
-ghost use Rattle.host_live.specs.Served.{AnswersOwed, Carries, CarriesCut, CarriesLine, CarriesReading, ContinuesTurns, DrivesFirst, DrivesLast, EndsOr, FinishesOr, GoesOnOr, GrowsWith, IsLineNow, IsOwed, IsPrintedBehind, MayCome, NextIs};
+ghost use Rattle.host_live.specs.Served.{AnswersOwed, Carries, ContinuesTurns, EndsOr, FinishesOr, GoesOnOr, GrowsWith, IsOwed, IsPrintedBehind, MayCome, NextIs};
 ghost use Rattle.host_live.specs.Telling.{Closes, Continues};
-ghost use Rattle.host_live.specs.Turns.{DrivesAll, IsAt, IsSomewhere, Point};
+ghost use Rattle.host_live.specs.Turns.{IsAt, IsSomewhere, Point};
 ghost use Rattle.host_live.specs.declared.lines.Next.TheVariants.{End, Failed};
 ghost use Rattle.host_live.specs.declared.answering.After.TheVariants.{End as AfterAll};
-ghost use Rattle.host_live.specs.declared.answering.Turn.TheVariants.{End as AtEnd};
 ghost use Rattle.host_live.specs.declared.reports.Moment.TheVariants.{End as AtLast};
 ghost use Rattle.host_live.specs.declared.serving.LiveFault.TheVariants.{Unread, Unwritten};
 
-use crate::answering::{After, Turn, answer_decided, stop};
-use crate::host::{Host, HostFault};
+use crate::answering::{After, answer_decided, stop};
+use crate::carrying::carry_out;
+use crate::ending::{drive_first, finish};
+use crate::host::Host;
 use crate::input::Input;
 use crate::lines::{Lines, Next};
 use crate::manner::Manner;
 use crate::outlet::Outlet;
 use crate::printed_engine::PrintedEngine;
 use crate::reports::{Moment, Reports};
+use crate::served::HostFault;
 use engine_core::NumberedEngine;
 use host_metrics::Metrics;
 use std::alloc::Global;
@@ -292,93 +293,6 @@ fn serve_behind<I: Input, S: Outlet, N: Reports>(
     }
 }
 
-// Drives the runs that are out at the end of the input, unless the trace is kept, and hands all on. It returns whether another engine follows.
-fn finish<S: Outlet>(
-    host: &mut Host<'_>,
-    manner: Manner,
-    is_followed: bool,
-    out: &mut S,
-) -> Result<bool, LiveFault>
-    ensures grown { GrowsAs (DrivesLast manner is_followed result host.new.engine.engine) host.old.engine (S.bytes out.old) (S.failures out.old) host.new.engine (S.bytes out.new) (S.failures out.new) }
-    ensures answers { S.answers out.new ≡ S.answers out.old }
-    ensures followed { IfOk result (λ it. it ≡ is_followed) }
-    ensures unread { result ≢ Err Unread }
-    ensures unwritten { result ≡ Err Unwritten → host.new.engine.printed.has_failed ≡ true }
-    ensures all { OnOk result (host.new.engine.printed.lines.waiting ≡ []) }
-    ensures whole { OnOk result (host.new.engine.printed.has_failed ≡ false) }
-{
-    match drive_last(host, manner, is_followed, out) {
-        Ok(()) => settle(host, is_followed, out),
-        Err(fault) => Err(fault),
-    }
-}
-
-// Hands all on.
-fn settle<S: Outlet>(host: &mut Host<'_>, is_followed: bool, out: &mut S) -> Result<bool, LiveFault>
-    ensures grown { GrowsBy [] host.old.engine (S.bytes out.old) (S.failures out.old) host.new.engine (S.bytes out.new) (S.failures out.new) }
-    ensures engine { host.new.engine.engine ≡ host.old.engine.engine }
-    ensures answers { S.answers out.new ≡ S.answers out.old }
-    ensures followed { IfOk result (λ it. it ≡ is_followed) }
-    ensures unread { result ≢ Err Unread }
-    ensures unwritten { result ≡ Err Unwritten → host.new.engine.printed.has_failed ≡ true }
-    ensures all { OnOk result (host.new.engine.printed.lines.waiting ≡ []) }
-    ensures whole { OnOk result (host.new.engine.printed.has_failed ≡ false) }
-{
-    match host.engine.settle(out) {
-        Ok(()) => Ok(is_followed),
-        Err(failed) => Err(LiveFault::from(failed)),
-    }
-}
-
-// Drives the runs that are out at the end of the input to their ends, unless the trace is kept, or another engine follows, which only one
-// without a live run has.
-fn drive_last<S: Outlet>(
-    host: &mut Host<'_>,
-    manner: Manner,
-    is_followed: bool,
-    out: &mut S,
-) -> Result<(), LiveFault>
-    ensures grown { GrowsAs (DrivesLast manner is_followed result host.new.engine.engine) host.old.engine (S.bytes out.old) (S.failures out.old) host.new.engine (S.bytes out.new) (S.failures out.new) }
-    ensures answers { S.answers out.new ≡ S.answers out.old }
-    ensures unread { result ≢ Err Unread }
-    ensures unwritten { result ≡ Err Unwritten → host.new.engine.printed.has_failed ≡ true }
-{
-    if manner.is_kept {
-        return Ok(());
-    }
-    if is_followed {
-        return Ok(());
-    }
-    drive_all(host, out)
-}
-
-// Drives the runs that are out to their ends, unless runs stay out.
-fn drive_first<S: Outlet>(host: &mut Host<'_>, manner: Manner, out: &mut S) -> Result<(), LiveFault>
-    ensures grown { GrowsAs (DrivesFirst manner result host.new.engine.engine) host.old.engine (S.bytes out.old) (S.failures out.old) host.new.engine (S.bytes out.new) (S.failures out.new) }
-    ensures answers { S.answers out.new ≡ S.answers out.old }
-    ensures unread { result ≢ Err Unread }
-    ensures unwritten { result ≡ Err Unwritten → host.new.engine.printed.has_failed ≡ true }
-{
-    if manner.is_stepped {
-        Ok(())
-    } else {
-        drive_all(host, out)
-    }
-}
-
-// Drives the runs that are out to their ends.
-fn drive_all<S: Outlet>(host: &mut Host<'_>, out: &mut S) -> Result<(), LiveFault>
-    ensures grown { GrowsAs (DrivesAll result host.new.engine.engine) host.old.engine (S.bytes out.old) (S.failures out.old) host.new.engine (S.bytes out.new) (S.failures out.new) }
-    ensures answers { S.answers out.new ≡ S.answers out.old }
-    ensures unread { result ≢ Err Unread }
-    ensures unwritten { result ≡ Err Unwritten → host.new.engine.printed.has_failed ≡ true }
-{
-    match host.drive_all(out) {
-        Ok(()) => Ok(()),
-        Err(fault) => Err(stop(host, out, LiveFault::from(fault))),
-    }
-}
-
 // Serves the lines up to the input's end, or up to one that asks for another engine, which is to follow. It returns whether one is.
 fn serve_lines<I: Input, S: Outlet, N: Reports>(
     host: &mut Host<'_>,
@@ -500,108 +414,4 @@ fn wait_next<I: Input>(host: &Host<'_>, manner: Manner, input: &mut I, lines: &m
     ensures due { MayCome manner result }
 {
     lines.wait_next(manner, input, host.next_due())
-}
-
-// Carries out what the line asks that came, or takes the reading at which a timer is due.
-fn carry_out<I: Input, S: Outlet, N: Reports>(
-    host: &mut Host<'_>,
-    manner: Manner,
-    next: Next,
-    input: &I,
-    lines: &Lines,
-    out: &mut S,
-    reports: &mut N,
-) -> Result<Turn, LiveFault>
-    requires due { MayCome manner next }
-    ensures carried { (line : List ℕ) → IsLineNow next lines.now line → GrowsAs (Carries manner next line result host.new.engine.engine) host.old.engine (S.bytes out.old) (S.failures out.old) host.new.engine (S.bytes out.new) (S.failures out.new) }
-    ensures counted { HasCounted host.old.engine.engine host.old.engine.metrics host.new.engine.engine host.new.engine.metrics }
-    ensures answers { S.answers out.new ≡ S.answers out.old }
-    ensures unread { result ≡ Err Unread → next ≡ Failed }
-    ensures read { OnOk result (next ≢ Failed) }
-    ensures ended { result ≡ Ok AtEnd → next ≡ End }
-    ensures written { result ≢ Err Unwritten }
-{
-    match next {
-        Next::Line => carry_line(host, manner, input, lines, out, reports),
-        Next::Cut => carry_cut(host, manner, input, lines, out, reports),
-        Next::Nothing => Ok(Turn::Timer),
-        Next::Due(reading) => carry_reading(host, reading, out),
-        Next::End => Ok(Turn::End),
-        Next::Failed => Err(LiveFault::Unread),
-    }
-}
-
-// Carries out what the line asks that came.
-fn carry_line<I: Input, S: Outlet, N: Reports>(
-    host: &mut Host<'_>,
-    manner: Manner,
-    input: &I,
-    lines: &Lines,
-    out: &mut S,
-    reports: &mut N,
-) -> Result<Turn, LiveFault>
-    ensures carried { (line : List ℕ) → IsDraftOf line lines.now.draft → lines.now.is_ended ≡ false → GrowsAs (CarriesLine manner line result host.new.engine.engine) host.old.engine (S.bytes out.old) (S.failures out.old) host.new.engine (S.bytes out.new) (S.failures out.new) }
-    ensures counted { HasCounted host.old.engine.engine host.old.engine.metrics host.new.engine.engine host.new.engine.metrics }
-    ensures answers { S.answers out.new ≡ S.answers out.old }
-    ensures unread { result ≢ Err Unread }
-    ensures ended { result ≢ Ok AtEnd }
-    ensures written { result ≢ Err Unwritten }
-{
-    match host.serve_line(
-        manner,
-        lines.line(),
-        lines.number(),
-        lines.now(manner, input),
-        reports,
-        out,
-    ) {
-        Ok(served) => Ok(Turn::Line(served)),
-        Err(fault) => Err(LiveFault::from(fault)),
-    }
-}
-
-// A line that is cut off asks for nothing.
-fn carry_cut<I: Input, S: Outlet, N: Reports>(
-    host: &mut Host<'_>,
-    manner: Manner,
-    input: &I,
-    lines: &Lines,
-    out: &mut S,
-    reports: &mut N,
-) -> Result<Turn, LiveFault>
-    ensures carried { GrowsAs (CarriesCut manner result) host.old.engine (S.bytes out.old) (S.failures out.old) host.new.engine (S.bytes out.new) (S.failures out.new) }
-    ensures answers { S.answers out.new ≡ S.answers out.old }
-    ensures unread { result ≢ Err Unread }
-    ensures ended { result ≢ Ok AtEnd }
-    ensures written { result ≢ Err Unwritten }
-{
-    match host.serve_asked(
-        manner,
-        None,
-        lines.number(),
-        lines.now(manner, input),
-        reports,
-        out,
-    ) {
-        Ok(served) => Ok(Turn::Line(served)),
-        Err(fault) => Err(LiveFault::from(fault)),
-    }
-}
-
-// Takes the reading at which a timer is due.
-fn carry_reading<S: Outlet>(
-    host: &mut Host<'_>,
-    reading: u64,
-    out: &mut S,
-) -> Result<Turn, LiveFault>
-    ensures carried { GrowsAs (CarriesReading reading result) host.old.engine (S.bytes out.old) (S.failures out.old) host.new.engine (S.bytes out.new) (S.failures out.new) }
-    ensures answers { S.answers out.new ≡ S.answers out.old }
-    ensures unread { result ≢ Err Unread }
-    ensures ended { result ≢ Ok AtEnd }
-    ensures written { result ≢ Err Unwritten }
-{
-    match host.read_due_timer(reading, out) {
-        Ok(()) => Ok(Turn::Timer),
-        Err(fault) => Err(LiveFault::from(fault)),
-    }
 }

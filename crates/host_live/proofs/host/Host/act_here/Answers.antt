@@ -1,7 +1,7 @@
 use Rattle.std.proofs.Common.{◌≡◌, false, true, [], rules}
 use Rattle.host_live.proofs.Growing.{as_none}
 use Rattle.host_live.specs.Turns.{is_of_steps}
-use Rattle.host_live.specs.declared.host.HostFault.{HostFault}
+use Rattle.host_live.specs.declared.served.HostFault.{HostFault}
 use Rattle.host_live.proofs.Turning.{elsewhere_so, read_none}
 use Rattle.host_live.proofs.host.Host.act_here.Goals as goal
 

@@ -1,6 +1,6 @@
 use Rattle.std.proofs.Common.{[]}
 use Rattle.host_live.proofs.Growing.{as_none}
-use Rattle.host_live.specs.declared.host.HostFault.{HostFault}
+use Rattle.host_live.specs.declared.served.HostFault.{HostFault}
 use Rattle.host_live.proofs.Turning.{none_asked, read_none}
 use Rattle.host_live.proofs.host.Host.carry_out.Goals as goal
 

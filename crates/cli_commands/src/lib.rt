@@ -8,6 +8,7 @@ mod fault;
 mod files;
 mod following;
 mod handing;
+mod journal_engine;
 mod journal_reports;
 mod journaling;
 mod metering;

@@ -1,6 +1,6 @@
 // What came is carried out: a line, one that was cut off, or the reading at which a timer is due. It relies on `host` for what lines ask.
 
-ghost use Rattle.std.specs.Prelude.{◌≡◌, ◌≢◌, ◌<◌, ◌-◌, ℕ, List, Ok, Err, OnOk, false};
+ghost use Rattle.std.specs.Prelude.{◌≡◌, ◌≢◌, ℕ, List, Ok, Err, OnOk, false};
 ghost use Rattle.host_live.specs.Drafts.{IsDraftOf};
 ghost use Rattle.host_live.specs.Growth.{GrowsAs};
 ghost use Rattle.host_live.specs.Metering.{HasCounted};

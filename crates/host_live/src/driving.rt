@@ -1,6 +1,6 @@
 // How a host drives runs that are out: to the next stop, or to the end. It relies on `host` for clock readings.
 
-ghost use Rattle.std.specs.Prelude.{◌≡◌, Option, Some};
+ghost use Rattle.std.specs.Prelude.{◌≡◌};
 ghost use Rattle.host_live.specs.Growth.{GrowsAs};
 ghost use Rattle.host_live.specs.Turns.{Acts, MakesOne, ReadThen, Drives, DrivesAll, DrivesTo, stepped_of};
 ghost use Rattle.host_live.specs.declared.manner.Manner.{Manner as TheManner};

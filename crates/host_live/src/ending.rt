@@ -1,6 +1,6 @@
 // How a live engine ends: runs that are out are driven, and all is handed on. It relies on `host` for runs.
 
-ghost use Rattle.std.specs.Prelude.{◌≡◌, ◌≢◌, ◌<◌, ◌-◌, [], Ok, Err, IfOk, OnOk, false, true};
+ghost use Rattle.std.specs.Prelude.{◌≡◌, ◌≢◌, [], Err, IfOk, OnOk, false, true};
 ghost use Rattle.host_live.specs.Growth.{GrowsAs, GrowsBy};
 ghost use Rattle.host_live.specs.Served.{DrivesFirst, DrivesLast};
 ghost use Rattle.host_live.specs.Turns.{DrivesAll};

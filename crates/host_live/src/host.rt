@@ -1,13 +1,12 @@
 // The host of a live engine: it carries requests out. It relies on `printed_engine` for the engine.
 
-ghost use Rattle.std.specs.Prelude.{◌≡◌, ℕ, List, [], Option, Some, IsErr, MatchOption, true, false};
+ghost use Rattle.std.specs.Prelude.{◌≡◌, ℕ, List, [], Some, IsErr, MatchOption, false};
 ghost use Rattle.host_live.specs.Growth.{GrowsAs, GrowsBy};
 ghost use Rattle.engine_core.specs.ByNumber.{NumberedState, is_of_parking};
 ghost use Rattle.host_live.specs.LinesCome.{IsText};
 ghost use Rattle.host_live.specs.Metering.{HasCounted};
-ghost use Rattle.host_live.specs.Turns.{Acts, ActsHere, ActsOn, IsNotHeld, IsOfClock, IsReading, ReadThen, ReadsDue, Drives, DrivesStarted, Turned, is_of_steps, record_of_answer, run_to_drive};
+ghost use Rattle.host_live.specs.Turns.{Acts, ActsHere, ActsOn, IsNotHeld, IsOfClock, IsReading, ReadThen, ReadsDue, DrivesStarted, Turned, is_of_steps, record_of_answer, run_to_drive};
 ghost use Rattle.host_live.specs.declared.manner.Manner.{Manner as TheManner};
-ghost use Rattle.host_live.specs.declared.served.Served.TheVariants.{Quit, Skipped};
 ghost use Rattle.host_live.specs.declared.request.Request.TheVariants as asks;
 ghost use Rattle.host_live.specs.declared.request.Succession.{Succession as TheSuccession};
 

@@ -1,6 +1,6 @@
 // What became of a line, and why a host carries nothing out any more. It relies on `reports` for faults of lines.
 
-ghost use Rattle.std.specs.Prelude.{◌≡◌, ◌≢◌, Option, Some, true, false};
+ghost use Rattle.std.specs.Prelude.{◌≡◌, ◌≢◌, true, false};
 ghost use Rattle.host_live.specs.Successions.{asked_of};
 ghost use Rattle.host_live.specs.Turns.{fault_of};
 ghost use Rattle.host_live.specs.declared.served.Served.TheVariants.{Quit, Skipped};

@@ -10,7 +10,7 @@ ghost use Rattle.host_live.specs.Answering.{Answer, with_answers};
 ghost use Rattle.host_live.specs.Growth.{GrowsBy, StandsBehind};
 ghost use Rattle.host_live.specs.LinesCome.{IsTaken, Stands, Waits};
 ghost use Rattle.host_live.specs.Metering.{CountsTo, HasCounted, MayCount};
-ghost use Rattle.host_live.specs.Served.{AnswersOwed, Carries, ContinuesTurns, EndsOr, FinishesOr, GoesOnOr, GrowsWith, IsOwed, IsPrintedBehind, MayCome, NextIs};
+ghost use Rattle.host_live.specs.Served.{AnswersOwed, ContinuesTurns, EndsOr, FinishesOr, GoesOnOr, GrowsWith, IsOwed, IsPrintedBehind, MayCome, NextIs};
 ghost use Rattle.host_live.specs.Telling.{Closes, Continues};
 ghost use Rattle.host_live.specs.Turns.{IsAt, IsSomewhere, Point};
 ghost use Rattle.host_live.specs.declared.lines.Next.TheVariants.{End, Failed};

@@ -1,6 +1,6 @@
 // What a host tells on request. It relies on `host` for clock readings, and on `reports` for how it is told.
 
-ghost use Rattle.std.specs.Prelude.{◌≡◌, Option, Some};
+ghost use Rattle.std.specs.Prelude.{◌≡◌};
 ghost use Rattle.host_live.specs.Growth.{GrowsAs};
 ghost use Rattle.host_live.specs.Turns.{ReadThen, Tells};
 

@@ -5,7 +5,7 @@ use Rattle.host_journal.specs.Journals.{ServesInOrder}
 use Rattle.host_journal.specs.Made.{first_line}
 use Rattle.cli_commands.specs.Following.{IsFollowing, MayRefuse}
 use Rattle.cli_commands.proofs.Going.{followed_on, kept_order}
-use Rattle.cli_commands.proofs.journaling.serve_under.Goals as goal
+use Rattle.cli_commands.proofs.journal_engine.serve_under.Goals as goal
 
 pub returns-clause-served : goal.returns-clause-served
 returns-clause-served g c = record {

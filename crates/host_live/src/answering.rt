@@ -8,11 +8,12 @@ ghost use Rattle.host_live.specs.declared.answering.Turn.TheVariants.{End as AtE
 ghost use Rattle.host_live.specs.declared.served.Served.TheVariants.{Asked};
 ghost use Rattle.host_live.specs.declared.serving.LiveFault.TheVariants.{Unread, Unwritten};
 
-use crate::host::{Host, Served};
+use crate::host::Host;
 use crate::manner::Manner;
 use crate::outlet::Outlet;
 use crate::reports::{Reports, fault_of};
 use crate::request::Succession;
+use crate::served::Served;
 use crate::serving::LiveFault;
 use std::alloc::AllocError;
 

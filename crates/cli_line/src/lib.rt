@@ -8,6 +8,7 @@ mod plans;
 mod show_usage;
 mod try_usage;
 mod usage;
+mod value_faults;
 mod words;
 
 pub use decide_usage::decide_command;

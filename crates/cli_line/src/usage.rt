@@ -16,7 +16,7 @@ use clap::{Arg, Command, value_parser};
 use std::alloc::{AllocError, Global};
 
 /// What `--version` prints after the program's name: its version, and the profile of its policies.
-const VERSION: &str = "0.1.0, policy profile 3";
+const VERSION: &str = "1.0.0, policy profile 3";
 
 /// What help has at its end.
 const EXAMPLE: &str = "\

@@ -16,12 +16,11 @@ use crate::living::{is_given, live_command, live_plan};
 use crate::plans::{LaterVersion, MAX_WORKERS, MIN_WORKERS, Plan, Watch};
 use crate::show_usage::show_command;
 use crate::try_usage::try_command;
-use crate::usage::{
-    camr_command, explain_command, migrate_command, replay_command, run_command, shown_command,
-};
+use crate::usage::{camr_command, explain_command, replay_command, run_command, shown_command};
+use crate::value_faults::no_plan;
 use clap::error::ErrorKind;
 use clap::{ArgMatches, Command, Error};
-use cli_text_page::{ForeignText, escaped};
+use cli_text_page::escaped;
 use std::alloc::{AllocError, Global};
 
 /// Why the words are no plan: a mistake in them, or a request for help. Its text is for the user, and
@@ -407,9 +406,9 @@ fn workers_given(run: &ArgMatches) -> Option<u8>
     workers_in(word)
 }
 
-// The number of workers that a word spells. Clap tests the range too, for the text that it shows, but takes a
-// plus sign before the digits.
-fn workers_in(word: &str) -> Option<u8>
+/// The number of workers that a word spells. Clap tests the range too, for the text that it shows, but takes a
+/// plus sign before the digits.
+pub(crate) fn workers_in(word: &str) -> Option<u8>
     ensures { MatchOption result (SpellsNoLawfulNumber word.now)
         (λ n. Spells word.now n × IsLawfulNumber n) }
 {
@@ -441,98 +440,4 @@ fn watch_in(word: &str) -> Option<Watch>
         "lines" => Some(Watch::Lines),
         _ => None,
     }
-}
-
-// What is wrong with the words that clap let through.
-fn no_plan(alloc: Global, matches: &ArgMatches) -> Error
-    ensures { IsValueFault result }
-{
-    let fault = match matches.subcommand() {
-        Some((name @ ("explain" | "show" | "decide" | "try"), _)) => other_program(alloc, name),
-        Some(("live", live)) => live_fault(alloc, live.get_str("MANIFEST").is_some()),
-        Some(("migrate", migrate)) => version_fault(alloc, migrate.get_str("to").unwrap_or("")),
-        Some((_, run)) => option_fault(
-            alloc,
-            run.get_str("workers").unwrap_or(""),
-            run.get_str("watch").unwrap_or(""),
-        ),
-        None => option_fault(alloc, "", ""),
-    };
-    match fault {
-        Ok(fault) => fault,
-        Err(error) => Error::from(error),
-    }
-}
-
-// A command that the other program carries out.
-fn other_program(alloc: Global, name: &str) -> Result<Error, AllocError>
-    ensures { IfOk result (λ e. kind_of e ≡ ErrorKind.ValueValidation) }
-{
-    let text = format!(in alloc; "the program camr_inspect carries out '{name}'")?;
-    camr_command(alloc)?.error(ErrorKind::ValueValidation, text.as_str())
-}
-
-// What is missing after `live` where there is no journal: it is to be synced, or else the manifest is not there.
-fn live_fault(alloc: Global, has_manifest: bool) -> Result<Error, AllocError>
-    ensures { IfOk result (λ e. kind_of e ≡ ErrorKind.ValueValidation) }
-{
-    let missing = if has_manifest {
-        "the following required arguments were not provided:\n  --journal <DIR>"
-    } else {
-        "the following required arguments were not provided:\n  <MANIFEST>"
-    };
-    live_command(alloc)?
-        .bin_name("camr live")?
-        .error(ErrorKind::ValueValidation, missing)
-}
-
-// The word of the option of `migrate` is no version that a manifest is written anew in.
-fn version_fault(alloc: Global, word: &str) -> Result<Error, AllocError>
-    ensures { IfOk result (λ e. kind_of e ≡ ErrorKind.ValueValidation) }
-{
-    let text = format!(in alloc;
-        "invalid value '{}' for '--to <VERSION>': it is `2` or `3`",
-        ForeignText(word)
-    )?;
-    migrate_command(alloc)?
-        .bin_name("camr migrate")?
-        .error(ErrorKind::ValueValidation, text.as_str())
-}
-
-// What is wrong with the word of an option of `run`: clap has refused each other that is no number from 1 to 16.
-fn option_fault(alloc: Global, workers: &str, watch: &str) -> Result<Error, AllocError>
-    ensures { IfOk result (λ e. kind_of e ≡ ErrorKind.ValueValidation) }
-{
-    match workers_in(workers) {
-        None => number_fault(alloc, workers),
-        Some(_) => watch_fault(alloc, watch),
-    }
-}
-
-fn number_fault(alloc: Global, word: &str) -> Result<Error, AllocError>
-    ensures { IfOk result (λ e. kind_of e ≡ ErrorKind.ValueValidation) }
-{
-    let text = format!(in alloc;
-        "invalid value '{}' for '--workers <N>': invalid digit found in string",
-        ForeignText(word)
-    )?;
-    run_fault(alloc, text.as_str())
-}
-
-fn watch_fault(alloc: Global, word: &str) -> Result<Error, AllocError>
-    ensures { IfOk result (λ e. kind_of e ≡ ErrorKind.ValueValidation) }
-{
-    let text = format!(in alloc;
-        "invalid value '{}' for '--watch[=<WHEN>]': it is `terminal` or `lines`",
-        ForeignText(word)
-    )?;
-    run_fault(alloc, text.as_str())
-}
-
-fn run_fault(alloc: Global, text: &str) -> Result<Error, AllocError>
-    ensures { IfOk result (λ e. kind_of e ≡ ErrorKind.ValueValidation) }
-{
-    run_command(alloc)?
-        .bin_name("camr run")?
-        .error(ErrorKind::ValueValidation, text)
 }

@@ -1,7 +1,7 @@
 use Rattle.std.proofs.Common.{◌∙◌, refl, rules}
 use Rattle.host_live.proofs.Growing.{as_both, as_none, as_these}
 use Rattle.host_live.proofs.Turning.{both_of_runs, no_runs, of_run}
-use Rattle.host_live.proofs.driving.Host.drive_all.Goals as goal
+use Rattle.host_live.proofs.host.Host.drive_all.Goals as goal
 
 pub loop-init : goal.loop-init
 loop-init g c = record { grown = as_none _ _ _ no_runs; answers = refl }

@@ -3,7 +3,7 @@ use Rattle.host_live.proofs.Growing.{as_both, as_none, as_these}
 use Rattle.host_live.specs.Turns.{no_step, part_none}
 use Rattle.host_live.specs.declared.request.Request.TheVariants as asks
 use Rattle.host_live.proofs.Turning.{read_and, read_none, read_only}
-use Rattle.host_live.proofs.driving.Host.step.Goals as goal
+use Rattle.host_live.proofs.host.Host.step.Goals as goal
 
 pub returns-then-not-is_out-clause-grown : goal.returns-then-not-is_out-clause-grown
 returns-then-not-is_out-clause-grown g c = let out : c.is_out.result ≡ false = search (rules, c.if-not-is_out.true) in as_none _ _ _ (read_none c.args.now [] (λ manner. no_step c.args.run c.args.self.now.engine.engine (c.is_out.ensures.none out)))

@@ -2,7 +2,7 @@
 use Rattle.std.proofs.Common.{◌≡◌}
 use Rattle.host_live.specs.Growth.{GrowsAs}
 use Rattle.host_live.specs.Turns.{AreAdvances}
-use Rattle.host_live.proofs.driving.Host.drive_out.Given as goal
+use Rattle.host_live.proofs.host.Host.drive_out.Given as goal
 
 abbrev pub invariant-loop : goal.invariant-loop
 invariant-loop g l = record {

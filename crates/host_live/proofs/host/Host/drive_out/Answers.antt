@@ -2,7 +2,7 @@ use Rattle.std.proofs.Common.{◌≡◌, ◌∙◌, Ok, refl, rules}
 use Rattle.host_live.proofs.Growing.{as_both, as_none}
 use Rattle.host_live.specs.declared.printed_engine.Advanced.TheVariants as advanced
 use Rattle.host_live.proofs.Turning.{exits, goes_on, is_out_no_more, no_advance, stops_there}
-use Rattle.host_live.proofs.driving.Host.drive_out.Goals as goal
+use Rattle.host_live.proofs.host.Host.drive_out.Goals as goal
 
 pub loop-init : goal.loop-init
 loop-init g c = record { grown = as_none _ _ _ (no_advance c.args.run); answers = refl }

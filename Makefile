@@ -3,7 +3,7 @@
 #     make                            proves and builds the two programs and the C library, into .camr-build
 #     make install [PREFIX=] [DESTDIR=]   installs what was built, and builds nothing
 #     make uninstall [PREFIX=] [DESTDIR=] removes what `make install` put there, and nothing else
-#     make check                      the test: proves every crate from nothing, and runs all tests
+#     make check                      the test: proves what no earlier run here proved, and runs all tests
 #     make clean                      removes .camr-build
 #
 # PREFIX is an absolute path, and may have blanks. DESTDIR is the folder that stands for / while a package is made.

@@ -6,15 +6,17 @@
 #include "../../examples/policies/camr.h"
 #define APART static __attribute__((noinline))
 
-/* What is decided: how many milliseconds the queue stays frozen, at most 1,023, and these beside it. */
+/* What is decided: how many milliseconds the queue stays frozen, at most 524,287, and these beside it. */
 enum {
-    MILLISECONDS = 0x3ff,
-    COUNTS = 1 << 10,
-    FAILS = 1 << 11,
-    SUCCEEDS = 1 << 12,
-    QUEUE_IS_FULL = 1 << 13,
-    CONTROLLER_IS_BUSY = 1 << 14
+    MILLISECONDS = 0x7ffff,
+    COUNTS = 1 << 20,
+    FAILS = 1 << 21,
+    SUCCEEDS = 1 << 22,
+    QUEUE_IS_FULL = 1 << 23,
+    CONTROLLER_IS_BUSY = 1 << 24
 };
+/* So many milliseconds as a part of what is decided: more than have room there do not compile. */
+#define WAIT(ms) ((ms) + 0 * sizeof(struct { _Static_assert((ms) >= 0 && (ms) <= MILLISECONDS, "a wait is 0 to 524,287 ms"); char none; }))
 enum {
     DONE = 0x01,        /* the final code of a command that did what it was to do */
     MOST_ATTEMPTS = 60, /* three minutes of rests, when a controller stays busy */
@@ -176,13 +178,13 @@ APART u64 by_status(const struct context *c)
         return CONTROLLER_IS_BUSY;
     /* a command that times out at a busy controller is late: others are not sent after it at once */
     case CAM_CMD_TIMEOUT:
-        return 1000 | COUNTS;
+        return WAIT(1000) | COUNTS;
     case CAM_SEL_TIMEOUT:
-        return 500 | COUNTS;
+        return WAIT(500) | COUNTS;
     /* a neighbour's reset took it along, or the transport asks for another try */
     case CAM_SCSI_BUS_RESET:
     case CAM_BDR_SENT:
-        return 100;
+        return WAIT(100);
     case CAM_REQUEUE_REQ:
         return 0;
     /* the host aborted it (CAM_REQ_ABORTED) */
@@ -202,13 +204,13 @@ APART u64 by_scsi_status(const struct context *c)
     case SCSI_TASK_SET_FULL:
         return QUEUE_IS_FULL;
     case SCSI_ACA_ACTIVE:
-        return 20;
+        return WAIT(20);
     case SCSI_TASK_ABORTED:
         return 0;
     case SCSI_RESERVATION_CONFLICT:
         return FAILS;
     default:
-        return 100 | COUNTS;
+        return WAIT(100) | COUNTS;
     }
 }
 
@@ -226,13 +228,13 @@ APART u64 by_sense(const struct context *c)
     case SENSE_UNIT_ATTENTION:
         return 0;
     case SENSE_ABORTED_COMMAND:
-        return 20 | COUNTS;
+        return WAIT(20) | COUNTS;
     case SENSE_ILLEGAL_REQUEST:
     case SENSE_DATA_PROTECT:
     case SENSE_MISCOMPARE:
         return FAILS;
     default:
-        return 100 | COUNTS;
+        return WAIT(100) | COUNTS;
     }
 }
 
@@ -240,6 +242,6 @@ APART u64 by_sense(const struct context *c)
 APART u64 not_ready(const struct context *c)
 {
     if (c->asc == 0x04 && (c->ascq == 0x0a || c->ascq == 0x01 || c->ascq == 0x07 || c->ascq == 0x14))
-        return 1000;
-    return 250 | COUNTS;
+        return WAIT(1000);
+    return WAIT(250) | COUNTS;
 }

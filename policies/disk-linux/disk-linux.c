@@ -5,8 +5,10 @@
 #include "../../examples/policies/camr.h"
 #define APART static __attribute__((noinline))
 
-/* What is decided: how many milliseconds the queue stays frozen, at most 1,023, and these beside it. */
-enum { MILLISECONDS = 0x3ff, COUNTS = 1 << 10, FAILS = 1 << 11, SUCCEEDS = 1 << 12 };
+/* What is decided: how many milliseconds the queue stays frozen, at most 524,287, and these beside it. */
+enum { MILLISECONDS = 0x7ffff, COUNTS = 1 << 20, FAILS = 1 << 21, SUCCEEDS = 1 << 22 };
+/* So many milliseconds as a part of what is decided: more than have room there do not compile. */
+#define WAIT(ms) ((ms) + 0 * sizeof(struct { _Static_assert((ms) >= 0 && (ms) <= MILLISECONDS, "a wait is 0 to 524,287 ms"); char none; }))
 
 /* The decisions. The device has not executed a command that it refuses as busy, and it will be ready again by itself if it is becoming
    ready: these do not count against the retries. A command that may have been executed counts. */
@@ -15,11 +17,11 @@ enum {
     FAIL = FAILS,
     RETRY = COUNTS,
     RETRY_AT_ONCE = 0,
-    RETRY_LATER = 500,
-    QUEUE_IS_BUSY = 50,
+    RETRY_LATER = WAIT(500),
+    QUEUE_IS_BUSY = WAIT(50),
     PREPARE_AGAIN = 0,
-    PREPARE_IN_A_SECOND = 1000,
-    ERROR_HANDLER = 250 | COUNTS
+    PREPARE_IN_A_SECOND = WAIT(1000),
+    ERROR_HANDLER = WAIT(250) | COUNTS
 };
 
 enum {

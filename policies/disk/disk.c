@@ -3,8 +3,10 @@
 #include "../../examples/policies/camr.h"
 #define APART static __attribute__((noinline))
 
-/* What is decided of a failure: how many milliseconds its queue stays frozen, at most 1,023, and these beside it. */
-enum { MILLISECONDS = 0x3ff, COUNTS = 1 << 10, NO_RETRY_HELPS = 1 << 11, WAS_CARRIED_OUT = 1 << 12 };
+/* What is decided of a failure: how many milliseconds its queue stays frozen, at most 524,287, and these beside it. */
+enum { MILLISECONDS = 0x7ffff, COUNTS = 1 << 20, NO_RETRY_HELPS = 1 << 21, WAS_CARRIED_OUT = 1 << 22 };
+/* So many milliseconds as a part of what is decided: more than have room there do not compile. */
+#define WAIT(ms) ((ms) + 0 * sizeof(struct { _Static_assert((ms) >= 0 && (ms) <= MILLISECONDS, "a wait is 0 to 524,287 ms"); char none; }))
 enum {
     DONE = 0x01,         /* the final code of a command that did what it was to do */
     MOST_ATTEMPTS = 250, /* also a retry that does not count ends at last */
@@ -57,12 +59,12 @@ APART u64 by_status(const struct context *c)
     if (status == CAM_CMD_TIMEOUT) {
         if (c->retries == 1)
             advise(ADVICE_RECONNECT);
-        return 100 | COUNTS;
+        return WAIT(100) | COUNTS;
     }
     if (status == CAM_BUSY)
-        return 100;
+        return WAIT(100);
     if (status == CAM_SEL_TIMEOUT)
-        return 250 | COUNTS;
+        return WAIT(250) | COUNTS;
     /* a neighbour's time-out or a lost connection took this command with it, or the transport asks for another try */
     return 0;
 }
@@ -73,18 +75,18 @@ APART u64 by_scsi_status(const struct context *c)
     if (c->scsi == SCSI_CHECK_CONDITION)
         return by_sense(c);
     if (c->scsi == SCSI_BUSY)
-        return 100;
+        return WAIT(100);
     if (c->scsi == SCSI_TASK_SET_FULL)
-        return 20;
+        return WAIT(20);
     if (c->scsi == SCSI_RESERVATION_CONFLICT)
-        return 250 | COUNTS;
+        return WAIT(250) | COUNTS;
     if (c->scsi == SCSI_ACA_ACTIVE) {
         advise(ADVICE_LOGICAL_UNIT_RESET);
-        return 20;
+        return WAIT(20);
     }
     if (c->scsi == SCSI_TASK_ABORTED)
         return 0;
-    return 100 | COUNTS;
+    return WAIT(100) | COUNTS;
 }
 
 APART u64 by_sense(const struct context *c)
@@ -108,7 +110,7 @@ APART u64 by_key(u64 key)
         return COUNTS;
     if (key == SENSE_ILLEGAL_REQUEST || key == SENSE_DATA_PROTECT || key == SENSE_MISCOMPARE)
         return NO_RETRY_HELPS;
-    return 100 | COUNTS;
+    return WAIT(100) | COUNTS;
 }
 
 /* 04/02 and 3a: the unit has to be started or loaded. Else it becomes ready by itself, and is asked until it is. */
@@ -118,5 +120,5 @@ APART u64 not_ready(const struct context *c)
         advise(ADVICE_START_UNIT);
     else
         advise(ADVICE_TEST_UNIT_READY);
-    return 250 | COUNTS;
+    return WAIT(250) | COUNTS;
 }

@@ -4,8 +4,10 @@
 #include "../../examples/policies/camr.h"
 #define APART static __attribute__((noinline))
 
-/* What is decided: how many milliseconds the queue stays frozen, at most 1,023, and these beside it. */
-enum { MILLISECONDS = 0x3ff, COUNTS = 1 << 10, FAILS = 1 << 11, SUCCEEDS = 1 << 12, PATH_FAILS = 1 << 13 };
+/* What is decided: how many milliseconds the queue stays frozen, at most 524,287, and these beside it. */
+enum { MILLISECONDS = 0x7ffff, COUNTS = 1 << 20, FAILS = 1 << 21, SUCCEEDS = 1 << 22, PATH_FAILS = 1 << 23 };
+/* So many milliseconds as a part of what is decided: more than have room there do not compile. */
+#define WAIT(ms) ((ms) + 0 * sizeof(struct { _Static_assert((ms) >= 0 && (ms) <= MILLISECONDS, "a wait is 0 to 524,287 ms"); char none; }))
 enum {
     DONE = 0x01,             /* the final code of a command that did what it was to do, */
     PATH_IS_LOST = 0x0a,     /* and of one that is to go by another path */
@@ -70,7 +72,7 @@ APART u64 by_status(const struct context *c)
         return 0;
     /* the transport has not sent it */
     case CAM_BUSY:
-        return 50 | COUNTS;
+        return WAIT(50) | COUNTS;
     case CAM_REQUEUE_REQ:
         return 0;
     /* the upper layer gave it up (CAM_REQ_ABORTED) */
@@ -88,9 +90,9 @@ APART u64 by_scsi_status(const struct context *c)
     /* SAM: the task set, which is one for all paths, has not taken the command */
     case SCSI_BUSY:
     case SCSI_TASK_SET_FULL:
-        return 100;
+        return WAIT(100);
     case SCSI_ACA_ACTIVE:
-        return 20;
+        return WAIT(20);
     case SCSI_TASK_ABORTED:
         return 0;
     /* a reservation refuses a host by whichever path (RESERVATION CONFLICT), and all other codes are no status of SAM */
@@ -103,7 +105,7 @@ APART u64 by_sense(const struct context *c)
 {
     u64 code = c->sense[0] & 0x7f;
     if (c->sense_length == 0)
-        return 100 | COUNTS;
+        return WAIT(100) | COUNTS;
     /* a deferred error is that of an earlier command: this one was not executed */
     if (code == 0x71 || code == 0x73)
         return 0;
@@ -134,7 +136,7 @@ APART u64 not_ready(const struct context *c)
         return FAILS;
     switch (c->ascq) {
     case 0x0a: /* in transition: it ends by itself, and other paths of its group are in the same state */
-        return c->attempts > MOST_IN_TRANSITION ? PATH_FAILS : 1000;
+        return c->attempts > MOST_IN_TRANSITION ? PATH_FAILS : WAIT(1000);
     case 0x0b: /* the target port is in standby, */
     case 0x0c: /* or unavailable, */
     case 0x12: /* or the logical unit is offline there */
@@ -142,7 +144,7 @@ APART u64 not_ready(const struct context *c)
     case 0x01: /* becoming ready: so it is on every path */
     case 0x07: /* operation in progress */
     case 0x14: /* space allocation in progress */
-        return 500;
+        return WAIT(500);
     default:
         return FAILS;
     }

@@ -5,8 +5,10 @@
 #include "../../examples/policies/camr.h"
 #define APART static __attribute__((noinline))
 
-/* What is decided: how many milliseconds the queue stays frozen, at most 1,023, and these beside it. */
-enum { MILLISECONDS = 0x3ff, COUNTS = 1 << 10, FAILS = 1 << 11, SUCCEEDS = 1 << 12 };
+/* What is decided: how many milliseconds the queue stays frozen, at most 524,287, and these beside it. */
+enum { MILLISECONDS = 0x7ffff, COUNTS = 1 << 20, FAILS = 1 << 21, SUCCEEDS = 1 << 22 };
+/* So many milliseconds as a part of what is decided: more than have room there do not compile. */
+#define WAIT(ms) ((ms) + 0 * sizeof(struct { _Static_assert((ms) >= 0 && (ms) <= MILLISECONDS, "a wait is 0 to 524,287 ms"); char none; }))
 enum {
     DONE = 0x01,        /* the final code of a command that did what it was to do */
     MOST_ATTEMPTS = 600, /* ten minutes of a second each: a drive that loads and calibrates takes a few */
@@ -53,12 +55,12 @@ APART u64 by_status(const struct context *c)
         return by_scsi_status(c);
     /* the transport has not sent it */
     if (status == CAM_BUSY)
-        return 100;
+        return WAIT(100);
     if (status == CAM_REQUEUE_REQ)
         return 0;
     /* the drive did not answer its selection, so it has no command; a drive that is switched off never will */
     if (status == CAM_SEL_TIMEOUT)
-        return 1000 | COUNTS;
+        return WAIT(1000) | COUNTS;
     /* A time-out, an abort and a reset come at any moment of a command. After a reset the position is not known either. */
     return FAILS;
 }
@@ -70,11 +72,11 @@ APART u64 by_scsi_status(const struct context *c)
     case SCSI_CHECK_CONDITION:
         return by_sense(c);
     case SCSI_BUSY:
-        return 1000;
+        return WAIT(1000);
     case SCSI_TASK_SET_FULL:
-        return 100;
+        return WAIT(100);
     case SCSI_ACA_ACTIVE:
-        return 20;
+        return WAIT(20);
     /* Another host has the drive (RESERVATION CONFLICT), and may have moved the tape. A task that was aborted (TASK ABORTED) may have
        been begun. */
     default:
@@ -120,7 +122,7 @@ APART u64 not_ready(const struct context *c)
     case 0x09: /* self-test in progress */
     case 0x0a: /* the asymmetric access state changes */
     case 0x1a: /* START STOP UNIT in progress */
-        return 1000;
+        return WAIT(1000);
     default:
         return FAILS;
     }

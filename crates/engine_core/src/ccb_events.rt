@@ -4,7 +4,7 @@
 ghost use Rattle.std.specs.Prelude.{◌≡◌, ◌≢◌, List, IfErr, IfOk, OnErr};
 ghost use Rattle.world_calls.specs.declared.record.Record.{Record as TheRecord};
 ghost use Rattle.engine_runs.specs.RunsState.{RunsState};
-ghost use Rattle.world.specs.World.{World, class_in, class_kept, version_of};
+ghost use Rattle.world.specs.World.{World, class_fits, class_in, class_kept, has_classes, version_of};
 ghost use Rattle.world_calls.specs.declared.call.Call.TheVariants as calls;
 ghost use Rattle.world_calls.specs.declared.record.Record.TheVariants.{Called};
 ghost use Rattle.world_calls.specs.Answered.{ccb_answer, start_answer, started_answer};
@@ -20,6 +20,7 @@ use crate::completion_action::{CompletionAction, decide, recover};
 use crate::setting::Setting;
 use crate::told::{ccb_told, refused, start_told};
 use ccb::{CallRefusal, CcbId, Completion, QueueId};
+use engine_config::Config;
 use engine_runs::Runs;
 use engine_transport::Transport;
 use std::alloc::{AllocError, Global};
@@ -59,6 +60,17 @@ pub(crate) fn class_in(class: Option<u32>) -> u32
     match class {
         Some(class) => class,
         None => 0,
+    }
+}
+
+/// Whether a submission has a class exactly where CCBs have one.
+pub(crate) fn is_fit(config: &Config, class: Option<u32>) -> bool
+    ensures { result ≡ class_fits (has_classes config.now) class }
+{
+    let has_classes = config.has_classes();
+    match class {
+        None => !has_classes,
+        Some(_) => has_classes,
     }
 }
 

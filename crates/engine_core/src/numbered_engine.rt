@@ -15,19 +15,18 @@ ghost use Rattle.world.specs.Refusals.{is_unknown};
 ghost use Rattle.world.specs.Beginning.{Begins, IsBeginning};
 ghost use Rattle.world.specs.World.{World, class_fits, class_kept, has_classes};
 ghost use Rattle.engine_core.specs.Settings.{setup_over};
-ghost use Rattle.engine_core.specs.Looking.{AsksNext, HasRunOut, IsRunTold, asked_at, first_out};
+ghost use Rattle.engine_core.specs.Looking.{AsksNext, HasRunOut, IsRunTold, first_out};
 ghost use Rattle.engine_core.specs.ByNumber.{Advances, AnswersCall, HasHistory, RecordFollows, guests_of, opened_numbered, sums_behind, takes_memory};
 
-use crate::ccb_events::{class_in, complete, dispatch, submit, withdraw};
+use crate::ccb_events::{class_in, complete, dispatch, is_fit, submit, withdraw};
 use crate::engine::rooms;
 use crate::freeze_events::read_clock;
 use crate::guest_tokens::{GuestToken, has_token, take_token};
 use crate::parts::Parts;
-use crate::run_events::{go_on_here, resume, to_stop};
+use crate::run_events::{go_on_here, request_of, resume, to_stop};
 use crate::run_info::RunInfo;
 use crate::setting::Setting;
 use crate::told::answer_in;
-use bpf_semantics::Stop;
 use ccb::{CcbId, Completion, Place, QueueId};
 use engine_config::Config;
 use engine_runs::Runs;
@@ -487,25 +486,4 @@ fn first_out(runs: &Runs) -> Option<u32>
         }
     }
     None
-}
-
-// What is asked there, if a helper is.
-fn request_of(stop: Stop) -> Option<Request>
-    ensures { result ≡ asked_at stop }
-{
-    match stop {
-        Stop::Helper(request) => Some(request),
-        Stop::Exit { .. } => None,
-    }
-}
-
-// Whether a submission has a class exactly where CCBs have one.
-fn is_fit(config: &Config, class: Option<u32>) -> bool
-    ensures { result ≡ class_fits (has_classes config.now) class }
-{
-    let has_classes = config.has_classes();
-    match class {
-        None => !has_classes,
-        Some(_) => has_classes,
-    }
 }

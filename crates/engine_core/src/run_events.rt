@@ -15,6 +15,7 @@ ghost use Rattle.engine_core.specs.declared.event.Event.TheVariants.{Advance, Pa
 ghost use Rattle.engine_core.specs.declared.reply.Success.TheVariants.{Parked};
 ghost use Rattle.engine_core.specs.declared.reply.Reply.TheVariants.{Success};
 ghost use Rattle.engine_core.specs.Invariant.{KeepsEngine};
+ghost use Rattle.engine_core.specs.Looking.{asked_at};
 ghost use Rattle.engine_core.specs.Performing.{IsPlaced, Performs};
 ghost use Rattle.engine_core.specs.Replies.{given_advanced, resumed_answer, resumed_reply};
 ghost use Rattle.engine_core.specs.RunState.{before_stop, IsAgain};
@@ -30,6 +31,7 @@ use bpf_machine::Machine;
 use bpf_semantics::Stop;
 use engine_runs::Runs;
 use engine_transport::Transport;
+use helpers::Request;
 use interpreter::{go_to_stop, stop_of};
 use std::alloc::{AllocError, Global};
 use std::sync::Arc;
@@ -193,4 +195,14 @@ fn run_at(setting: &Setting<'_>, runs: &mut Runs, place: usize) -> Result<Run, A
         machine,
         next,
     ))
+}
+
+/// What is asked there, if a helper is.
+pub(crate) fn request_of(stop: Stop) -> Option<Request>
+    ensures { result ≡ asked_at stop }
+{
+    match stop {
+        Stop::Helper(request) => Some(request),
+        Stop::Exit { .. } => None,
+    }
 }

@@ -1,7 +1,7 @@
 use Rattle.std.proofs.Common.{◌≡◌, ℕ, Option, not, ap, subst, sym, ◌∙◌}
 use Rattle.world.specs.World.{class_fits, has_classes}
 use Rattle.engine_core.proofs.Numbered.{none_fits, one_fits}
-use Rattle.engine_core.proofs.numbered_engine.is_fit.Goals as goal
+use Rattle.engine_core.proofs.ccb_events.is_fit.Goals as goal
 
 pub returns-in-None : goal.returns-in-None
 returns-in-None c =

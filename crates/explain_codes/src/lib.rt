@@ -6,6 +6,7 @@ mod calls;
 mod code;
 mod explanation;
 mod files;
+mod mending;
 mod policies;
 mod programs;
 mod rule;
@@ -13,5 +14,6 @@ mod unknown;
 
 pub use code::{Code, SERIES, Series};
 pub use explanation::{Explanation, POLICY, POLICY_BYTES, Shown, print};
+pub use mending::{code_in, put_mending};
 pub use rule::put_rule;
 pub use unknown::{is_spelled_as_code, put_unknown};

@@ -1,15 +1,15 @@
 // What is known of a manifest's programs that are accepted: the budget's path, the stack, and each helper call with its arguments and
 // the freezes held. It relies on `explain_path` for the path, and on `survey` for what is known.
 
-use crate::places::source_span;
 use crate::refusing::{put_mark, read};
-use crate::survey::survey_of;
 use bpf_accepted::Accepted;
 use bpf_insn::Program;
 use call_shape::shape;
 use cli_text_page::Page;
+use explain_form::places::source_span;
 use explain_layout::{Span, layout};
 use explain_path::longest_path;
+use explain_program::survey::survey_of;
 use manifest::{Manifest, NamedProgram};
 use manifest_form::Source;
 use std::alloc::{AllocError, Global};

@@ -1,20 +1,23 @@
 // Why a manifest is refused, in a report. It relies on `form` and `plan_faults` for faults of what stands around the
 // programs, and on `program` for those of programs.
 
-use crate::codes::code_in;
-use crate::listing::{Listing, base_of, hexadecimal, of_bytes, of_text, pairs_of, slots_in};
-use crate::notes::notes_of;
-use crate::places::source_span;
-use crate::program::Told;
-use crate::{asm_line, codes, fields, form, plan_faults, program, toml_fault};
 use base::OrMemory;
 use bpf_asm::{AsmFault, LineFault, assemble};
 use bpf_decode::{DecodeFault, InsnFault, decode};
 use bpf_insn::Program;
 use cli_text_page::Page;
-use explain_codes::put_rule;
+use explain_codes::{code_in, put_mending, put_rule};
+use explain_form::places::source_span;
+use explain_form::{form, plan_faults, toml_fault};
 use explain_layout::excerpt::put_foreign;
 use explain_layout::{Layout, Span, excerpt, layout, nth_line, without_mark};
+use explain_program::listing::{
+    Listing, base_of, hexadecimal, of_bytes, of_text, pairs_of, slots_in,
+};
+use explain_program::notes::notes_of;
+use explain_program::program;
+use explain_program::program::Told;
+use explain_source::{asm_line, fields};
 use helpers::{HelperLimits, HelperSet, TableLengths};
 use manifest::ManifestFault;
 use manifest_form::{Plan, ProgramEntry, Source};
@@ -69,7 +72,7 @@ fn put_rule_of<T: Display>(
     if let Some(code) = code_in(text.as_str()) {
         put_rule(page, code);
         if !more_is_known {
-            codes::put_mending(page, code);
+            put_mending(page, code);
         }
     }
     Ok(())
@@ -79,7 +82,7 @@ fn put_rule_of<T: Display>(
 fn put_mending_of<T: Display>(alloc: Global, page: &mut Page, fault: &T) -> Result<(), AllocError> {
     let text = format!(in alloc; "{fault}")?;
     if let Some(code) = code_in(text.as_str()) {
-        codes::put_mending(page, code);
+        put_mending(page, code);
     }
     Ok(())
 }

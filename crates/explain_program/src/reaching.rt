@@ -3,8 +3,8 @@
 
 ghost use Rattle.std.specs.Prelude.{◌≡◌, ◌↔◌, ◌<◌, false, length, replicate, IsTrue};
 ghost use Rattle.bpf_insn.specs.declared.program.TheConstants.{MAX_SLOTS};
-ghost use Rattle.explain_manifest.specs.Listed.{AreListed, ListsToo};
-ghost use Rattle.explain_manifest.specs.Reaching.{GoesOnAt, LeadsFrom, Reaches};
+ghost use Rattle.explain_program.specs.Listed.{AreListed, ListsToo};
+ghost use Rattle.explain_program.specs.Reaching.{GoesOnAt, LeadsFrom, Reaches};
 
 use bpf_insn::{MAX_SLOTS, Program};
 use call_shape::Onward;

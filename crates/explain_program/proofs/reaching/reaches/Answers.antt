@@ -1,9 +1,9 @@
 use Rattle.std.proofs.Common.{ℕ, subst, arith}
-use Rattle.explain_manifest.specs.Listed.{ListsToo}
-use Rattle.explain_manifest.specs.Reaching.{LeadsFrom}
-use Rattle.explain_manifest.proofs.Listed.{few_listed, listed_none, nothing_marked}
-use Rattle.explain_manifest.proofs.Search.{search_first, search_more, all_reached}
-use Rattle.explain_manifest.proofs.reaching.reaches.Goals as goal
+use Rattle.explain_program.specs.Listed.{ListsToo}
+use Rattle.explain_program.specs.Reaching.{LeadsFrom}
+use Rattle.explain_program.proofs.Listed.{few_listed, listed_none, nothing_marked}
+use Rattle.explain_program.proofs.Search.{search_first, search_more, all_reached}
+use Rattle.explain_program.proofs.reaching.reaches.Goals as goal
 
 pub add-requires : goal.add-requires
 add-requires c = listed_none c.none-places.result c.none-places.ensures.marked c.none-places.ensures.order c.none-places.ensures.empty

@@ -1,7 +1,7 @@
-// What a fault's code means, and what to do about it, in the lines of a report. It relies on `explain_codes` for the table.
+// What a fault's code means, and what to do about it, in the lines of a report. It relies on `explanation` for the table.
 
+use crate::code::Code;
 use cli_text_page::Page;
-use explain_codes::Code;
 
 /// The code with which a fault's text begins.
 pub fn code_in(text: &str) -> Option<Code> {

@@ -1,6 +1,6 @@
 use Rattle.std.proofs.Common.{arith}
-use Rattle.explain_manifest.proofs.Listed.{room, lists_more}
-use Rattle.explain_manifest.proofs.reaching.Places.add.Goals as goal
+use Rattle.explain_program.proofs.Listed.{room, lists_more}
+use Rattle.explain_program.proofs.reaching.Places.add.Goals as goal
 
 pub offset_bounds-self-self : goal.offset_bounds-self-self
 offset_bounds-self-self c = omega (arith, room c.args.self.now c.args.place c.requires c.if-place-lt-MAX_SLOTS.true c.if-not-self-place.true)

@@ -1,9 +1,8 @@
 // Why a text is no TOML, in a report. It relies on `toml` for the fault, and on `explain_layout` for where keys and texts stand.
 
-use crate::codes::put_mending;
 use crate::values::is_single;
 use cli_text_page::Page;
-use explain_codes::{Code, put_rule};
+use explain_codes::{Code, put_mending, put_rule};
 use explain_layout::{Layout, Span, excerpt, line_at};
 use std::alloc::AllocError;
 use toml::de::Error;

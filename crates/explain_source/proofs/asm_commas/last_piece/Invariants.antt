@@ -1,6 +1,6 @@
 use denote.Text.{Utf8}
 use denote.Shadow.{shadow}
-use Rattle.explain_manifest.proofs.asm_commas.last_piece.Given as goal
+use Rattle.explain_source.proofs.asm_commas.last_piece.Given as goal
 
 -- what it has is text
 abbrev pub invariant-loop-piece : goal.invariant-loop-piece

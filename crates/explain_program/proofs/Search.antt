@@ -7,10 +7,10 @@ use Rattle.bpf_insn.specs.declared.program.TheConstants.{MAX_SLOTS}
 use Rattle.bpf_insn.specs.Program.{IsProgram}
 use Rattle.call_shape.specs.Walk.{is_marked}
 use Rattle.call_shape.proofs.Places.{begins_inside, there_begins}
-use Rattle.explain_manifest.specs.Listed.{AreListed, ListsToo}
-use Rattle.explain_manifest.specs.Reaching.{LeadsFrom, Reaches}
-use Rattle.explain_manifest.specs.Reaching.Reaches.{stands, goes_on}
-use Rattle.explain_manifest.specs.declared.reaching.Places.{Places}
+use Rattle.explain_program.specs.Listed.{AreListed, ListsToo}
+use Rattle.explain_program.specs.Reaching.{LeadsFrom, Reaches}
+use Rattle.explain_program.specs.Reaching.Reaches.{stands, goes_on}
+use Rattle.explain_program.specs.declared.reaching.Places.{Places}
 
 pub record IsSearch (program : List Slot) (from : ℕ) (places : Places) (followed : ℕ) : Type 0 where
   pub listed : AreListed places

@@ -2,7 +2,7 @@
 use Rattle.std.specs.Prelude.{◌≡◌, ◌<◌, ◌≤◌, ◌⊎◌, ℕ, List, true, length, slice_index}
 use Rattle.bpf_insn.specs.declared.program.TheConstants.{MAX_SLOTS}
 use Rattle.call_shape.specs.Walk.{is_marked, marked}
-use Rattle.explain_manifest.specs.declared.reaching.Places.{Places}
+use Rattle.explain_program.specs.declared.reaching.Places.{Places}
 
 -- a place is one of the first n of a list
 pub record IsAmong (order : List ℕ) (n place : ℕ) : Type 0 where

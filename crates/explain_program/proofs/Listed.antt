@@ -5,8 +5,8 @@ use Rattle.std.proofs.lemmas.List.{length-replicate}
 use Rattle.bpf_insn.specs.declared.program.TheConstants.{MAX_SLOTS}
 use Rattle.call_shape.specs.Walk.{is_marked, marked}
 use Rattle.call_shape.proofs.Marks.{marked_at_most, marked_more, marked_room, marks_there, marks_other, stays_set, none_marked, no_marks}
-use Rattle.explain_manifest.specs.Listed.{IsAmong, AreListed, ListsToo}
-use Rattle.explain_manifest.specs.declared.reaching.Places.{Places}
+use Rattle.explain_program.specs.Listed.{IsAmong, AreListed, ListsToo}
+use Rattle.explain_program.specs.declared.reaching.Places.{Places}
 
 pub nothing_marked : (places : Places) → places.marked ≡ replicate MAX_SLOTS false → (place : ℕ) → is_marked places.marked place ≡ false
 nothing_marked places marked_is place = ap (λ (marks : List Bool). is_marked marks place) marked_is ∙ none_marked MAX_SLOTS place

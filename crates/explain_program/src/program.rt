@@ -5,19 +5,18 @@ ghost use Rattle.std.specs.Prelude.{◌<◌, IfSome};
 ghost use Rattle.bpf_insn.specs.declared.program.TheConstants.{MAX_SLOTS};
 
 use crate::causes::{put_mending, put_side, put_values};
-use crate::codes::code_in;
 use crate::functions::function_of;
 use crate::giving::{GivenBack, given_back, is_release};
 use crate::kinds::put_name;
 use crate::listing::{Listing, put_source};
 use crate::notes::Notes;
 use crate::reaching::reaches;
-use crate::{calls, codes, steps};
+use crate::{calls, steps};
 use bpf_insn::{Insn, Program};
 use call_shape::{Onward, ShapeFault};
 use check_register_kinds::Cause;
 use cli_text_page::Page;
-use explain_codes::put_rule;
+use explain_codes::{code_in, put_rule};
 use explain_layout::excerpt::put_foreign;
 use explain_layout::{Span, excerpt};
 use explain_path::{Log, Open, Path, path_to};
@@ -74,7 +73,7 @@ pub fn print(
     }
     let is_mended = put_reasons(alloc, page, told, refusal, slot)?;
     match code {
-        Some(code) if !is_mended => codes::put_mending(page, code),
+        Some(code) if !is_mended => explain_codes::put_mending(page, code),
         _ => {}
     }
     Ok(())

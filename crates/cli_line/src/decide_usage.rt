@@ -52,7 +52,7 @@ fn wide_command<'a>(alloc: Global) -> Result<Command<'a>, AllocError>
         alloc,
         "word",
         "K:I=W",
-        "Word I of table K is W, and not 0; may be given more than once",
+        "Word I of table K is W; may be given more than once",
     );
     let all = flag(
         alloc,

@@ -9,3 +9,4 @@ pub mod Others
 pub mod TooMany
 pub mod Whole
 pub mod WhyNone
+pub mod Written

@@ -1,13 +1,12 @@
--- Lines that are added one after the other.
-use Rattle.std.proofs.Common.{◌≡◌, ℕ, ◌+◌, ◌<◌, List, [], ◌∷◌, ◌++◌, get_or, length, map, ap, sym, ◌∙◌, arith}
+-- The lines of the openings, one after the other.
+use Rattle.std.proofs.Common.{◌≡◌, ℕ, ◌+◌, ◌<◌, get_or, length, ap, sym, ◌∙◌, arith}
 use Rattle.std.proofs.lemmas.List.{get_or-map, length-map}
 use Rattle.world_calls.specs.declared.carried_line.CarriedLine.{CarriedLine}
 use Rattle.world_calls.specs.declared.carried_line.CarriedLine.TheVariants as lines
 use Rattle.world.specs.World.{QueueSetup, Setup, no_queue, queue_count, queue_setup}
 use Rattle.engine_beginning.specs.Lines.{openings_from}
 use Rattle.engine_carried.proofs.Adding.{openings_at, openings_length}
-use Rattle.show_question.specs.declared.TableWord.{TableWord}
-use Rattle.host_decision.specs.Asked.{openings_in, word_line}
+use Rattle.host_decision.specs.Asked.{openings_in}
 
 pub openings_count : (config : Setup) → length (openings_from 0 (openings_in config)) ≡ queue_count config
 openings_count config = openings_length 0 (openings_in config) ∙ length-map config.queues (λ (queue : QueueSetup). queue.openings)
@@ -18,6 +17,3 @@ openings_line config k value d below is =
     openings_at 0 (openings_in config) k d (omega (arith, below, length-map config.queues (λ (queue : QueueSetup). queue.openings)))
     ∙ (ap (λ (o : ℕ). lines.Openings (0 + k) o) (get_or-map (λ (queue : QueueSetup). queue.openings) config.queues k no_queue 0 below ∙ sym is)
     ∙ ap (λ (q : ℕ). lines.Openings q value) (omega arith))
-
-pub word_at : (words : List TableWord) (k : ℕ) (it : TableWord) → k < length words → get_or (map word_line words) k (word_line (get_or words k it)) ≡ word_line (get_or words k it)
-word_at words k it below = get_or-map word_line words k it (word_line (get_or words k it)) below

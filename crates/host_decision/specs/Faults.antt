@@ -34,9 +34,9 @@ IsSame other word = (other.table ≡ word.table) × (other.index ≡ word.index)
 abbrev pub IsAmong : List TableWord → TableWord → Type 0
 IsAmong words word = (place : ℕ) × (place < length words) × IsSame (slice_index_or words place word) word
 
--- it cannot be, after these: no table has it, it is 0, or it is given twice
+-- it cannot be, after these: no table has it, or it is given twice
 abbrev pub IsFaulty : Setup → List TableWord → TableWord → Type 0
-IsFaulty config before word = ((HasPlace config word → ⊥) ⊎ (word.word ≡ 0)) ⊎ IsAmong before word
+IsFaulty config before word = (HasPlace config word → ⊥) ⊎ IsAmong before word
 
 -- the word at that place cannot be
 abbrev pub IsFaultAt : Setup → List TableWord → ℕ → Type 0

@@ -2,9 +2,11 @@
 // engine, so that its run is one of the engine's, and on `show_question` for what is asked.
 #![tactic(auto)]
 
+mod added;
 mod decided;
 mod decision;
 mod opening_lines;
+mod opening_words;
 mod ran;
 mod undecided;
 

@@ -1,31 +1,35 @@
-// The lines of an engine in which one CCB is active, and nothing else is. It relies on `engine_config` for the queues, and on `world_calls`
-// for what such lines say.
+// The lines of an engine in which one CCB is active, and nothing else is. It relies on `engine_config` for the queues, on `opening_words` for
+// the tables, and on `world_calls` for what such lines say.
 
-ghost use Rattle.std.specs.Prelude.{◌≡◌, ◌++◌, [], ◌∷◌, IfOk, OnOk, SomeIff, map};
+ghost use Rattle.std.specs.Prelude.{◌≡◌, ◌++◌, IfOk, OnOk, SomeIff};
 ghost use Rattle.ccb.specs.Completion.{IsCompletion};
 ghost use Rattle.world_calls.specs.declared.carried_line.CarriedLine.TheVariants as the_lines;
 ghost use Rattle.engine_beginning.specs.Lines.{openings_from};
-ghost use Rattle.host_decision.specs.Asked.{AreLinesOf, ccb_line, openings_in, outcome_of, word_line};
+ghost use Rattle.host_decision.specs.Asked.{AreLinesOf, ccb_line, openings_in, outcome_of};
+ghost use Rattle.host_decision.specs.Faults.{AreFaultless};
 
+use crate::added::add;
+use crate::opening_words::{add_tables, tables_of};
 use ccb::{CcbId, Completion};
 use engine_config::Config;
-use show_question::{Failure, Question, TableWord};
+use show_question::{Failure, Question};
 use std::alloc::{AllocError, Global};
 use world_calls::{CarriedCcb, CarriedLine};
 
 /// The number of the CCB.
 pub(crate) const FAILED: u32 = 1;
 
-/// The lines of an engine of this configuration in which one CCB is active as the question says, at its clock reading, with its words.
+/// The lines of an engine of this configuration in which one CCB is active as the question says, at its clock reading, and whose tables have
+/// its words over the first words of the configuration.
 pub(crate) fn lines_of(
     alloc: Global,
     config: &Config,
     question: &Question,
 ) -> Result<Vec<CarriedLine>, AllocError>
+    requires { AreFaultless config.now question.now.words.items }
     ensures { IfOk result (λ its. AreLinesOf config.now question.now its.items) }
 {
-    let mut words = question.words.as_slice().to_vec(alloc)?;
-    words.sort()?;
+    let tables = tables_of(alloc, config, question.words.as_slice())?;
     let mut lines = Vec::new(alloc);
     add(
         &mut lines,
@@ -42,17 +46,9 @@ pub(crate) fn lines_of(
         },
     )?;
     add_openings(&mut lines, config)?;
-    add_words(&mut lines, &words)?;
+    add_tables(&mut lines, &tables, config)?;
     add(&mut lines, ccb_line(&question.failure))?;
     Ok(lines)
-}
-
-// One line more.
-fn add(lines: &mut Vec<CarriedLine>, line: CarriedLine) -> Result<(), AllocError>
-    ensures { OnOk result (lines.new.items ≡ lines.old.items ++ line ∷ []) }
-{
-    lines.push(line)?;
-    Ok(())
 }
 
 // A line for each queue, with the openings of the manifest.
@@ -62,23 +58,6 @@ fn add_openings(lines: &mut Vec<CarriedLine>, config: &Config) -> Result<(), All
     for queue in 0..config.queues() {
         let openings = u32::from(config.openings(queue));
         add(lines, CarriedLine::Openings { queue, openings })?;
-    }
-    Ok(())
-}
-
-// A line for each of these words.
-fn add_words(lines: &mut Vec<CarriedLine>, words: &[TableWord]) -> Result<(), AllocError>
-    ensures { OnOk result (lines.new.items ≡ lines.old.items ++ map word_line words.now) }
-{
-    for word in words {
-        add(
-            lines,
-            CarriedLine::Word {
-                table: word.table,
-                index: word.index,
-                word: word.word,
-            },
-        )?;
     }
     Ok(())
 }

@@ -23,7 +23,7 @@ pub enum Undecided {
     Clock,
     /// The CCB has a class, and those of the configuration have none.
     Class,
-    /// The word at this place, from 0, of those that are given: no table has it, it is 0, or it is given twice.
+    /// The word at this place, from 0, of those that are given: no table has it, or it was given before.
     Word(usize),
     /// An engine of the configuration cannot begin so, which no other of these says.
     Lines,
@@ -93,9 +93,6 @@ fn is_faulty(config: &Config, before: &[TableWord], word: TableWord) -> bool
     ensures { MatchBool result (IsFaulty config.now before.now word) (IsFaulty config.now before.now word → ⊥) }
 {
     if !has_word(config, word) {
-        return true;
-    }
-    if word.word == 0 {
         return true;
     }
     is_among(before, word)

@@ -41,8 +41,6 @@ pub fn put_undecided(undecided: Undecided, config: &Config, question: &Question,
 fn put_word(config: &Config, word: TableWord, page: &mut Page) {
     let pattern = if !has_word(config, word) {
         "the manifest has no word {} of table {}\n"
-    } else if word.word == 0 {
-        "word {} of table {} is 0 where it is not given\n"
     } else {
         "word {} of table {} is given twice\n"
     };

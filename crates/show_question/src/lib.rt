@@ -23,16 +23,17 @@ pub struct Failure {
 }
 
 /// A word of a table.
-#[derive(Clone, Copy, Debug, PartialEq, Eq, PartialOrd, Ord)]
+#[derive(Clone, Copy, Debug)]
 pub struct TableWord {
     pub table: u32,
     pub index: u32,
     pub word: u64,
 }
 
-/// What is asked of a policy: what it does with the failure, if its tables have these words, and all other words are 0.
+/// What is asked of a policy: what it does with the failure.
 #[derive(Debug, Drop)]
 pub struct Question {
     pub failure: Failure,
+    /// Words of tables, each at most once and in any order. All other words are those with which the manifest has the tables begin.
     pub words: Vec<TableWord>,
 }

@@ -16,7 +16,6 @@ use Rattle.cli_inspection.specs.declared.untried.Untold.TheVariants as untold
 abbrev pub status_untold : Untold → ℕ
 status_untold (untold.Fault fault) = status_of fault
 status_untold (untold.Disks fault) = 1
-status_untold (untold.Queue device) = 1
 
 -- The bytes are a manifest, and the trial is one of its configuration.
 abbrev pub IsTriedOn : List ℕ → Trial → Type 0

@@ -141,7 +141,10 @@ fn trial_of<'a>(
     let seed = seed.unwrap_or(disks.seed);
     match host_trial::run(alloc, &manifest.config, &disks, seed) {
         Ok(trial) => Ok(trial),
-        Err(OrMemory::Fault(device)) => Err(Untold::Queue(device)),
+        Err(OrMemory::Fault(device)) => {
+            let fault = disks.misplaced(alloc, device, manifest.config.queues());
+            Err(Untold::Disks(fault))
+        }
         Err(OrMemory::OutOfMemory) => Err(Untold::Fault(Fault::OutOfMemory)),
     }
 }
@@ -168,7 +171,7 @@ fn print_trial<W: Write, K: Write, E: Write>(
     }
     match trial.ending {
         Ending::Finished => 0,
-        Ending::Waiting(_) | Ending::Stopped(_) => report_ending(alloc, trial.ending, err),
+        Ending::Waiting(_) | Ending::Stopped(_) => report_ending(alloc, trial, err),
     }
 }
 

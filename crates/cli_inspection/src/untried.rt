@@ -6,20 +6,18 @@ ghost use Rattle.cli_inspection.specs.Trials.{status_untold};
 
 use cli_commands::{Fault, unwritten};
 use cli_text_page::Page;
-use host_trial::Ending;
+use host_trial::{Ending, Halt, Trial};
 use std::alloc::Global;
 use std::io::Write;
-use trial_disks::{DisksFault, Wrong};
+use trial_disks::DisksFault;
 
 /// Why there is no trial.
 #[derive(Drop)]
 pub(crate) enum Untold<'a> {
     /// Memory, a file or the manifest.
     Fault(Fault<'a>),
-    /// The devices are not of the form.
+    /// The devices are not of the form, or have no queues of their own among those of the manifest.
     Disks(DisksFault),
-    /// The device of that number has a queue that the manifest lacks, or one of a device before it.
-    Queue(usize),
 }
 
 /// Reports why there is no trial, and answers the status.
@@ -31,45 +29,37 @@ pub(crate) fn report_untold<E: Write>(alloc: Global, untold: &Untold<'_>, err: &
     page.text("camr: ");
     match untold {
         Untold::Fault(fault) => return fault.report(err),
-        Untold::Disks(fault) => put_disks(fault, &mut page),
-        Untold::Queue(device) => {
-            page.text(Wrong::Queue.code());
-            page.fill(" at device {}: queue", &[*device as u64]);
-        }
+        Untold::Disks(fault) => fault.put(&mut page),
     }
     page.text("\n");
     write(page, err)
 }
 
-// Puts what is wrong with devices, where, and under which key.
-fn put_disks(fault: &DisksFault, page: &mut Page) {
-    page.text(fault.wrong.code());
-    if fault.device > 0 {
-        page.fill(" at device {}", &[fault.device as u64]);
-    }
-    if fault.failure > 0 {
-        page.fill(", failure {}", &[fault.failure as u64]);
-    }
-    if !fault.key.is_empty() {
-        page.text(": ");
-        page.foreign(fault.key.as_str());
-    }
-}
-
-/// Reports that CCBs are left, and answers the status.
-pub(crate) fn report_ending<E: Write>(alloc: Global, ending: Ending, err: &mut E) -> u8
+/// Reports that requests are left, and answers the status.
+pub(crate) fn report_ending<E: Write>(alloc: Global, trial: &Trial, err: &mut E) -> u8
     ensures { (1 ≤ result) × (result ≤ 2) }
 {
     let mut page = Page::new(alloc);
-    match ending {
-        Ending::Finished => {}
-        Ending::Waiting(count) => page.fill("camr: {} CCBs wait for ever\n", &[count as u64]),
-        Ending::Stopped(count) => page.fill(
-            "camr: the trial was stopped: {} CCBs are not finished\n",
-            &[count as u64],
-        ),
+    let (words, count) = match trial.ending {
+        Ending::Finished => ("camr: {} CCBs are left", 0),
+        Ending::Waiting(count) => ("camr: {} CCBs wait for ever", count),
+        Ending::Stopped(count) => (stopped(trial.halt), count),
+    };
+    page.fill(words, &[count as u64]);
+    if trial.unsubmitted > 0 {
+        page.fill(", {} requests were never submitted", &[trial.unsubmitted]);
     }
+    page.text("\n");
     write(page, err)
+}
+
+// By what a trial was stopped.
+fn stopped(halt: Halt) -> &'static str {
+    match halt {
+        Halt::Limit => "camr: the trial was stopped by limit: {} CCBs are not finished",
+        Halt::Until => "camr: the trial was stopped by until: {} CCBs are not finished",
+        Halt::Over => "camr: the trial was stopped: {} CCBs are not finished",
+    }
 }
 
 // Writes the line of what was refused, and answers the status.

@@ -5,7 +5,7 @@ ghost use Rattle.std.specs.Prelude.{◌≡◌, bytes_eq, find};
 ghost use Rattle.explain_codes.specs.Names.{code_named, codes_of, name_of, series_of};
 
 use crate::calls::{CALLS, QUEUES, SHARED};
-use crate::files::{JOURNALS, MANIFESTS, SCENARIOS, TRACES};
+use crate::files::{DEVICES, JOURNALS, MANIFESTS, SCENARIOS, TRACES};
 use crate::policies::POLICIES;
 use crate::programs::{BYTES, SHAPES, TEXTS};
 use std::fmt;
@@ -26,7 +26,7 @@ pub struct Series {
 }
 
 /// All codes, a row for each letter.
-pub const SERIES: [Series; 11] = [
+pub const SERIES: [Series; 12] = [
     Series {
         letter: b'A',
         end: TEXTS.len() as u8 + 1,
@@ -70,6 +70,10 @@ pub const SERIES: [Series; 11] = [
     Series {
         letter: b'L',
         end: SHARED.len() as u8 + 1,
+    },
+    Series {
+        letter: b'D',
+        end: DEVICES.len() as u8 + 1,
     },
 ];
 

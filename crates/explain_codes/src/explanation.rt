@@ -3,7 +3,7 @@
 
 use crate::calls::{CALLS, QUEUES, SHARED};
 use crate::code::Code;
-use crate::files::{JOURNALS, MANIFESTS, SCENARIOS, TRACES};
+use crate::files::{DEVICES, JOURNALS, MANIFESTS, SCENARIOS, TRACES};
 use crate::policies::POLICIES;
 use crate::programs::{BYTES, SHAPES, TEXTS};
 use cli_text_page::Page;
@@ -30,6 +30,8 @@ pub enum Shown {
     Scenario,
     /// `replay`, of a trace.
     Trace,
+    /// `try`, of a file of devices.
+    Devices,
     /// The program itself, by the words of its command line.
     Command,
     /// No file: a call of a host.
@@ -88,6 +90,7 @@ impl Code {
             b'Q' => QUEUES,
             b'X' => TRACES,
             b'L' => SHARED,
+            b'D' => DEVICES,
             _ => &[],
         }
     }
@@ -111,6 +114,7 @@ impl Shown {
             Shown::CodeHead => "The beginning of a program's `code`",
             Shown::Scenario => "A scenario",
             Shown::Trace => "A trace",
+            Shown::Devices => "A file of devices",
             Shown::Command => "A command",
             Shown::Call => "A call of a host",
         }

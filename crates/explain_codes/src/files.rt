@@ -1,4 +1,4 @@
-// What there is to say of the codes of manifests, scenarios and traces. A row stands at the place of its number.
+// What there is to say of the codes of manifests, scenarios, journals, traces and devices of a trial. A row stands at the place of its number.
 
 use crate::explanation::{Explanation, POLICY, Shown};
 
@@ -197,5 +197,54 @@ pub(crate) const TRACES: &[Explanation] = &[
         shown: Shown::Trace,
         example: "camr-trace 2 continued\nnumbers 0 0 0\nclock 0\nopenings 0 0\nend 0 0 0 0",
         mended: "camr-trace 2 continued\nnumbers 0 0 0\nclock 0\nopenings 0 1\nend 0 0 0 0",
+    },
+];
+
+/// The codes from D1 on, of files of devices.
+pub(crate) const DEVICES: &[Explanation] = &[
+    // D1
+    Explanation {
+        meaning: "the text is not TOML",
+        cause: "a quote, a bracket or a value is missing",
+        advice: None,
+        shown: Shown::Devices,
+        example: "version = 1\nseed =\nrequests = 1\n[[device]]\ndepth = 1\nlatency = 5",
+        mended: "version = 1\nseed = 1\nrequests = 1\n[[device]]\ndepth = 1\nlatency = 5",
+    },
+    // D2
+    Explanation {
+        meaning: "an unknown key, or a key that is missing",
+        cause: "a key is misspelt, or stands in another table than its own",
+        advice: None,
+        shown: Shown::Devices,
+        example: "version = 1\nseed = 1\nrequests = 1\n[[device]]\ndepth = 1\nlatensy = 5",
+        mended: "version = 1\nseed = 1\nrequests = 1\n[[device]]\ndepth = 1\nlatency = 5",
+    },
+    // D3
+    Explanation {
+        meaning: "a value of another type, or a completion that is not spelled as in a line of a scenario",
+        cause: "a number in quotes, or `[device]` for `[[device]]`",
+        advice: None,
+        shown: Shown::Devices,
+        example: "version = 1\nseed = 1\nrequests = 1\n[[device]]\ndepth = \"1\"\nlatency = 5",
+        mended: "version = 1\nseed = 1\nrequests = 1\n[[device]]\ndepth = 1\nlatency = 5",
+    },
+    // D4
+    Explanation {
+        meaning: "a number that is out of its range, or a failure that no start can meet: its completion is no failure, `first` is more than `last`, or `from` is not less than `until` or than `period`",
+        cause: "`depth` is 0: a device has at least one request at a time",
+        advice: None,
+        shown: Shown::Devices,
+        example: "version = 1\nseed = 1\nrequests = 1\n[[device]]\ndepth = 0\nlatency = 5",
+        mended: "version = 1\nseed = 1\nrequests = 1\n[[device]]\ndepth = 1\nlatency = 5",
+    },
+    // D5
+    Explanation {
+        meaning: "the manifest has no such queue, or an earlier device has the queue",
+        cause: "queues are counted from 1: they are numbered from 0",
+        advice: None,
+        shown: Shown::Devices,
+        example: "version = 1\nseed = 1\nrequests = 1\n[[device]]\nqueue = 1\ndepth = 1\nlatency = 5",
+        mended: "version = 1\nseed = 1\nrequests = 1\n[[device]]\nqueue = 0\ndepth = 1\nlatency = 5",
     },
 ];

@@ -55,7 +55,7 @@ pub fn count_returns(text: &str) -> usize {
 }
 
 /// Whether a file is read as a trace: its first line begins as that of a trace does; or its first line that says something has an
-/// answer, or sums, as the lines of traces have. All other files are read as scenarios.
+/// answer, or sums, as the lines of traces have, and the file does not look like one of devices. All other files are read as scenarios.
 pub fn is_trace(bytes: &[u8]) -> bool {
     let Ok(text) = str::from_utf8(bytes) else {
         return false;
@@ -63,6 +63,9 @@ pub fn is_trace(bytes: &[u8]) -> bool {
     let text = without_mark(text);
     if begins_trace(text.trim_start()) {
         return true;
+    }
+    if is_devices(text) {
+        return false;
     }
     let first = text
         .split('\n')
@@ -77,6 +80,26 @@ pub fn is_trace(bytes: &[u8]) -> bool {
 fn begins_trace(text: &str) -> bool {
     match text.as_bytes().get(..4) {
         Some(front) => front.eq_ignore_ascii_case(b"camr"),
+        None => false,
+    }
+}
+
+/// Whether a text looks like a file of devices: a line of it begins the table of a device or of its failure, or gives `requests` or
+/// `seed` a value. No line of a scenario or of a trace does.
+pub fn is_devices(text: &str) -> bool {
+    text.split('\n')
+        .any(|line| is_of_devices(without_mark(line).trim_start()))
+}
+
+// Whether a line, without blanks before it, is one of a file of devices.
+fn is_of_devices(line: &str) -> bool {
+    line.starts_with("[[device") || gives(line, "requests") || gives(line, "seed")
+}
+
+// Whether a line gives that key a value.
+fn gives(line: &str, key: &str) -> bool {
+    match line.strip_prefix(key) {
+        Some(rest) => rest.trim_start().starts_with('='),
         None => false,
     }
 }

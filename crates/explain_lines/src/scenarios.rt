@@ -2,9 +2,9 @@
 // what is against one, and on `telling` for the report of it.
 
 use crate::firsts::{Kept, is_faulty, line_slip};
-use crate::lines::{Line, line_of, without_return};
+use crate::lines::{Line, is_devices, line_of, without_return};
 use crate::slips::{Found, Slip};
-use crate::telling::put as put_line_report;
+use crate::telling::{put as put_line_report, put_code, put_line};
 use cli_text_page::Page;
 use explain_layout::without_mark;
 use std::alloc::{AllocError, Global};
@@ -14,7 +14,8 @@ use world_calls::Version;
 const MOST_WHOLE: u64 = 8;
 
 /// Puts what there is to say of a scenario, a path and its text, over a manifest of that version, whose first line that is not of the form has that number: of this
-/// line, and of the next such lines, of eight in full. Of lines that are wrong only by the carriage return at their ends one is told of.
+/// line, and of the next such lines, of eight in full. Of lines that are wrong only by the carriage return at their ends one is told of. Of
+/// what looks like a file of devices it says that alone, and which command takes it.
 pub fn put(
     alloc: Global,
     version: Version,
@@ -29,10 +30,24 @@ pub fn put(
         has_return: false,
     };
     let line = line_of(path, text, first);
+    if is_devices(text) {
+        put_devices(&line, page);
+        return Ok(());
+    }
     told.counts(alloc, line.line)?;
     put_faulty(alloc, version, &line, page)?;
     put_after_mark(alloc, version, &line, page)?;
     put_next(alloc, path, text, first, told, page)
+}
+
+// Puts that a line is none of a scenario, since the file looks like one of devices.
+fn put_devices(line: &Line<'_>, page: &mut Page) {
+    put_line(page, line, 0, without_return(line.line).len());
+    page.text("  = here: it is no line of a scenario, and the file looks like one of devices\n");
+    put_code(page, "N1");
+    page.text("  = to mend it: `camr try MANIFEST ");
+    page.foreign(line.path);
+    page.text("` takes a file of devices\n");
 }
 
 // The version of the manifest; how many lines were found so far; and whether one of them is wrong only by the carriage return at its end.

@@ -1,6 +1,6 @@
 -- How many requests the devices of a trial got.
-use Rattle.std.specs.Prelude.{◌≡◌, ℕ, ◌<◌, ◌≤◌, ◌==◌, ◌&&◌, Bool, true, false, List, Option, None, Some, filter, length}
-use Rattle.std.specs.List.{list_any}
+use Rattle.std.specs.Prelude.{◌≡◌, ℕ, ◌<◌, ◌≤◌, ◌==◌, ◌&&◌, ◌-◌, ◌^◌, cond, map, min, Bool, true, false, List, Option, None, Some, filter, length}
+use Rattle.std.specs.List.{list_any, range_with_len, sum}
 use Rattle.world_calls.specs.declared.call.Call.{Call}
 use Rattle.world_calls.specs.declared.call.Call.TheVariants.{Submit}
 use Rattle.world_calls.specs.declared.call_answer.CallAnswer.{CallAnswer}
@@ -40,3 +40,15 @@ serves queue device = is_named queue device.queue
 abbrev pub AreSubmitted : Disks → ℕ → List Record → Type 0
 AreSubmitted disks queues records =
     (queue : ℕ) → queue < queues → list_any (serves queue) disks.devices.items ≡ true → disks.requests ≤ submissions queue records
+
+-- how many requests a queue lacks: none, if it has no device
+abbrev pub lacking : Disks → List Record → ℕ → ℕ
+lacking disks records queue = cond (list_any (serves queue) disks.devices.items) (disks.requests - submissions queue records) 0
+
+-- how many requests the queues below this one lack, one with another
+unfoldable pub unsubmitted : Disks → ℕ → List Record → ℕ
+unsubmitted disks queues records = sum (map (lacking disks records) (range_with_len 0 queues))
+
+-- a number, as far as 64 bits go
+abbrev pub up_to_64_bits : ℕ → ℕ
+up_to_64_bits number = min number (2 ^ 64 - 1)

@@ -19,6 +19,17 @@ pub enum Ending {
     Stopped(usize),
 }
 
+/// Why a trial went no further.
+#[derive(Clone, Copy, Debug, PartialEq, Eq)]
+pub enum Halt {
+    /// Nothing happens any more.
+    Over,
+    /// So many moments passed as there may be.
+    Limit,
+    /// The next moment is later than the last one that was asked for.
+    Until,
+}
+
 /// How it ended in this engine. Nothing can be started any more, or something might; all requests were submitted, or not.
 pub(crate) fn ending_of(engine: &NumberedEngine<'_>, is_over: bool, is_submitted: bool) -> Ending
     ensures ends { EndsIn result engine.now.transport engine.now.runs }

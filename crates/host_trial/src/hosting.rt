@@ -6,6 +6,7 @@ ghost use Rattle.ccb.specs.declared.cam_status.CamStatus.TheVariants.{RequestCom
 
 use crate::answers::{Draws, Schedule, Started};
 use crate::drives::Drive;
+use crate::ending::Halt;
 use crate::recorded::Recorded;
 use crate::rules::Start;
 use ccb::{CamStatus, CcbId, Completion, Place, QueueId};
@@ -31,18 +32,26 @@ pub(crate) struct Hosting<'a> {
 }
 
 impl<'a> Hosting<'a> {
-    /// Goes on for so many moments, or until nothing happens any more; and returns whether it is so that nothing does.
-    pub(crate) fn go_on(&mut self, moments: u64) -> Result<bool, AllocError>
+    /// Goes on for so many moments, or until nothing happens any more; and returns why it went no further.
+    pub(crate) fn go_on(&mut self, moments: u64) -> Result<Halt, AllocError>
         ensures { self.new.host.engine.setup ≡ self.old.host.engine.setup }
     {
         for _moment in 0..moments {
             self.start_all()?;
             let goes = self.pass()?;
             if !goes {
-                return Ok(self.next().is_none());
+                return Ok(self.halt());
             }
         }
-        Ok(false)
+        Ok(Halt::Limit)
+    }
+
+    // Why nothing was taken at the next moment: there is none, or it is too late.
+    fn halt(&self) -> Halt {
+        match self.next() {
+            Some(_) => Halt::Until,
+            None => Halt::Over,
+        }
     }
 
     // Goes on to the next moment at which something happens, and takes it; or returns that there is none.

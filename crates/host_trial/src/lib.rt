@@ -13,5 +13,5 @@ mod rules;
 mod submissions;
 mod trial;
 
-pub use ending::Ending;
+pub use ending::{Ending, Halt};
 pub use trial::{Trial, Untried, run};

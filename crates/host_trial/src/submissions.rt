@@ -1,35 +1,35 @@
 // How many requests the devices of a trial got, by the records of it. It relies on `trial_disks` for devices, and on `world_calls` for
 // records.
 
-ghost use Rattle.std.specs.Prelude.{◌≡◌, ◌≤◌, IsTrue, false, true};
+ghost use Rattle.std.specs.Prelude.{◌≡◌};
 ghost use Rattle.std.specs.List.{list_any};
-ghost use Rattle.host_trial.specs.Submitted.{AreSubmitted, is_submission, makes_ccb, serves, submissions, submits_to};
+ghost use Rattle.host_trial.specs.Submitted.{AreSubmitted, is_submission, lacking, makes_ccb, serves, submissions, submits_to, unsubmitted, up_to_64_bits};
 
 use base_chunked_list::ChunkedList;
 use trial_disks::{Device, Disks};
 use world_calls::{Call, CallAnswer, Record};
 
-/// Whether, of so many queues, each that has a device got as many requests as the file asks for.
-pub(crate) fn are_submitted(disks: &Disks, queues: u32, records: &ChunkedList<Record>) -> bool
-    ensures { IsTrue result → AreSubmitted disks.now queues records.now.items }
+/// How many requests the devices of so many queues lack that the file asks for, at most 2^64 - 1.
+pub(crate) fn unsubmitted(disks: &Disks, queues: u32, records: &ChunkedList<Record>) -> u64
+    ensures count { result ≡ up_to_64_bits (unsubmitted disks.now queues records.now.items) }
+    ensures all { result ≡ 0 → AreSubmitted disks.now queues records.now.items }
 {
+    let mut count: u64 = 0;
     for queue in 0..queues {
-        if lacks(disks, queue, records) {
-            return false;
-        }
+        count = count.saturating_add(lacking(disks, queue, records));
     }
-    true
+    count
 }
 
-// Whether a queue has a device that did not get all its requests.
-fn lacks(disks: &Disks, queue: u32, records: &ChunkedList<Record>) -> bool
-    ensures { result ≡ false → list_any (serves queue) disks.now.devices.items ≡ true → disks.now.requests ≤ submissions queue records.now.items }
+// How many requests a queue lacks: none, if it has no device.
+fn lacking(disks: &Disks, queue: u32, records: &ChunkedList<Record>) -> u64
+    ensures { result ≡ lacking disks.now records.now.items queue }
 {
     if is_served(&disks.devices, queue) {
         let made = submissions(records, queue) as u64;
-        made < disks.requests
+        disks.requests.saturating_sub(made)
     } else {
-        false
+        0
     }
 }
 

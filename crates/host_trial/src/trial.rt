@@ -5,17 +5,17 @@ ghost use Rattle.std.specs.List.{list_any};
 ghost use Rattle.trace.specs.HasText.{AllHaveText};
 ghost use Rattle.world.specs.World.{queue_count};
 ghost use Rattle.host_trial.specs.Misplaced.{IsMisplaced, IsUntried, has_queue, is_beyond, is_misplaced};
-ghost use Rattle.host_trial.specs.Submitted.{AreSubmitted};
+ghost use Rattle.host_trial.specs.Submitted.{AreSubmitted, unsubmitted, up_to_64_bits};
 ghost use Rattle.host_trial.specs.Tried.{IsTrial};
 ghost use Rattle.host_trial.specs.declared.ending.Ending.TheVariants.{Finished};
 
 use crate::answers::Schedule;
 use crate::drives::Drive;
-use crate::ending::Ending;
+use crate::ending::{Ending, Halt};
 use crate::hosting::Hosting;
 use crate::patience::most_moments;
 use crate::recorded::Recorded;
-use crate::submissions::are_submitted;
+use crate::submissions::unsubmitted;
 use base::OrMemory;
 use ccb::QueueId;
 use engine_config::Config;
@@ -28,6 +28,10 @@ use world_calls::Trace;
 pub struct Trial {
     pub trace: Trace,
     pub ending: Ending,
+    /// Why it went no further.
+    pub halt: Halt,
+    /// How many requests were never submitted, of those that the devices were to get, at most 2^64 - 1.
+    pub unsubmitted: u64,
 }
 
 /// Why there was no trial: memory was refused, or the device of that number, from 1, has a queue that the configuration lacks, or one of a
@@ -42,6 +46,7 @@ pub fn run(alloc: Global, config: &Config, disks: &Disks, seed: u64) -> Result<T
     ensures untried { IfErr result (IsUntried disks.now.devices.items (queue_count config.now)) }
     // It is finished only if each device got all its requests.
     ensures submitted { IfOk result (λ it. it.ending ≡ Finished → AreSubmitted disks.now (queue_count config.now) it.trace.records.items) }
+    ensures unsubmitted { IfOk result (λ it. it.unsubmitted ≡ up_to_64_bits (unsubmitted disks.now (queue_count config.now) it.trace.records.items)) }
 {
     let drives = drives_of(alloc, config, disks)?;
     match tried(alloc, config, disks, drives, seed) {
@@ -61,6 +66,7 @@ fn tried(
     ensures tried { IfOk result (λ it. IsTrial config.now it.trace it.ending) }
     ensures spelled { IfOk result (λ it. AllHaveText it.trace.version it.trace.records.items) }
     ensures submitted { IfOk result (λ it. it.ending ≡ Finished → AreSubmitted disks.now (queue_count config.now) it.trace.records.items) }
+    ensures unsubmitted { IfOk result (λ it. it.unsubmitted ≡ up_to_64_bits (unsubmitted disks.now (queue_count config.now) it.trace.records.items)) }
 {
     let moments = most_moments(disks, drives.len());
     let mut hosting = Hosting {
@@ -72,10 +78,17 @@ fn tried(
         requests: disks.requests,
         until: disks.until,
     };
-    let is_over = hosting.go_on(moments)?;
-    let is_submitted = are_submitted(disks, config.queues(), hosting.host.records());
-    let (trace, ending) = hosting.host.into_trial(is_over, is_submitted);
-    Ok(Trial { trace, ending })
+    let halt = hosting.go_on(moments)?;
+    let unsubmitted = unsubmitted(disks, config.queues(), hosting.host.records());
+    let (trace, ending) = hosting
+        .host
+        .into_trial(halt == Halt::Over, unsubmitted == 0);
+    Ok(Trial {
+        trace,
+        ending,
+        halt,
+        unsubmitted,
+    })
 }
 
 // The device of each queue that has one.

@@ -124,11 +124,12 @@ fn shown<R: Threads + Wait + Sync>(
         Shown::Migration => carried_out(rt, alloc, &["migrate", "m.toml", "n.toml"], files),
         Shown::Scenario => carried_out(rt, alloc, &["run", "m.toml", "t.txt"], files),
         Shown::Trace => carried_out(rt, alloc, &["replay", "m.toml", "t.txt"], files),
+        Shown::Devices => carried_out(rt, alloc, &["try", "m.toml", "t.txt"], files),
         _ => carried_out(rt, alloc, &["check", "m.toml"], files),
     }
 }
 
-// The manifest of a text, or that over which a scenario or a trace is carried out.
+// The manifest of a text, or that over which a scenario or a trace is carried out, or whose policies are tried on devices.
 fn manifest_of(alloc: Global, shown: Shown, text: &str) -> Result<String, AllocError> {
     match shown {
         Shown::Manifest | Shown::Migration => with_program(alloc, text, "asm", POLICY, ""),
@@ -136,7 +137,7 @@ fn manifest_of(alloc: Global, shown: Shown, text: &str) -> Result<String, AllocE
         Shown::Head => with_program(alloc, BEGINNING, "asm", text, POLICY),
         Shown::Code => with_program(alloc, BEGINNING, "code", text, ""),
         Shown::CodeHead => with_program(alloc, BEGINNING, "code", text, POLICY_BYTES),
-        Shown::Scenario | Shown::Trace | Shown::Command | Shown::Call => {
+        Shown::Scenario | Shown::Trace | Shown::Devices | Shown::Command | Shown::Call => {
             with_program(alloc, BEGINNING, "asm", POLICY, "")
         }
     }

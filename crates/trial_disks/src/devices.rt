@@ -2,7 +2,7 @@
 
 use crate::data::{Device, Failure};
 use crate::failures::failure;
-use crate::fault::{DisksError, KeyFault, Wrong, fault_of};
+use crate::fault::{DisksError, Form, KeyFault, Wrong, fault_of};
 use crate::keys::{Bounds, check_keys, given, number, number_or, short_number_or, span};
 use manifest_form::document::{array, has};
 use std::alloc::{AllocError, Global};
@@ -30,7 +30,8 @@ pub(crate) fn device(alloc: Global, value: &Value, number: usize) -> Result<Devi
         return Ok(device);
     }
     let Some(failures) = array(value, "failure") else {
-        return Err(fault_of(Wrong::Form, "failure").at(alloc, number, 0));
+        let fault = fault_of(Wrong::Form(Form::Failures), "failure");
+        return Err(fault.at(alloc, number, 0));
     };
     add_all(alloc, &mut device.failures, failures.as_slice(), number)?;
     Ok(device)
@@ -45,7 +46,7 @@ fn alone<'a>(alloc: Global, value: &'a Value) -> Result<Device, KeyFault<'a>> {
     )?;
     let latency = match span(value, "latency")? {
         Some(latency) => latency,
-        None => return Err(fault_of(Wrong::Key, "latency")),
+        None => return Err(fault_of(Wrong::Missing, "latency")),
     };
     Ok(Device {
         queue: given(value, "queue", QUEUES)?,

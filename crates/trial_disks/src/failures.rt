@@ -2,7 +2,7 @@
 
 use crate::completions::completion;
 use crate::data::{Failure, LAST_TIME, MILLION};
-use crate::fault::KeyFault;
+use crate::fault::{KeyFault, Never, Wrong, fault_of};
 use crate::keys::{Bounds, check_keys, number_or, span};
 use toml::Value;
 
@@ -42,8 +42,17 @@ const WORDS: Bounds = Bounds {
     most: 4_294_967_295,
 };
 
-/// A failure.
+/// A failure. One that no start can ever meet is refused.
 pub(crate) fn failure(value: &Value) -> Result<Failure, KeyFault<'_>> {
+    let failure = written(value)?;
+    match never(&failure) {
+        Some((key, never)) => Err(fault_of(Wrong::Never(never), key)),
+        None => Ok(failure),
+    }
+}
+
+// The failure as it is written, each number within its range.
+fn written(value: &Value) -> Result<Failure, KeyFault<'_>> {
     check_keys(value, &["completion"], ALL)?;
     Ok(Failure {
         completion: completion(value, "completion")?,
@@ -60,4 +69,25 @@ pub(crate) fn failure(value: &Value) -> Result<Failure, KeyFault<'_>> {
         heals_on_advice: number_or(value, "heals-on-advice", WORDS, 0)?,
         heals_in: number_or(value, "heals-in", ANY, 0)?,
     })
+}
+
+// Why no start ever meets a failure, if none does, and the key that says so.
+fn never(failure: &Failure) -> Option<(&'static str, Never)> {
+    let Failure {
+        from,
+        until,
+        period,
+        first,
+        last,
+        ..
+    } = *failure;
+    if from >= until {
+        Some(("from", Never::Window { from, until }))
+    } else if period > 0 && from >= period {
+        Some(("from", Never::Period { from, period }))
+    } else if first > last {
+        Some(("first", Never::Patch { first, last }))
+    } else {
+        None
+    }
 }

@@ -1,38 +1,86 @@
-// What is wrong with a file of devices.
+// What is wrong with a file of devices. It relies on `base` for memory that is refused.
 
+use crate::keys::Bounds;
 use base::OrMemory;
 use std::alloc::Global;
-use std::fmt;
-
-/// What is wrong.
-#[derive(Clone, Copy, Debug, PartialEq, Eq)]
-pub enum Wrong {
-    /// The text is no TOML.
-    Text,
-    /// A key is missing, or is none.
-    Key,
-    /// A value is not of its type or form.
-    Form,
-    /// A number is out of its range.
-    Range,
-    /// There is no such queue, or two devices have it.
-    Queue,
-}
 
 /// The first fault of a file: what is wrong, under which key, and in which device and which of its failures, from 1; 0 if in none.
-#[derive(Debug, Drop)]
+#[derive(Drop)]
 pub struct DisksFault {
-    pub wrong: Wrong,
-    pub device: usize,
-    pub failure: usize,
-    pub key: String,
+    pub(crate) wrong: Wrong,
+    pub(crate) device: usize,
+    pub(crate) failure: usize,
+    /// The key, if it is about one; of a text that is no TOML, why it is none.
+    pub(crate) key: String,
 }
 
 /// Why a file was not read: memory was refused, or it has that fault.
 pub type DisksError = OrMemory<DisksFault>;
 
+/// What is wrong with a file, with a key of it, or with what stands under the key.
+#[derive(Clone, Copy)]
+pub(crate) enum Wrong {
+    /// The text is no TOML, at this line and this character of it, both from 1.
+    Text { line: u64, column: u64 },
+    /// The key is missing.
+    Missing,
+    /// There is no such key.
+    Unknown,
+    /// The value is none of those.
+    Form(Form),
+    /// The number is not within these bounds.
+    Outside { number: i64, bounds: Bounds },
+    /// The least number of a span is more than its most.
+    Turned { least: u64, most: u64 },
+    /// No start ever meets the failure.
+    Never(Never),
+    /// The device has no queue of its own.
+    Queue(Misplaced),
+}
+
+/// What a value is to be.
+#[derive(Clone, Copy)]
+pub(crate) enum Form {
+    Table,
+    Devices,
+    Failures,
+    Number,
+    Span,
+    Text,
+    /// Of a completion: three words, and each of them.
+    Completion,
+    Status,
+    Scsi,
+    Sense,
+}
+
+/// Why no start ever meets a failure.
+#[derive(Clone, Copy)]
+pub(crate) enum Never {
+    /// By its completion a request is in progress, or is completed.
+    InProgress,
+    Completed,
+    /// Its window is empty.
+    Window { from: u64, until: u64 },
+    /// Its window begins when the period is over, or later.
+    Period { from: u64, period: u64 },
+    /// Its patch is empty.
+    Patch { first: u64, last: u64 },
+}
+
+/// Why a device has no queue of its own.
+#[derive(Clone, Copy)]
+pub(crate) enum Misplaced {
+    /// The manifest has only so many queues.
+    Beyond { queue: u64, queues: u64 },
+    /// The device of that number has the queue.
+    Taken { queue: u64, device: u64 },
+    /// That one names no queue either.
+    Unnamed { device: u64 },
+}
+
 /// The fault of a key, before it is known in which device.
-#[derive(Clone, Copy, Debug)]
+#[derive(Clone, Copy)]
 pub(crate) struct KeyFault<'a> {
     pub(crate) wrong: Wrong,
     pub(crate) key: &'a str,
@@ -58,21 +106,15 @@ impl KeyFault<'_> {
     }
 }
 
-impl Wrong {
-    /// Its code.
-    pub fn code(self) -> &'static str {
-        match self {
-            Wrong::Text => "D1",
-            Wrong::Key => "D2",
-            Wrong::Form => "D3",
-            Wrong::Range => "D4",
-            Wrong::Queue => "D5",
+impl DisksFault {
+    /// Its code, D1 to D5.
+    pub fn code(&self) -> &'static str {
+        match self.wrong {
+            Wrong::Text { .. } => "D1",
+            Wrong::Missing | Wrong::Unknown => "D2",
+            Wrong::Form(_) => "D3",
+            Wrong::Outside { .. } | Wrong::Turned { .. } | Wrong::Never(_) => "D4",
+            Wrong::Queue(_) => "D5",
         }
-    }
-}
-
-impl fmt::Display for Wrong {
-    fn fmt<W: fmt::Write>(&self, f: &mut fmt::Formatter<W>) -> fmt::Result {
-        f.write_str(self.code())
     }
 }

@@ -1,7 +1,7 @@
 // The numbers under keys, each with its range. It relies on `manifest_form` for what stands under a key.
 
 use crate::data::Span;
-use crate::fault::{KeyFault, Wrong, fault_of};
+use crate::fault::{Form, KeyFault, Wrong, fault_of};
 use manifest_form::document::{elements, has, has_keys, integer};
 use toml::Value;
 
@@ -11,6 +11,15 @@ pub(crate) struct Bounds {
     pub(crate) least: u64,
     pub(crate) most: u64,
 }
+
+/// The numbers of 32 bits, as which also times are told.
+const SHORT: Bounds = Bounds {
+    least: 0,
+    most: 4_294_967_295,
+};
+
+/// What stands under a key of a number, and is none.
+const NO_NUMBER: Wrong = Wrong::Form(Form::Number);
 
 /// The number under a key, if one is there.
 pub(crate) fn given(
@@ -22,11 +31,11 @@ pub(crate) fn given(
         return Ok(None);
     }
     let Some(number) = integer(value, key) else {
-        return Err(fault_of(Wrong::Form, key));
+        return Err(fault_of(NO_NUMBER, key));
     };
-    match within(number, bounds) {
-        Some(number) => Ok(Some(number)),
-        None => Err(fault_of(Wrong::Range, key)),
+    match within(number, key, bounds) {
+        Ok(number) => Ok(Some(number)),
+        Err(fault) => Err(fault),
     }
 }
 
@@ -51,11 +60,11 @@ pub(crate) fn short_number_or(
         return Ok(other);
     }
     let Some(number) = integer(value, key) else {
-        return Err(fault_of(Wrong::Form, key));
+        return Err(fault_of(NO_NUMBER, key));
     };
     match u32::try_from(number) {
         Ok(number) => Ok(number),
-        Err(_) => Err(fault_of(Wrong::Range, key)),
+        Err(_) => Err(outside(number, key, SHORT)),
     }
 }
 
@@ -67,23 +76,21 @@ pub(crate) fn number(
 ) -> Result<u64, KeyFault<'static>> {
     match given(value, key, bounds)? {
         Some(number) => Ok(number),
-        None => Err(fault_of(Wrong::Key, key)),
+        None => Err(fault_of(Wrong::Missing, key)),
     }
 }
 
-// The number, if it is within the bounds.
-fn within(number: i64, bounds: Bounds) -> Option<u64> {
+// The number under that key, if it is within the bounds.
+fn within(number: i64, key: &'static str, bounds: Bounds) -> Result<u64, KeyFault<'static>> {
     match u64::try_from(number) {
-        Ok(number) if bounds.least <= number && number <= bounds.most => Some(number),
-        _ => None,
+        Ok(number) if bounds.least <= number && number <= bounds.most => Ok(number),
+        _ => Err(outside(number, key, bounds)),
     }
 }
 
-/// The times that may be asked for.
-const TIMES: Bounds = Bounds {
-    least: 0,
-    most: 4_294_967_295,
-};
+fn outside(number: i64, key: &'static str, bounds: Bounds) -> KeyFault<'static> {
+    fault_of(Wrong::Outside { number, bounds }, key)
+}
 
 /// How long something takes, if that is said: a number, or the least and the greatest.
 pub(crate) fn span(value: &Value, key: &'static str) -> Result<Option<Span>, KeyFault<'static>> {
@@ -92,11 +99,14 @@ pub(crate) fn span(value: &Value, key: &'static str) -> Result<Option<Span>, Key
     }
     let (least, most) = match ends(value, key) {
         Some(ends) => ends,
-        None => return Err(fault_of(Wrong::Form, key)),
+        None => return Err(fault_of(Wrong::Form(Form::Span), key)),
     };
-    match (within(least, TIMES), within(most, TIMES)) {
-        (Some(least), Some(most)) if least <= most => Ok(Some(Span { least, most })),
-        _ => Err(fault_of(Wrong::Range, key)),
+    let least = within(least, key, SHORT)?;
+    let most = within(most, key, SHORT)?;
+    if least <= most {
+        Ok(Some(Span { least, most }))
+    } else {
+        Err(fault_of(Wrong::Turned { least, most }, key))
     }
 }
 
@@ -122,17 +132,17 @@ pub(crate) fn check_keys<'a>(
     optional: &[&'static str],
 ) -> Result<(), KeyFault<'a>> {
     let Value::Table(_) = value else {
-        return Err(fault_of(Wrong::Form, ""));
+        return Err(fault_of(Wrong::Form(Form::Table), ""));
     };
     if has_keys(value, required, optional) {
         return Ok(());
     }
     for key in required {
         if !has(value, key) {
-            return Err(fault_of(Wrong::Key, key));
+            return Err(fault_of(Wrong::Missing, key));
         }
     }
-    Err(fault_of(Wrong::Key, unknown(value, required, optional)))
+    Err(fault_of(Wrong::Unknown, unknown(value, required, optional)))
 }
 
 // The first key of a table that is none of these.

@@ -1,14 +1,17 @@
-// A whole file of devices. It relies on `devices` for each of them, and on `toml` for the text.
+// A whole file of devices. It relies on `devices` for each of them, on `toml` for the text, and on
+// `explain_layout` for its lines.
 
 use crate::data::{Device, Disks, LAST_TIME};
 use crate::devices::device;
 use crate::failures::ANY;
-use crate::fault::{DisksError, KeyFault, Wrong, fault_of};
+use crate::fault::{DisksError, Form, KeyFault, Wrong, fault_of};
 use crate::keys::{Bounds, check_keys, number, number_or};
 use base::OrMemory;
+use explain_layout::line_at;
 use manifest_form::document::array;
 use std::alloc::{AllocError, Global};
 use toml::Value;
+use toml::de::Error;
 
 const VERSIONS: Bounds = Bounds { least: 1, most: 1 };
 
@@ -31,9 +34,22 @@ const LIMITS: Bounds = Bounds {
 pub fn read(alloc: Global, text: &str) -> Result<Disks, DisksError> {
     match toml::table_from_str(alloc, text) {
         Ok(table) => read_document(alloc, &Value::Table(table)),
-        Err(error) if error.is_memory() => Err(OrMemory::OutOfMemory),
-        Err(_) => Err(fault_of(Wrong::Text, "").at(alloc, 0, 0)),
+        Err(error) => Err(no_toml(alloc, text, &error)),
     }
+}
+
+// Where a text is no TOML, and why. An error that is nowhere is one for want of memory.
+fn no_toml(alloc: Global, text: &str, error: &Error) -> DisksError {
+    let Some(span) = error.span() else {
+        return OrMemory::OutOfMemory;
+    };
+    let line = line_at(text, span.start);
+    let before = line.text.get(..line.column).unwrap_or("").chars().count();
+    let wrong = Wrong::Text {
+        line: line.number as u64,
+        column: before.saturating_add(1) as u64,
+    };
+    fault_of(wrong, error.message()).at(alloc, 0, 0)
 }
 
 fn read_document(alloc: Global, value: &Value) -> Result<Disks, DisksError> {
@@ -42,7 +58,7 @@ fn read_document(alloc: Global, value: &Value) -> Result<Disks, DisksError> {
         Err(fault) => return Err(fault.at(alloc, 0, 0)),
     };
     let Some(devices) = array(value, "device") else {
-        return Err(fault_of(Wrong::Form, "device").at(alloc, 0, 0));
+        return Err(fault_of(Wrong::Form(Form::Devices), "device").at(alloc, 0, 0));
     };
     add_all(alloc, &mut disks.devices, devices.as_slice())?;
     Ok(disks)

@@ -81,7 +81,7 @@ pub(crate) const MANIFESTS: &[Explanation] = &[
     // M9
     Explanation {
         meaning: "of `migrate` alone: the version is that one already, or a later one",
-        cause: "the manifest was migrated before",
+        cause: "the manifest was migrated before; from version 2, `migrate --to 3` leads on",
         advice: None,
         shown: Shown::Migration,
         example: "version = 2\ncontrollers = 1\n[[queue]]\nopenings = 1\ncontroller = 0\nprogram = \"p1\"",

@@ -66,7 +66,7 @@ pub(crate) const POLICIES: &[Explanation] = &[
     },
     // V7
     Explanation {
-        meaning: "an argument breaks the helper's rule: for helpers 6 to 8, if the table is not one known number or the index may reach its length; for helpers 9 and 10, if the bytes may not lie in the stack",
+        meaning: "an argument breaks the helper's rule: a freeze may be 0, or the run may not hold it; a number may be out of its range; for helpers 6 to 8 the table is not one known number, or the index may reach its length; for helpers 9 and 10 the bytes may not lie in the stack",
         cause: "a freeze that may be 0 is released, or was given back before; a number is not bounded",
         advice: Some(
             "bound the argument before the call; test a freeze for 0 before it is given back",

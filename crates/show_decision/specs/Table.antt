@@ -70,9 +70,9 @@ pub record AreKeyTexts (config : Setup) (lines : List CarriedLine) (failure : Fa
   pub each : (key : ℕ) → key < count → IsKeyText config lines failure response key (text_at keys key)
   pub text_is : text ≡ flat_map (λ rows. rows) keys
 
--- why there is no table: no format has the response code, or the question has that fault
+-- why there is no table: the question has that fault; or it has none, and no format has the response code
 abbrev pub WhyNoTable : Setup → Question → Undecided → Type 0
-WhyNoTable config question Sense = IsKnown (response_of question) → ⊥
+WhyNoTable config question Sense = IsPossible config question × (IsKnown (response_of question) → ⊥)
 WhyNoTable config question fault = IsFault config question fault
 
 -- memory was refused, or that is why

@@ -9,7 +9,7 @@ use Rattle.show_question.specs.declared.Failure.{Failure}
 use Rattle.show_question.specs.declared.Question.{Question}
 use Rattle.host_decision.specs.Answered.{IsDecided}
 use Rattle.host_decision.specs.Asked.{AreLinesOf, outcome_of}
-use Rattle.host_decision.specs.Faults.{IsFault}
+use Rattle.host_decision.specs.Faults.{IsFault, IsPossible}
 use Rattle.host_decision.specs.Ran.{IsUndecided}
 use Rattle.host_decision.specs.declared.decided.Decided.{Decided}
 use Rattle.host_decision.specs.declared.undecided.Undecided.{Undecided}
@@ -38,11 +38,11 @@ pub record IsTold (config : Setup) (question : Question) (old new : Option (List
   pub is_last : IsLastLine config question.failure decided last
   pub output : Appends old new (account ++ last)
 
--- why nothing is decided: the question has that fault, or an engine with its lines does
+-- why nothing is decided: the question has that fault; or it has none, and an engine with its lines has that one
 abbrev pub WhyNot : Setup → Question → Undecided → Type 0
 WhyNot config question fault =
     IsFault config question fault
-    ⊎ ((lines : List CarriedLine) × AreLinesOf config question lines × IsUndecided config lines (outcome_of question.failure) (Fault fault))
+    ⊎ (IsPossible config question × (lines : List CarriedLine) × AreLinesOf config question lines × IsUndecided config lines (outcome_of question.failure) (Fault fault))
 
 -- memory was refused, or that is why
 abbrev pub IsUntold : Setup → Question → OrMemory Undecided → Type 0

@@ -14,5 +14,5 @@ returns-in_err-lines-clause-refused c =
 pub returns-in_err-decided-clause-refused : goal.returns-in_err-decided-clause-refused
 returns-in_err-decided-clause-refused c =
     let p = err_from_is_err_and c.from_residual-in_err-decided.result c.from_residual-in_err-decided.ensures.1 in
-    rw (p.1, p.2) (undecided c.args.config.now c.args.question.now c.in_ok-lines.lines.items _ c.in_ok-lines.ensures.lines
+    rw (p.1, p.2) (undecided c.args.config.now c.args.question.now c.in_ok-lines.lines.items _ c.in_ok-lines.ensures.possible c.in_ok-lines.ensures.lines
     (subst (λ (lines : List CarriedLine). IsUndecided c.args.config.now lines (outcome_of c.args.question.now.failure) c.in_err-decided.field-0.0) c.deref.ensures.value c.in_err-decided.ensures.undecided))

@@ -1,5 +1,5 @@
 -- Queue by queue, how many requests were not submitted, and that all were if that is none.
-use Rattle.std.proofs.Common.{◌≡◌, ◌∙◌, ℕ, ◌+◌, ◌-◌, ◌≤◌, zero, suc, Bool, cond, List, true, ap, inl, inr, subst, sym, arith}
+use Rattle.std.proofs.Common.{◌≡◌, ◌∙◌, ℕ, ◌+◌, ◌-◌, ◌≤◌, zero, suc, Bool, cond, List, true, ap, inl, inr, refl, subst, sym, arith}
 use Rattle.std.proofs.Math.Numerals.{add-one}
 use Rattle.std.proofs.lemmas.List.FromFn.{sum_by-map-range_with_len_more}
 use Rattle.std.specs.List.{list_any}
@@ -16,8 +16,14 @@ one_further disks queue records before this it within served = elim (cases_eq it
   | inr apart ↦ before it (omega (arith, within, apart)) served
 ]
 
+-- no queue lacks anything
+pub none : (disks : Disks) (records : List Record) → 0 ≡ up_to_64_bits (unsubmitted disks 0 records)
+unfolding unsubmitted
+none disks records = refl
+
 -- with one queue more, what that one lacks is added
 more : (disks : Disks) (queue : ℕ) (records : List Record) → unsubmitted disks (queue + 1) records ≡ unsubmitted disks queue records + lacking disks records queue
+unfolding unsubmitted
 more disks queue records = sum_by-map-range_with_len_more (λ (n : ℕ). n) (lacking disks records) 0 queue queue (omega arith)
 
 -- the same, as far as 64 bits go

@@ -14,6 +14,13 @@ pub(crate) fn unsubmitted(disks: &Disks, queues: u32, records: &ChunkedList<Reco
     ensures count { result ≡ up_to_64_bits (unsubmitted disks.now queues records.now.items) }
     ensures all { result ≡ 0 → AreSubmitted disks.now queues records.now.items }
 {
+    sum_of_lacking(disks, queues, records)
+}
+
+// The sum of what each queue lacks.
+fn sum_of_lacking(disks: &Disks, queues: u32, records: &ChunkedList<Record>) -> u64
+    ensures { result ≡ up_to_64_bits (unsubmitted disks.now queues records.now.items) }
+{
     let mut count: u64 = 0;
     for queue in 0..queues {
         count = count.saturating_add(lacking(disks, queue, records));

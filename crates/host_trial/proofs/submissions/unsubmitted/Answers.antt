@@ -1,5 +1,10 @@
-use Rattle.host_trial.proofs.Submitted.{all_submitted}
+use Rattle.host_trial.proofs.Submitted.{more_bits, none}
 use Rattle.host_trial.proofs.submissions.unsubmitted.Goals as goal
 
-pub returns-clause-all : goal.returns-clause-all
-returns-clause-all c = all_submitted c.args.disks.now c.args.records.now.items c.args.queues c.sum_of_lacking.result c.sum_of_lacking.ensures
+pub loop-queue-init : goal.loop-queue-init
+loop-queue-init c = none c.args.disks.now c.args.records.now.items
+
+pub loop-queue-preserved : goal.loop-queue-preserved
+loop-queue-preserved c =
+    more_bits c.args.disks.now c.loop-queue.queue c.args.records.now.items c.loop-queue.count c.lacking.result c.loop-queue.invariant c.lacking.ensures c.saturating_add-count.result
+    c.saturating_add-count.ensures

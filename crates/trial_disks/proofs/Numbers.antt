@@ -1,5 +1,5 @@
 -- What stands under a key, by whether something does.
-use Rattle.std.proofs.Common.{◌≡◌, ℕ, ℤ, pos, inl, inr, Option, Some, None, IfSome, Bool, false, is_some, unwrap_or, List, [], ◌∷◌, map, true≢false, refl, ap, sym, subst, ◌∙◌}
+use Rattle.std.proofs.Common.{◌≡◌, ℕ, ℤ, pos, inr, Option, Some, None, IfSome, false, is_some, unwrap_or, List, [], ◌∷◌, map, true≢false, refl, ap, sym, subst, ◌∙◌}
 use Rattle.std.proofs.lemmas.Option.{none-some}
 use Rattle.toml.specs.Data.{Data, get, as_integer}
 use Rattle.toml.specs.declared.value.Value.{Value}

@@ -1,9 +1,12 @@
 -- What a file of devices says: of each number of `Disks`, what stands under its key, or what is meant where nothing does.
-use Rattle.std.specs.Prelude.{◌≡◌, ◌≤◌, ◌⊎◌, ◌^◌, ℕ, ℤ, pos, List, [], ◌∷◌, Option, Some, None, codes, map}
-use Rattle.std.specs.List.{AllZip}
+use Rattle.std.specs.Prelude.{◌≡◌, ◌≢◌, ◌≤◌, ◌<◌, ◌⊎◌, ◌^◌, ◌==◌, ℕ, Bool, ℤ, pos, List, [], ◌∷◌, Option, Some, None, codes, length, map}
+use Rattle.std.specs.List.{AllZip, after_first, before_first, position_or_len}
 use Rattle.toml.specs.Data.{Data, table, Members, get, as_integer}
 use Rattle.toml.specs.Parse.{parse_document}
-use Rattle.manifest_form.specs.Document.{elements_at, integer_at}
+use Rattle.ccb.specs.Completion.{Outcome}
+use Rattle.ccb.specs.declared.cam_status.CamStatus.TheVariants.{RequestCompleted}
+use Rattle.manifest_form.specs.Document.{elements_at, integer_at, text_at}
+use Rattle.trace_lines.specs.Texts.{byte_text, sense_text, status_text}
 use Rattle.trial_disks.specs.declared.data.Span.{Span}
 use Rattle.trial_disks.specs.declared.data.Failure.{Failure}
 use Rattle.trial_disks.specs.declared.data.Device.{Device}
@@ -41,8 +44,35 @@ abbrev pub IsSpanGiven : List ℕ → Data → Option Span → Type 0
 IsSpanGiven key entry None = get key entry ≡ None
 IsSpanGiven key entry (Some span) = IsSpan key entry span
 
+abbrev pub is_blank : ℕ → Bool
+is_blank byte = byte == 32
+
+-- The words are three, and the blanks between them are the first two.
+pub record AreThree (words first second third : List ℕ) : Type 0 where
+  pub one : position_or_len is_blank words < length words
+  pub two : position_or_len is_blank (after_first is_blank words) < length (after_first is_blank words)
+  pub front : first ≡ before_first is_blank words
+  pub middle : second ≡ before_first is_blank (after_first is_blank words)
+  pub back : third ≡ after_first is_blank (after_first is_blank words)
+
+-- The words are the CAM status, the SCSI status and the sense data, each as a line of a trace has it; and no request is completed by it.
+pub record IsSpelled (words : List ℕ) (completion : Outcome) : Type 0 where
+  pub status : List ℕ
+  pub scsi : List ℕ
+  pub sense : List ℕ
+  pub three : AreThree words status scsi sense
+  pub status_is : status_text completion.status ≡ Some status
+  pub scsi_is : byte_text completion.scsi ≡ Some scsi
+  pub sense_is : sense_text completion.sense ≡ Some sense
+  pub failed : completion.status ≢ RequestCompleted
+
+-- The completion is spelled under the key.
+abbrev pub IsCompletionAt : List ℕ → Data → Outcome → Type 0
+IsCompletionAt key entry completion = (words : List ℕ) × (text_at key entry ≡ Some words) × IsSpelled words completion
+
 -- A failure is what its table says. Where the table lacks a key, the failure is of every start, at all times and addresses, and never heals.
 pub record IsFailure (entry : Data) (failure : Failure) : Type 0 where
+  pub completion : IsCompletionAt (codes "completion") entry failure.completion
   pub latency : IsSpanGiven (codes "latency") entry failure.latency
   pub share : IsNumberOr (codes "share") 1000000 entry failure.share
   pub from : IsNumberOr (codes "from") 0 entry failure.from

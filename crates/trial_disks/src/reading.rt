@@ -1,9 +1,12 @@
 // A whole file of devices. It relies on `devices` for each of them, on `toml` for the text, and on
 // `explain_layout` for its lines.
 
-ghost use Rattle.std.specs.Prelude.{◌≡◌, ◌++◌, ◌∷◌, [], IfOk, OnOk, map};
+ghost use Rattle.std.specs.Prelude.{◌≡◌, ◌++◌, ◌∷◌, [], None, IfOk, IfErr, OnOk, codes, map};
 ghost use Rattle.std.specs.List.{AllZip};
+ghost use Rattle.toml.specs.Parse.{parse_document};
 ghost use Rattle.toml.specs.View.{view};
+ghost use Rattle.manifest_form.specs.Seen.{IfFault};
+ghost use Rattle.trial_disks.specs.Codes.{code_of};
 ghost use Rattle.trial_disks.specs.Said.{AreDisks, IsDevice, IsFrame, SaysDisks};
 
 use crate::data::{Device, Disks, LAST_TIME};
@@ -37,6 +40,7 @@ const LIMITS: Bounds = Bounds {
 /// What devices a text says, or its first fault.
 pub fn read(alloc: Global, text: &str) -> Result<Disks, DisksError>
     ensures said { IfOk result (SaysDisks text.now) }
+    ensures no_toml { parse_document text.now ≡ None → IfErr result (IfFault (λ fault. code_of fault.wrong ≡ codes "D1")) }
 {
     match toml::table_from_str(alloc, text) {
         Ok(table) => read_document(alloc, &Value::Table(table)),
@@ -45,7 +49,9 @@ pub fn read(alloc: Global, text: &str) -> Result<Disks, DisksError>
 }
 
 // Where a text is no TOML, and why. An error that is nowhere is one for want of memory.
-fn no_toml(alloc: Global, text: &str, error: &Error) -> DisksError {
+fn no_toml(alloc: Global, text: &str, error: &Error) -> DisksError
+    ensures { IfFault (λ fault. code_of fault.wrong ≡ codes "D1") result }
+{
     let Some(span) = error.span() else {
         return OrMemory::OutOfMemory;
     };

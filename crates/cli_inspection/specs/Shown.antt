@@ -14,7 +14,7 @@ use Rattle.host_decision.specs.declared.undecided.Undecided.{Undecided}
 use Rattle.show_decision.specs.Table.{IsTabled}
 use Rattle.show_decision.specs.Told.{IsAnswered}
 use Rattle.cli_inspection.specs.Configured.{IsConfigured}
-use Rattle.cli_inspection.specs.Trials.{IsTriedOut}
+use Rattle.cli_inspection.specs.Trials.{IsLeft, IsTriedOut}
 use Rattle.cli_inspect_line.specs.Files.{kept_path}
 use Rattle.cli_inspect_line.specs.declared.plans.Extent.{Extent}
 use Rattle.cli_inspect_line.specs.declared.plans.Extent.TheVariants.{One, AllSense}
@@ -76,11 +76,17 @@ abbrev pub IsPlanDecided : Plan → List ℕ → Option (List ℕ) → Option (L
 IsPlanDecided (Decide extent question manifest) bytes old new = IsDecided extent question bytes old new
 IsPlanDecided plan bytes old new = Unit {0}
 
--- what was tried of a plan that tries the policies of a manifest, whose bytes these are, and what was kept of it
-abbrev pub IsPlanTried : Plan → List ℕ → (out-old out-new kept-old kept-new : Option (List ℕ)) → Type 0
-IsPlanTried (Try seed trace manifest disks) bytes out-old out-new kept-old kept-new =
-    IsTriedOut (kept_path (Try seed trace manifest disks)) bytes out-old out-new kept-old kept-new
-IsPlanTried plan bytes out-old out-new kept-old kept-new = Unit {0}
+-- what was tried of a plan that tries the policies of a manifest on devices, and what was kept of it
+abbrev pub IsPlanTried : Plan → (first second : List ℕ) → (out-old out-new kept-old kept-new : Option (List ℕ)) → Type 0
+IsPlanTried (Try seed trace manifest disks) first second out-old out-new kept-old kept-new =
+    IsTriedOut (kept_path (Try seed trace manifest disks)) first second out-old out-new kept-old kept-new
+IsPlanTried plan first second out-old out-new kept-old kept-new = Unit {0}
+
+-- and what was kept where the trial is not finished
+abbrev pub IsPlanLeft : Plan → (first second : List ℕ) → (out-old out-new kept-old kept-new : Option (List ℕ)) → Type 0
+IsPlanLeft (Try seed trace manifest disks) first second out-old out-new kept-old kept-new =
+    IsLeft (kept_path (Try seed trace manifest disks)) first second out-old out-new kept-old kept-new
+IsPlanLeft plan first second out-old out-new kept-old kept-new = Unit {0}
 
 -- whether nothing is read
 abbrev pub is_of_code : Plan → Bool

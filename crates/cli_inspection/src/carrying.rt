@@ -4,7 +4,7 @@
 ghost use Rattle.std.specs.Prelude.{◌≡◌, ◌≢◌, ◌≤◌, Contains, Some, IsUtf8, false, length, slice_get, true};
 ghost use Rattle.std.specs.Io.KnownBytes.{Keeps};
 ghost use Rattle.cli_inspect_line.specs.Files.{input_paths};
-ghost use Rattle.cli_inspection.specs.Shown.{AreReported, IsAccepted, IsAsAsked, IsFaulty, IsOutput, IsPlanDecided, IsPlanTried, IsRejected, IsReported, explains, is_of_code, may_put};
+ghost use Rattle.cli_inspection.specs.Shown.{AreReported, IsAccepted, IsAsAsked, IsFaulty, IsOutput, IsPlanDecided, IsPlanLeft, IsPlanTried, IsRejected, IsReported, explains, is_of_code, may_put};
 
 use crate::deciding::print_decided;
 use crate::explaining::print_explanation;
@@ -47,8 +47,10 @@ pub fn carry<N: Notices + Sync, R: Threads + Wait + Sync, W: Write, K: Write, E:
     ensures accepted { result ≡ 0 → (first second : _) → slice_get inputs.now 0 ≡ Some first → slice_get inputs.now 1 ≡ Some second → IsAccepted plan.now first.items second.items }
     // What is asked of a policy is answered by what a policy of the first file decides.
     ensures decided { result ≡ 0 → (input : _) → slice_get inputs.now 0 ≡ Some input → IsPlanDecided plan.now input.items (W.contents out.old) (W.contents out.new) }
-    // What is tried is a manifest, and what is kept of the trial is its trace.
-    ensures tried { result ≡ 0 → (input : _) → slice_get inputs.now 0 ≡ Some input → IsPlanTried plan.now input.items (W.contents out.old) (W.contents out.new) (K.contents kept.old) (K.contents kept.new) }
+    // What is tried are the policies of the first file on the devices of the second, and what is kept of the trial is its trace, also if it
+    // is not finished.
+    ensures tried { result ≡ 0 → (first second : _) → slice_get inputs.now 0 ≡ Some first → slice_get inputs.now 1 ≡ Some second → IsPlanTried plan.now first.items second.items (W.contents out.old) (W.contents out.new) (K.contents kept.old) (K.contents kept.new) }
+    ensures left { result ≡ 1 → (first second : _) → slice_get inputs.now 0 ≡ Some first → slice_get inputs.now 1 ≡ Some second → IsPlanLeft plan.now first.items second.items (W.contents out.old) (W.contents out.new) (K.contents kept.old) (K.contents kept.new) }
     // Refused only if it has a fault, or the file after it has one; a manifest that is to be explained is refused too.
     ensures refused { result ≡ 1 → (input : _) → slice_get inputs.now 0 ≡ Some input → IsFaulty plan.now input.items }
     // Of two files, refused only if one has a fault, or a line of the trace does not follow.

@@ -5,11 +5,10 @@ ghost use Rattle.std.specs.Prelude.{◌≡◌, ◌≢◌, ◌≤◌, Contains, I
 ghost use Rattle.std.specs.Io.KnownBytes.{Keeps};
 ghost use Rattle.trace.specs.HasText.{AllHaveText};
 ghost use Rattle.host_trial.specs.declared.ending.Ending.TheVariants.{Finished};
-ghost use Rattle.host_trial.specs.Tried.{IsTrial};
 ghost use Rattle.cli_commands.specs.Faults.{status_of};
-ghost use Rattle.cli_commands.specs.Told.{IsPrinted};
+ghost use Rattle.cli_commands.specs.Told.{IsManifest, IsPrinted};
 ghost use Rattle.cli_inspect_line.specs.Files.{input_paths, kept_path};
-ghost use Rattle.cli_inspection.specs.Trials.{IsKept, IsKeptAt, IsTriedOn, IsTriedOut, status_untold};
+ghost use Rattle.cli_inspection.specs.Trials.{IsKept, IsKeptAt, IsLeft, IsTrialOn, IsTriedBy, IsTriedOn, IsTriedOut, status_untold};
 
 use crate::tracing::named;
 use crate::untried::{Untold, report_ending, report_untold};
@@ -40,8 +39,10 @@ pub(crate) fn print_tried<W: Write, K: Write, E: Write>(
     requires inputs { length inputs.now ≡ 2 }
     ensures status { result ≤ 2 }
     ensures no_text { (input : _) → Contains inputs.now input → ¬ (IsUtf8 input.items) → result ≡ 2 }
-    // Done only if the first file is a manifest, and each CCB of a trial of it is ended, whose trace is the one that was kept.
-    ensures done { result ≡ 0 → (first : _) → slice_get inputs.now 0 ≡ Some first → IsTriedOut (kept_path plan.now) first.items (W.contents out.old) (W.contents out.new) (K.contents kept.old) (K.contents kept.new) }
+    ensures manifest { result ≡ 0 → (first : _) → slice_get inputs.now 0 ≡ Some first → IsManifest first.items }
+    // Done only if a trial of the manifest on the devices is finished; and the trace of the trial is kept, also if it is not finished.
+    ensures done { result ≡ 0 → (first second : _) → slice_get inputs.now 0 ≡ Some first → slice_get inputs.now 1 ≡ Some second → IsTriedOut (kept_path plan.now) first.items second.items (W.contents out.old) (W.contents out.new) (K.contents kept.old) (K.contents kept.new) }
+    ensures left { result ≡ 1 → (first second : _) → slice_get inputs.now 0 ≡ Some first → slice_get inputs.now 1 ≡ Some second → IsLeft (kept_path plan.now) first.items second.items (W.contents out.old) (W.contents out.new) (K.contents kept.old) (K.contents kept.new) }
     ensures quiet { result ≡ 0 → Keeps (E.contents err.old) (E.contents err.new) }
 {
     let manifest = (plan.input(0), inputs[0].as_slice());
@@ -62,7 +63,8 @@ fn print_over<W: Write, K: Write, E: Write>(
     ensures status { result ≤ 2 }
     ensures manifest { ¬ (IsUtf8 manifest.entry.1.now) → result ≡ 2 }
     ensures disks { ¬ (IsUtf8 disks.entry.1.now) → result ≡ 2 }
-    ensures done { result ≡ 0 → IsTriedOut (kept_path plan.now) manifest.entry.1.now (W.contents out.old) (W.contents out.new) (K.contents kept.old) (K.contents kept.new) }
+    ensures done { result ≡ 0 → IsTriedOut (kept_path plan.now) manifest.entry.1.now disks.entry.1.now (W.contents out.old) (W.contents out.new) (K.contents kept.old) (K.contents kept.new) }
+    ensures left { result ≡ 1 → IsLeft (kept_path plan.now) manifest.entry.1.now disks.entry.1.now (W.contents out.old) (W.contents out.new) (K.contents kept.old) (K.contents kept.new) }
     ensures quiet { result ≡ 0 → Keeps (E.contents err.old) (E.contents err.new) }
 {
     match tried(alloc, plan.seed(), manifest, disks) {
@@ -80,7 +82,7 @@ fn tried<'a>(
 ) -> Result<(Manifest, Trial), Untold<'a>>
     ensures manifest { ¬ (IsUtf8 manifest.entry.1.now) → IsErrAnd result (λ e. status_untold e ≡ 2) }
     ensures disks { ¬ (IsUtf8 disks.entry.1.now) → IsErrAnd result (λ e. status_untold e ≡ 2) }
-    ensures tried { IfOk result (λ it. IsTriedOn manifest.entry.1.now it.1) }
+    ensures tried { IfOk result (λ it. IsTriedOn manifest.entry.1.now disks.entry.1.now it.1) }
     ensures spelled { IfOk result (λ it. AllHaveText it.1.trace.version it.1.trace.records.items) }
 {
     match texts(manifest, disks) {
@@ -97,6 +99,7 @@ fn texts<'a, 'b>(
     ensures manifest { ¬ (IsUtf8 manifest.entry.1.now) → IsErrAnd result (λ e. status_of e ≡ 2) }
     ensures disks { ¬ (IsUtf8 disks.entry.1.now) → IsErrAnd result (λ e. status_of e ≡ 2) }
     ensures same { IfOk result (λ its. its.0.now ≡ manifest.entry.1.now) }
+    ensures same_disks { IfOk result (λ its. its.1.now ≡ disks.entry.1.now) }
 {
     let manifest = text(manifest)?;
     let disks = text(disks)?;
@@ -110,7 +113,7 @@ fn tried_on<'a>(
     manifest: &str,
     disks: &str,
 ) -> Result<(Manifest, Trial), Untold<'a>>
-    ensures tried { IfOk result (λ it. IsTriedOn manifest.now it.1) }
+    ensures tried { IfOk result (λ it. IsTriedOn manifest.now disks.now it.1) }
     ensures spelled { IfOk result (λ it. AllHaveText it.1.trace.version it.1.trace.records.items) }
 {
     match manifest::read(alloc, manifest) {
@@ -128,18 +131,33 @@ fn trial_of<'a>(
     alloc: Global,
     seed: Option<u64>,
     manifest: &Manifest,
-    disks: &str,
+    text: &str,
 ) -> Result<Trial, Untold<'a>>
-    ensures tried { IfOk result (λ it. IsTrial manifest.now.config it.trace it.ending) }
+    ensures tried { IfOk result (IsTriedBy manifest.now.config text.now) }
     ensures spelled { IfOk result (λ it. AllHaveText it.trace.version it.trace.records.items) }
 {
-    let disks = match trial_disks::read(alloc, disks) {
-        Ok(disks) => disks,
-        Err(OrMemory::Fault(fault)) => return Err(Untold::Disks(fault)),
-        Err(OrMemory::OutOfMemory) => return Err(Untold::Fault(Fault::OutOfMemory)),
-    };
+    match trial_disks::read(alloc, text) {
+        Ok(disks) => match trial_on(alloc, seed, manifest, &disks) {
+            Ok(trial) => Ok(trial),
+            Err(untold) => Err(untold),
+        },
+        Err(OrMemory::Fault(fault)) => Err(Untold::Disks(fault)),
+        Err(OrMemory::OutOfMemory) => Err(Untold::Fault(Fault::OutOfMemory)),
+    }
+}
+
+// The trial of a manifest on these devices.
+fn trial_on<'a>(
+    alloc: Global,
+    seed: Option<u64>,
+    manifest: &Manifest,
+    disks: &Disks,
+) -> Result<Trial, Untold<'a>>
+    ensures tried { IfOk result (IsTrialOn manifest.now.config disks.now) }
+    ensures spelled { IfOk result (λ it. AllHaveText it.trace.version it.trace.records.items) }
+{
     let seed = seed.unwrap_or(disks.seed);
-    match host_trial::run(alloc, &manifest.config, &disks, seed) {
+    match host_trial::run(alloc, &manifest.config, disks, seed) {
         Ok(trial) => Ok(trial),
         Err(OrMemory::Fault(device)) => {
             let fault = disks.misplaced(alloc, device, manifest.config.queues());
@@ -162,7 +180,9 @@ fn print_trial<W: Write, K: Write, E: Write>(
     requires { AllHaveText trial.now.trace.version trial.now.trace.records.items }
     ensures status { result ≤ 2 }
     ensures done { result ≡ 0 → trial.now.ending ≡ Finished }
+    ensures unfinished { result ≡ 1 → trial.now.ending ≢ Finished }
     ensures kept { result ≡ 0 → IsKept (kept_path plan.now) trial.now.trace (W.contents out.old) (W.contents out.new) (K.contents kept.old) (K.contents kept.new) }
+    ensures left { result ≡ 1 → IsKept (kept_path plan.now) trial.now.trace (W.contents out.old) (W.contents out.new) (K.contents kept.old) (K.contents kept.new) }
     ensures quiet { result ≡ 0 → Keeps (E.contents err.old) (E.contents err.new) }
 {
     let printed = print(alloc, plan, manifest, trial, out, kept, err);
@@ -171,7 +191,7 @@ fn print_trial<W: Write, K: Write, E: Write>(
     }
     match trial.ending {
         Ending::Finished => 0,
-        Ending::Waiting(_) | Ending::Stopped(_) => report_ending(alloc, trial, err),
+        Ending::Stopped(_) => report_ending(alloc, trial, err),
     }
 }
 

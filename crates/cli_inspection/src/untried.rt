@@ -41,8 +41,7 @@ pub(crate) fn report_ending<E: Write>(alloc: Global, trial: &Trial, err: &mut E)
 {
     let mut page = Page::new(alloc);
     let (words, count) = match trial.ending {
-        Ending::Finished => ("camr: {} CCBs are left", 0),
-        Ending::Waiting(count) => ("camr: {} CCBs wait for ever", count),
+        Ending::Finished => ("camr: each request is finished", 0),
         Ending::Stopped(count) => (stopped(trial.halt), count),
     };
     page.fill(words, &[count as u64]);

@@ -3,3 +3,4 @@ pub mod Tried
 pub mod Resting
 pub mod Submitted
 pub mod Misplaced
+pub mod Hosted

@@ -36,10 +36,10 @@ is_named queue (Some own) = own == queue
 abbrev pub serves : ℕ → Device → Bool
 serves queue device = is_named queue device.queue
 
--- Of the queues below this one, each that has a device got as many requests as the file asks for.
+-- Of the queues below this one, each that has a device got as many requests as the file asks for, no fewer and no more.
 abbrev pub AreSubmitted : Disks → ℕ → List Record → Type 0
 AreSubmitted disks queues records =
-    (queue : ℕ) → queue < queues → list_any (serves queue) disks.devices.items ≡ true → disks.requests ≤ submissions queue records
+    (queue : ℕ) → queue < queues → list_any (serves queue) disks.devices.items ≡ true → submissions queue records ≡ disks.requests
 
 -- how many requests a queue lacks: none, if it has no device
 abbrev pub lacking : Disks → List Record → ℕ → ℕ

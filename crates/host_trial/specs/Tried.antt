@@ -1,21 +1,17 @@
 -- What a trial is: the history of an engine of a configuration, with its sums, and what its end says.
-use Rattle.std.specs.Prelude.{◌≡◌, [], count_by, false, length}
+use Rattle.std.specs.Prelude.{◌≡◌, [], false, length}
 use Rattle.freeze_ledger.specs.Deadlines.{some_timer}
 use Rattle.world_calls.specs.declared.trace.Trace.{Trace}
 use Rattle.world.specs.Flat.{flat}
-use Rattle.world.specs.Lookups.{is_active}
 use Rattle.world.specs.TotalsOf.{totals_in}
 use Rattle.world.specs.World.{Runs, Setup, Transport, World, version_of}
 use Rattle.world.specs.WorldRun.{WorldRun}
 use Rattle.host_trial.specs.declared.ending.Ending.{Ending}
-use Rattle.host_trial.specs.declared.ending.Ending.TheVariants.{Finished, Waiting, Stopped}
+use Rattle.host_trial.specs.declared.ending.Ending.TheVariants.{Finished, Stopped}
 
--- What an end says of an engine's parts: each CCB is ended; or so many wait for ever, since none is active, no run is live, and no timer has a
--- freeze; or so many are not ended.
+-- What an end says of an engine's parts: each CCB is ended, no run is live, and no timer has a freeze; or so many CCBs are not ended.
 abbrev pub EndsIn : Ending → Transport → Runs → Type 0
-EndsIn Finished transport runs = (transport.live ≡ []) × (runs.list ≡ [])
-EndsIn (Waiting count) transport runs =
-    (length transport.live ≡ count) × (count_by (λ live. is_active live.state) transport.live ≡ 0) × (runs.list ≡ []) × (some_timer transport.freezes ≡ false)
+EndsIn Finished transport runs = (transport.live ≡ []) × (runs.list ≡ []) × (some_timer transport.freezes ≡ false)
 EndsIn (Stopped count) transport runs = length transport.live ≡ count
 
 -- The records are a run of the configuration's world from its opening, in its vocabulary and with its sums, and the end says what is left in

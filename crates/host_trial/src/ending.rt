@@ -11,10 +11,8 @@ use engine_core::laws::headline;
 /// How a trial ended.
 #[derive(Clone, Copy, Debug, PartialEq, Eq)]
 pub enum Ending {
-    /// Each request is finished.
+    /// Each request is finished, no run is live, and no timer is due.
     Finished,
-    /// So many CCBs wait for ever: none is active, no run is live, and no timer is due.
-    Waiting(usize),
     /// It was stopped, when so many CCBs were not finished.
     Stopped(usize),
 }
@@ -30,20 +28,14 @@ pub enum Halt {
     Until,
 }
 
-/// How it ended in this engine. Nothing can be started any more, or something might; all requests were submitted, or not.
-pub(crate) fn ending_of(engine: &NumberedEngine<'_>, is_over: bool, is_submitted: bool) -> Ending
+/// How it ended in this engine, if its records are all that there was to be, or not.
+pub(crate) fn ending_of(engine: &NumberedEngine<'_>, is_whole: bool) -> Ending
     ensures ends { EndsIn result engine.now.transport engine.now.runs }
-    ensures submitted { result ≡ Finished → is_submitted ≡ true }
+    ensures whole { result ≡ Finished → is_whole ≡ true }
 {
     let live = live(engine);
-    if !is_at_rest(engine) {
-        return Ending::Stopped(live);
-    }
-    if live == 0 && is_submitted {
-        return Ending::Finished;
-    }
-    if is_over {
-        Ending::Waiting(live)
+    if live == 0 && is_whole && is_at_rest(engine) {
+        Ending::Finished
     } else {
         Ending::Stopped(live)
     }

@@ -6,6 +6,7 @@
 mod answers;
 mod drives;
 mod ending;
+mod hosted;
 mod hosting;
 mod patience;
 mod recorded;

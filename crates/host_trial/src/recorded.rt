@@ -107,17 +107,17 @@ impl<'a> Recorded<'a> {
         }
     }
 
-    /// The records as a trace, and how it ends. Nothing can be started any more, or something might; all requests were submitted, or not.
-    pub fn into_trial(self, is_over: bool, is_submitted: bool) -> (Trace, Ending)
+    /// The records as a trace, and how it ends. They are all that there was to be, or not.
+    pub fn into_trial(self, is_whole: bool) -> (Trace, Ending)
         ensures tried { IsTrial self.entry.engine.setup result.0 result.1 }
         ensures spelled { AllHaveText result.0.version result.0.records.items }
         ensures records { result.0.records.items ≡ self.entry.records }
-        ensures submitted { result.1 ≡ Finished → is_submitted ≡ true }
+        ensures whole { result.1 ≡ Finished → is_whole ≡ true }
     {
         // These are called for what they say of all engines.
         each_record_has_text();
         let _ = self.engine.transport();
-        let ending = ending_of(&self.engine, is_over, is_submitted);
+        let ending = ending_of(&self.engine, is_whole);
         let totals = self.engine.totals(self.records.len() as u64);
         let version = Version::of(self.engine.config().helpers());
         let Recorded { engine: _, records } = self;

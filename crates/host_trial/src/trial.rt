@@ -1,9 +1,10 @@
 // A whole trial: devices for the queues of a configuration, and a host that asks them. It relies on `hosting` for what happens.
 
-ghost use Rattle.std.specs.Prelude.{◌≡◌, IfErr, IfOk, IfSome};
+ghost use Rattle.std.specs.Prelude.{◌≡◌, ℕ, IfErr, IfNone, IfOk, IfSome, IsTrue};
 ghost use Rattle.std.specs.List.{list_any};
 ghost use Rattle.trace.specs.HasText.{AllHaveText};
 ghost use Rattle.world.specs.World.{queue_count};
+ghost use Rattle.host_trial.specs.Hosted.{AreHosted};
 ghost use Rattle.host_trial.specs.Misplaced.{IsMisplaced, IsUntried, has_queue, is_beyond, is_misplaced};
 ghost use Rattle.host_trial.specs.Submitted.{AreSubmitted, unsubmitted, up_to_64_bits};
 ghost use Rattle.host_trial.specs.Tried.{IsTrial};
@@ -12,16 +13,18 @@ ghost use Rattle.host_trial.specs.declared.ending.Ending.TheVariants.{Finished};
 use crate::answers::Schedule;
 use crate::drives::Drive;
 use crate::ending::{Ending, Halt};
+use crate::hosted::are_hosted;
 use crate::hosting::Hosting;
 use crate::patience::most_moments;
 use crate::recorded::Recorded;
-use crate::submissions::unsubmitted;
+use crate::submissions::{are_submitted, unsubmitted};
 use base::OrMemory;
+use base_chunked_list::ChunkedList;
 use ccb::QueueId;
 use engine_config::Config;
 use std::alloc::{AllocError, Global};
 use trial_disks::{Device, Disks};
-use world_calls::Trace;
+use world_calls::{Record, Trace};
 
 /// What was recorded in a trial, and how it ended.
 #[derive(Drop)]
@@ -44,8 +47,11 @@ pub fn run(alloc: Global, config: &Config, disks: &Disks, seed: u64) -> Result<T
     ensures spelled { IfOk result (λ it. AllHaveText it.trace.version it.trace.records.items) }
     // Without want of memory it is refused only for a device whose queue is not there, or is that of a device before it.
     ensures untried { IfErr result (IsUntried disks.now.devices.items (queue_count config.now)) }
-    // It is finished only if each device got all its requests.
+    // Otherwise there is no such device.
+    ensures placed { IfOk result (λ _. (number : ℕ) → IsMisplaced disks.now.devices.items (queue_count config.now) number → ⊥) }
+    // It is finished only if each device got its requests, no fewer and no more, and if nothing else happened than that they were tried.
     ensures submitted { IfOk result (λ it. it.ending ≡ Finished → AreSubmitted disks.now (queue_count config.now) it.trace.records.items) }
+    ensures hosted { IfOk result (λ it. it.ending ≡ Finished → AreHosted disks.now it.trace.records.items) }
     ensures unsubmitted { IfOk result (λ it. it.unsubmitted ≡ up_to_64_bits (unsubmitted disks.now (queue_count config.now) it.trace.records.items)) }
 {
     let drives = drives_of(alloc, config, disks)?;
@@ -66,6 +72,7 @@ fn tried(
     ensures tried { IfOk result (λ it. IsTrial config.now it.trace it.ending) }
     ensures spelled { IfOk result (λ it. AllHaveText it.trace.version it.trace.records.items) }
     ensures submitted { IfOk result (λ it. it.ending ≡ Finished → AreSubmitted disks.now (queue_count config.now) it.trace.records.items) }
+    ensures hosted { IfOk result (λ it. it.ending ≡ Finished → AreHosted disks.now it.trace.records.items) }
     ensures unsubmitted { IfOk result (λ it. it.unsubmitted ≡ up_to_64_bits (unsubmitted disks.now (queue_count config.now) it.trace.records.items)) }
 {
     let moments = most_moments(disks, drives.len());
@@ -80,9 +87,8 @@ fn tried(
     };
     let halt = hosting.go_on(moments)?;
     let unsubmitted = unsubmitted(disks, config.queues(), hosting.host.records());
-    let (trace, ending) = hosting
-        .host
-        .into_trial(halt == Halt::Over, unsubmitted == 0);
+    let is_whole = is_whole(disks, config.queues(), hosting.host.records());
+    let (trace, ending) = hosting.host.into_trial(is_whole);
     Ok(Trial {
         trace,
         ending,
@@ -91,13 +97,27 @@ fn tried(
     })
 }
 
+// Whether each device got its requests, and nothing else happened than that they were tried. It is looked for in the records, so that neither
+// the host nor the devices have to be believed.
+fn is_whole(disks: &Disks, queues: u32, records: &ChunkedList<Record>) -> bool
+    ensures submitted { IsTrue result → AreSubmitted disks.now queues records.now.items }
+    ensures hosted { IsTrue result → AreHosted disks.now records.now.items }
+{
+    if are_submitted(disks, queues, records) {
+        are_hosted(disks, records)
+    } else {
+        false
+    }
+}
+
 // The device of each queue that has one.
 fn drives_of<'a>(
     alloc: Global,
     config: &Config,
     disks: &'a Disks,
 ) -> Result<Vec<Drive<'a>>, Untried>
-    ensures { IfErr result (IsUntried disks.now.devices.items (queue_count config.now)) }
+    ensures untried { IfErr result (IsUntried disks.now.devices.items (queue_count config.now)) }
+    ensures placed { IfOk result (λ _. (number : ℕ) → IsMisplaced disks.now.devices.items (queue_count config.now) number → ⊥) }
 {
     if let Some(number) = misplaced(&disks.devices, config.queues()) {
         return Err(OrMemory::Fault(number));
@@ -114,7 +134,8 @@ fn drives_of<'a>(
 
 // The number, from 1, of the first device whose queue is not there, or is that of a device before it.
 fn misplaced(devices: &[Device], queues: u32) -> Option<usize>
-    ensures { IfSome result (IsMisplaced devices.now queues) }
+    ensures found { IfSome result (IsMisplaced devices.now queues) }
+    ensures none { IfNone result ((number : ℕ) → IsMisplaced devices.now queues number → ⊥) }
 {
     for place in 0..devices.len() {
         if is_misplaced(&devices[..place], &devices[place], queues) {

@@ -1,5 +1,9 @@
 // One failure of a device, read from its table. It relies on `keys` and `completions` for what stands under its keys.
 
+ghost use Rattle.std.specs.Prelude.{IfOk};
+ghost use Rattle.toml.specs.View.{view};
+ghost use Rattle.trial_disks.specs.Said.{IsFailure};
+
 use crate::completions::completion;
 use crate::data::{Failure, LAST_TIME, MILLION};
 use crate::fault::{KeyFault, Never, Wrong, fault_of};
@@ -43,7 +47,9 @@ const WORDS: Bounds = Bounds {
 };
 
 /// A failure. One that no start can ever meet is refused.
-pub(crate) fn failure(value: &Value) -> Result<Failure, KeyFault<'_>> {
+pub(crate) fn failure(value: &Value) -> Result<Failure, KeyFault<'_>>
+    ensures said { IfOk result (IsFailure (view value.now)) }
+{
     let failure = written(value)?;
     match never(&failure) {
         Some((key, never)) => Err(fault_of(Wrong::Never(never), key)),
@@ -52,7 +58,9 @@ pub(crate) fn failure(value: &Value) -> Result<Failure, KeyFault<'_>> {
 }
 
 // The failure as it is written, each number within its range.
-fn written(value: &Value) -> Result<Failure, KeyFault<'_>> {
+fn written(value: &Value) -> Result<Failure, KeyFault<'_>>
+    ensures said { IfOk result (IsFailure (view value.now)) }
+{
     check_keys(value, &["completion"], ALL)?;
     Ok(Failure {
         completion: completion(value, "completion")?,

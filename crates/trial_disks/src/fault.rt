@@ -1,5 +1,9 @@
 // What is wrong with a file of devices. It relies on `base` for memory that is refused.
 
+ghost use Rattle.std.specs.Prelude.{◌≡◌};
+ghost use Rattle.manifest_form.specs.Seen.{IfFault};
+ghost use Rattle.trial_disks.specs.Codes.{code_of};
+
 use crate::keys::Bounds;
 use base::OrMemory;
 use std::alloc::Global;
@@ -87,13 +91,17 @@ pub(crate) struct KeyFault<'a> {
 }
 
 /// What is wrong with that key.
-pub(crate) fn fault_of<'a>(wrong: Wrong, key: &'a str) -> KeyFault<'a> {
+pub(crate) fn fault_of<'a>(wrong: Wrong, key: &'a str) -> KeyFault<'a>
+    ensures { result.wrong ≡ wrong }
+{
     KeyFault { wrong, key }
 }
 
 impl KeyFault<'_> {
     /// The same in this device and this failure.
-    pub(crate) fn at(self, alloc: Global, device: usize, failure: usize) -> DisksError {
+    pub(crate) fn at(self, alloc: Global, device: usize, failure: usize) -> DisksError
+        ensures { IfFault (λ fault. fault.wrong ≡ self.entry.wrong) result }
+    {
         match String::from_str(alloc, self.key) {
             Ok(key) => OrMemory::Fault(DisksFault {
                 wrong: self.wrong,
@@ -108,12 +116,17 @@ impl KeyFault<'_> {
 
 impl DisksFault {
     /// Its code, D1 to D5.
-    pub fn code(&self) -> &'static str {
+    pub fn code(&self) -> &'static str
+        ensures { result.now ≡ code_of self.now.wrong }
+    {
         match self.wrong {
             Wrong::Text { .. } => "D1",
-            Wrong::Missing | Wrong::Unknown => "D2",
+            Wrong::Missing => "D2",
+            Wrong::Unknown => "D2",
             Wrong::Form(_) => "D3",
-            Wrong::Outside { .. } | Wrong::Turned { .. } | Wrong::Never(_) => "D4",
+            Wrong::Outside { .. } => "D4",
+            Wrong::Turned { .. } => "D4",
+            Wrong::Never(_) => "D4",
             Wrong::Queue(_) => "D5",
         }
     }

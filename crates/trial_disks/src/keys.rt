@@ -1,8 +1,14 @@
 // The numbers under keys, each with its range. It relies on `manifest_form` for what stands under a key.
 
+ghost use Rattle.std.specs.Prelude.{◌≡◌, ◌≤◌, pos, IfOk, IfSome, Some, [], ◌∷◌, map};
+ghost use Rattle.toml.specs.Data.{as_integer};
+ghost use Rattle.toml.specs.View.{view};
+ghost use Rattle.manifest_form.specs.Document.{elements_at};
+ghost use Rattle.trial_disks.specs.Said.{AreEnds, IsGiven, IsNumber, IsNumberOr, IsSpanGiven};
+
 use crate::data::Span;
 use crate::fault::{Form, KeyFault, Wrong, fault_of};
-use manifest_form::document::{elements, has, has_keys, integer};
+use manifest_form::document::{array, elements, has, has_keys, integer};
 use toml::Value;
 
 /// Which numbers may stand under a key.
@@ -26,7 +32,10 @@ pub(crate) fn given(
     value: &Value,
     key: &'static str,
     bounds: Bounds,
-) -> Result<Option<u64>, KeyFault<'static>> {
+) -> Result<Option<u64>, KeyFault<'static>>
+    ensures given { IfOk result (IsGiven key.now (view value.now)) }
+    ensures least { IfOk result (λ number. IfSome number (λ number. bounds.least ≤ number)) }
+{
     if !has(value, key) {
         return Ok(None);
     }
@@ -45,7 +54,9 @@ pub(crate) fn number_or(
     key: &'static str,
     bounds: Bounds,
     other: u64,
-) -> Result<u64, KeyFault<'static>> {
+) -> Result<u64, KeyFault<'static>>
+    ensures said { IfOk result (IsNumberOr key.now other (view value.now)) }
+{
     let number = given(value, key, bounds)?;
     Ok(number.unwrap_or(other))
 }
@@ -55,16 +66,28 @@ pub(crate) fn short_number_or(
     value: &Value,
     key: &'static str,
     other: u32,
-) -> Result<u32, KeyFault<'static>> {
+) -> Result<u32, KeyFault<'static>>
+    ensures said { IfOk result (IsNumberOr key.now other (view value.now)) }
+{
     if !has(value, key) {
         return Ok(other);
     }
     let Some(number) = integer(value, key) else {
         return Err(fault_of(NO_NUMBER, key));
     };
+    match within_short(number, key) {
+        Ok(number) => Ok(number),
+        Err(fault) => Err(fault),
+    }
+}
+
+// The number under that key, if it has at most 32 bits.
+fn within_short(number: i64, key: &'static str) -> Result<u32, KeyFault<'static>>
+    ensures { IfOk result (λ same. number ≡ pos same) }
+{
     match u32::try_from(number) {
         Ok(number) => Ok(number),
-        Err(_) => Err(outside(number, key, SHORT)),
+        _ => Err(outside(number, key, SHORT)),
     }
 }
 
@@ -73,7 +96,10 @@ pub(crate) fn number(
     value: &Value,
     key: &'static str,
     bounds: Bounds,
-) -> Result<u64, KeyFault<'static>> {
+) -> Result<u64, KeyFault<'static>>
+    ensures said { IfOk result (IsNumber key.now (view value.now)) }
+    ensures least { IfOk result (λ number. bounds.least ≤ number) }
+{
     match given(value, key, bounds)? {
         Some(number) => Ok(number),
         None => Err(fault_of(Wrong::Missing, key)),
@@ -81,7 +107,10 @@ pub(crate) fn number(
 }
 
 // The number under that key, if it is within the bounds.
-fn within(number: i64, key: &'static str, bounds: Bounds) -> Result<u64, KeyFault<'static>> {
+fn within(number: i64, key: &'static str, bounds: Bounds) -> Result<u64, KeyFault<'static>>
+    ensures same { IfOk result (λ same. number ≡ pos same) }
+    ensures least { IfOk result (λ same. bounds.least ≤ same) }
+{
     match u64::try_from(number) {
         Ok(number) if bounds.least <= number && number <= bounds.most => Ok(number),
         _ => Err(outside(number, key, bounds)),
@@ -93,7 +122,9 @@ fn outside(number: i64, key: &'static str, bounds: Bounds) -> KeyFault<'static> 
 }
 
 /// How long something takes, if that is said: a number, or the least and the greatest.
-pub(crate) fn span(value: &Value, key: &'static str) -> Result<Option<Span>, KeyFault<'static>> {
+pub(crate) fn span(value: &Value, key: &'static str) -> Result<Option<Span>, KeyFault<'static>>
+    ensures said { IfOk result (IsSpanGiven key.now (view value.now)) }
+{
     if !has(value, key) {
         return Ok(None);
     }
@@ -111,17 +142,31 @@ pub(crate) fn span(value: &Value, key: &'static str) -> Result<Option<Span>, Key
 }
 
 // The two ends, which are one number or two.
-fn ends(value: &Value, key: &str) -> Option<(i64, i64)> {
+fn ends(value: &Value, key: &str) -> Option<(i64, i64)>
+    ensures { IfSome result (λ ends. AreEnds key.now (view value.now) ends.0 ends.1) }
+{
     match integer(value, key) {
         Some(number) => Some((number, number)),
         None => both(elements(value, key)),
     }
 }
 
-fn both(elements: &[Value]) -> Option<(i64, i64)> {
+fn both(elements: &[Value]) -> Option<(i64, i64)>
+    ensures { IfSome result (λ ends. map as_integer (map view elements.now) ≡ Some ends.0 ∷ Some ends.1 ∷ []) }
+{
     match elements {
         [least, most] => Some((least.as_integer()?, most.as_integer()?)),
         _ => None,
+    }
+}
+
+/// The elements of the array under a key, if there is an array.
+pub(crate) fn tables<'a>(value: &'a Value, key: &str) -> Option<&'a [Value]>
+    ensures { IfSome result (λ tables. map view tables.now ≡ elements_at key.now (view value.now)) }
+{
+    match array(value, key) {
+        Some(array) => Some(array.as_slice()),
+        None => None,
     }
 }
 

@@ -5,10 +5,9 @@ use Rattle.cli_commands.specs.Told.{IsFaultyManifest, IsManifest, IsManifestFaul
 use Rattle.cli_commands.proofs.Telling.{first_is}
 use Rattle.cli_inspect_line.specs.Files.{input_paths, kept_path}
 use Rattle.cli_inspect_line.specs.declared.plans.Plan.{Plan}
-use Rattle.cli_inspection.specs.Shown.{AreReported, IsAccepted, IsAsAsked, IsDecided, IsFaulty, IsOutput, IsPlanDecided, IsPlanTried, IsRejected, IsReported, PutsFault, explains, may_put}
-use Rattle.cli_inspection.specs.Trials.{IsTriedOut}
+use Rattle.cli_inspection.specs.Shown.{AreReported, IsAccepted, IsAsAsked, IsDecided, IsFaulty, IsOutput, IsPlanDecided, IsPlanLeft, IsPlanTried, IsRejected, IsReported, PutsFault, explains, may_put}
+use Rattle.cli_inspection.specs.Trials.{IsLeft, IsTriedOut}
 use Rattle.cli_inspection.proofs.Explained.{is_faulty}
-use Rattle.cli_inspection.proofs.TriedOut.{is_manifest}
 use Rattle.cli_inspection.proofs.Inputs.{none_there, only_one}
 use Rattle.cli_inspection.proofs.carrying.carry.Goals as goal
 
@@ -162,17 +161,25 @@ returns-in-Decide-clause-decided g c = λ is input there.
     (subst (λ (bytes : List ℕ). IsDecided c.in-Decide.extent c.in-Decide.question bytes old new) same (c.print_decided.ensures.decided is))
 
 pub returns-in-Try-clause-done : goal.returns-in-Try-clause-done
-returns-in-Try-clause-done g c = λ is input there.
-    subst (λ (plan : Plan). IsAsAsked plan input.items) (sym c.in-Try.is) (is_manifest _ input.items _ _ _ _ (c.print_tried.ensures.done is input there))
+returns-in-Try-clause-done g c = λ is input there. subst (λ (plan : Plan). IsAsAsked plan input.items) (sym c.in-Try.is) (c.print_tried.ensures.manifest is input there)
 
 pub returns-in-Try-clause-tried : goal.returns-in-Try-clause-tried
-returns-in-Try-clause-tried g c = λ is input there.
+returns-in-Try-clause-tried g c = λ is first second here there.
     let old = g.W.Write.contents c.args.out.now in
     let new = g.W.Write.contents c.print_tried.new.out in
     let kept-old = g.K.Write.contents c.args.kept.now in
     let kept-new = g.K.Write.contents c.print_tried.new.kept in
-    subst (λ (plan : Plan). IsPlanTried plan input.items old new kept-old kept-new) (sym c.in-Try.is)
-    (subst (λ (plan : Plan). IsTriedOut (kept_path plan) input.items old new kept-old kept-new) c.in-Try.is (c.print_tried.ensures.done is input there))
+    subst (λ (plan : Plan). IsPlanTried plan first.items second.items old new kept-old kept-new) (sym c.in-Try.is)
+    (subst (λ (plan : Plan). IsTriedOut (kept_path plan) first.items second.items old new kept-old kept-new) c.in-Try.is (c.print_tried.ensures.done is first second here there))
+
+pub returns-in-Try-clause-left : goal.returns-in-Try-clause-left
+returns-in-Try-clause-left g c = λ is first second here there.
+    let old = g.W.Write.contents c.args.out.now in
+    let new = g.W.Write.contents c.print_tried.new.out in
+    let kept-old = g.K.Write.contents c.args.kept.now in
+    let kept-new = g.K.Write.contents c.print_tried.new.kept in
+    subst (λ (plan : Plan). IsPlanLeft plan first.items second.items old new kept-old kept-new) (sym c.in-Try.is)
+    (subst (λ (plan : Plan). IsLeft (kept_path plan) first.items second.items old new kept-old kept-new) c.in-Try.is (c.print_tried.ensures.left is first second here there))
 
 pub returns-in-Try-clause-nothing : goal.returns-in-Try-clause-nothing
 returns-in-Try-clause-nothing g c = λ is other.

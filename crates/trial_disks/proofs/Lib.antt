@@ -1,0 +1,4 @@
+pub mod Numbers
+pub mod OneByOne
+pub mod Parts
+pub mod Spelled

@@ -1,5 +1,5 @@
 pub mod Behind
 pub mod Counted
-pub mod Hosted
 pub mod Misplaced
+pub mod OfTrial
 pub mod Submitted

@@ -1,5 +1,5 @@
 use Rattle.std.proofs.Common.{◌<◌, arith, length}
-use Rattle.host_trial.proofs.Hosted.{one_more, whole}
+use Rattle.host_trial.proofs.OfTrial.{one_more, whole}
 use Rattle.host_trial.proofs.hosted.are_hosted.Goals as goal
 
 pub loop-place-preserved : goal.loop-place-preserved

@@ -119,9 +119,21 @@ fn drives_of<'a>(
     ensures untried { IfErr result (IsUntried disks.now.devices.items (queue_count config.now)) }
     ensures placed { IfOk result (λ _. (number : ℕ) → IsMisplaced disks.now.devices.items (queue_count config.now) number → ⊥) }
 {
-    if let Some(number) = misplaced(&disks.devices, config.queues()) {
-        return Err(OrMemory::Fault(number));
+    match misplaced(&disks.devices, config.queues()) {
+        Some(number) => Err(OrMemory::Fault(number)),
+        None => match all_drives(alloc, config, disks) {
+            Ok(drives) => Ok(drives),
+            Err(_) => Err(OrMemory::OutOfMemory),
+        },
     }
+}
+
+// The same, where each device has a queue of its own.
+fn all_drives<'a>(
+    alloc: Global,
+    config: &Config,
+    disks: &'a Disks,
+) -> Result<Vec<Drive<'a>>, AllocError> {
     let mut drives = Vec::new(alloc);
     for queue in 0..config.queues() {
         if let Some(device) = device_of(&disks.devices, u64::from(queue)) {
